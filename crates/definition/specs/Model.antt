@@ -1,0 +1,168 @@
+-- A model: its tables, how they come from the files' numbers, and the load with refusals 1 to 8.
+use Prim.Native.Nat.{ℕ, _+_, _-_, _*_, _/_}
+use mathlib.Core.Bool.{Bool, _&&_}
+use mathlib.Core.List.{List, [], _∷_}
+use lib.ListN.{length, getD}
+use lib.Dec.{leb, ltb, eqb}
+use lib.Ieee.{Float, neg}
+use Rattle.loops.specs.Lists.{if_then_else_, build, flat, allTrue, pairwise, over}
+use Rattle.floats.specs.Operators.{_+₆₄_, _-₆₄_, _*₆₄_, _/₆₄_, f64, zero₃₂, zero₆₄, half₆₄, count, at, sum₆₄}
+use Rattle.floats.specs.Narrow.{narrowed}
+use Rattle.floats.specs.Ln.{lnOf}
+use Rattle.definition.specs.declared.IvectorOptions.{IvectorOptions}
+use Rattle.definition.specs.declared.Dimensions.{Dimensions}
+use Rattle.definition.specs.declared.TableLengths.{TableLengths}
+use Rattle.definition.specs.declared.IvectorInfo.{IvectorInfo}
+use Rattle.definition.specs.declared.Loaded.{Loaded}
+use Rattle.definition.specs.declared.Loaded.the-variants as L
+use Rattle.definition.specs.Options.{optionsInRange, spliced, dimsAgree}
+use Rattle.definition.specs.Reader.{Got, read, refused, Parser, after, _>>=_, _>>_, give, need}
+use Rattle.definition.specs.Kaldi.{Matrix, matrixAt, triangle, Gmm, gmm, Extractor, extractor, lda}
+use Rattle.definition.specs.Text.{cmvn}
+
+-- ---- `DiagGmm::parse`
+
+-- of Gaussian i; 4019.. is 2 pi
+unfoldable pub gconst : Gmm → ℕ → Float
+gconst x i =
+    let d = x .inv-vars .cols in
+    let offset = neg half₆₄ *₆₄ lnOf (f64 0x4019_21fb_5444_2d18) *₆₄ count d in
+    narrowed (sum₆₄ (lnOf (at (x .weights) i) +₆₄ offset) d (λ k.
+    let miv = at (x .means-invvars .nums) (i * d + k) in
+    let iv = at (x .inv-vars .nums) (i * d + k) in
+    half₆₄ *₆₄ lnOf iv -₆₄ half₆₄ *₆₄ miv *₆₄ miv /₆₄ iv))
+
+-- the first n columns of a matrix as rows
+unfoldable pub transposed : ℕ → Matrix → List Float
+transposed n x = flat n (λ c. build (x .rows) (λ r. at (x .nums) (r * x .cols + c)))
+
+-- ---- `IvectorExtractor::parse`
+
+-- `packed_index`: a symmetric matrix by the rows of its lower half
+unfoldable pub packed : ℕ → ℕ → ℕ
+packed i j = if leb j i then i * (i + 1) / 2 + j else j * (j + 1) / 2 + i
+
+-- Σ⁻¹ M of one Gaussian, d rows of s
+unfoldable pub sigmaInvM : ℕ → ℕ → List Float → List Float → List Float
+sigmaInvM d s si m = flat d (λ a. build s (λ c. sum₆₄ zero₆₄ d (λ b. at si (packed a b) *₆₄ at m (b * s + c))))
+
+-- Mᵗ Σ⁻¹ M of one Gaussian, packed
+unfoldable pub quadraticTerm : ℕ → ℕ → List Float → List Float → List Float
+quadraticTerm d s m sim = flat s (λ p. build (p + 1) (λ q. sum₆₄ zero₆₄ d (λ b. at m (b * s + p) *₆₄ at sim (b * s + q))))
+
+-- ---- `IvectorInfo::open`
+
+-- what the four files hold
+pub record Contents : Type 0 where
+  pub gmm : Gmm
+  pub extractor : Extractor
+  pub lda : Matrix
+  pub global-row : List Float
+
+abbrev pub dimsOf : Contents → Dimensions
+dimsOf c =
+    record {
+      «num_gauss» = c .gmm .inv-vars .rows;
+      «ext_gauss» = c .extractor .num-gauss;
+      «feat_dim» = c .extractor .feat-dim;
+      «ivector_dim» = c .extractor .ivector-dim;
+      «base_dim» = length (c .global-row) - 1;
+      «lda_cols» = c .lda .cols;
+    }
+
+-- where this fails: refusal 5 across files
+unfoldable pub contentsAgree : IvectorOptions → Contents → Bool
+contentsAgree o c = allTrue (dimsAgree o (dimsOf c) ∷ eqb (c .lda .rows) (c .extractor .feat-dim) ∷ eqb (c .gmm .inv-vars .cols) (c .extractor .feat-dim) ∷ [])
+
+-- a loaded model: its record, and its tables
+pub record Model : Type 0 where
+  pub info : IvectorInfo
+  pub gconsts : List Float  -- by Gaussian
+  pub means-invvars-t : List Float  -- by dimension, then Gaussian
+  pub inv-vars-t : List Float  -- by dimension, then Gaussian
+  pub sigma-inv-m : List Float  -- by Gaussian, then feature dimension, then i-vector dimension
+  pub u : List Float  -- by Gaussian, then packed
+  pub lda-t : List Float  -- by spliced dimension, then row
+  pub lda-offset : List Float  -- by row
+  pub global-mean-stats : List Float  -- sums, then the count
+
+unfoldable pub modelOf : IvectorOptions → Contents → TableLengths → Model
+modelOf o c z =
+    let x = c .extractor in
+    let d = x .feat-dim in
+    let s = x .ivector-dim in
+    let n = spliced o (dimsOf c) in
+    let m : ℕ → List Float = λ i. matrixAt (x .m) i .nums in
+    let sim : ℕ → List Float = λ i. sigmaInvM d s (getD (x .sigma-inv) i (record { size = 0; nums = [] }) .nums) (m i) in
+    record {
+      info = record { opts = o; dims = dimsOf c; «prior_offset» = x .prior-offset; tables = z };
+      gconsts = build (c .gmm .inv-vars .rows) (gconst (c .gmm));
+      means-invvars-t = transposed d (c .gmm .means-invvars);
+      inv-vars-t = transposed d (c .gmm .inv-vars);
+      sigma-inv-m = flat (x .num-gauss) sim;
+      u = flat (x .num-gauss) (λ i. quadraticTerm d s (m i) (sim i));
+      lda-t = transposed n (c .lda);
+      lda-offset = build d (λ r. if ltb n (c .lda .cols) then at (c .lda .nums) (r * c .lda .cols + n) else zero₃₂);
+      global-mean-stats = c .global-row;
+    }
+
+-- ---- the load
+
+-- how many numbers each table keeps, and how many it was lent for
+abbrev pub tableSizes : IvectorOptions → Dimensions → List ℕ
+tableSizes o d =
+    let g = d .«num_gauss» in
+    let e = d .«ext_gauss» in
+    let f = d .«feat_dim» in
+    let s = d .«ivector_dim» in
+    g ∷ (g * f) ∷ (g * f) ∷ (e * f * s) ∷ (e * triangle s) ∷ (spliced o d * f) ∷ f ∷ (d .«base_dim» + 1) ∷ []
+
+abbrev pub tableLengths : TableLengths → List ℕ
+tableLengths z =
+    z .gconsts ∷ z .«means_invvars_t» ∷ z .«inv_vars_t» ∷ z .«sigma_inv_m» ∷ z .u ∷ z .«lda_t» ∷ z .«lda_offset» ∷ z .«global_mean_stats» ∷ []
+
+unfoldable pub tablesFit : IvectorOptions → Dimensions → TableLengths → Bool
+tablesFit o d z = pairwise leb (tableSizes o d) (tableLengths z)
+
+-- scratch of a load: one Gaussian's Σ⁻¹ and M
+abbrev pub loadScratch : Dimensions → ℕ
+loadScratch d = triangle (d .«feat_dim») + d .«feat_dim» * d .«ivector_dim»
+
+pub record Files : Type 0 where
+  pub gmm : List ℕ
+  pub extractor : List ℕ
+  pub lda : List ℕ
+  pub cmvn : List ℕ
+
+-- a file of its own, from its start; the bytes after its last item are ignored
+abbrev pub file : {A : Type 0} → Parser A → List ℕ → Parser A
+file p bytes s at = after (p bytes 0) (λ a _ _. read a at) bytes
+
+-- the files together, then the rooms: lent lengths z, and of scratch
+unfoldable pub judged : IvectorOptions → TableLengths → ℕ → Contents → Parser Model
+judged o z scratch c = do
+  need (contentsAgree o c) 5
+  need (tablesFit o (dimsOf c) z && leb (loadScratch (dimsOf c)) scratch) 8
+  give (modelOf o c z)
+
+-- "When a call is declined", 1 to 8
+unfoldable pub loading : IvectorOptions → Files → TableLengths → ℕ → Parser Model
+loading o f z scratch = do
+  need (optionsInRange o) 1
+  g ← file gmm (f .gmm)
+  x ← file extractor (f .extractor)
+  l ← file lda (f .lda)
+  r ← file cmvn (f .cmvn)
+  judged o z scratch (record { gmm = g; extractor = x; lda = l; global-row = r })
+
+unfoldable pub load : IvectorOptions → Files → TableLengths → ℕ → Got Model
+load o f z scratch = loading o f z scratch [] 0
+
+-- what a load answers, and what it leaves in a lent table
+abbrev pub loadedOf : Got Model → Loaded
+loadedOf (refused n) = L.Refused n
+loadedOf (read M at) = L.Model (M .info)
+
+abbrev pub tableOf : Got Model → (Model → List Float) → List Float → List Float
+tableOf (refused n) t room = room
+tableOf (read M at) t room = over (t M) room

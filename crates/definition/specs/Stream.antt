@@ -1,0 +1,81 @@
+-- "When a call is declined", 8 and 10 of a stream: what a record and the lent rooms have to meet. A record that was not made by a load or a
+-- fresh stream, or rooms of other lengths, are answered 10.
+use Prim.Native.Nat.{ℕ, _+_, _-_, _*_, max}
+use mathlib.Core.Bool.{Bool, true, false, not, _&&_}
+use mathlib.Core.List.{List, [], _∷_}
+use lib.ListN.{take}
+use lib.Dec.{eqb, leb, ltb}
+use Rattle.loops.specs.Lists.{anyOf, allTrue, anyTrue, pairwise}
+use Rattle.loops.specs.Ring.{rowsIn}
+use Rattle.definition.specs.declared.IvectorInfo.{IvectorInfo}
+use Rattle.definition.specs.declared.Dimensions.{Dimensions}
+use Rattle.definition.specs.declared.TableLengths.{TableLengths}
+use Rattle.definition.specs.declared.RoomLengths.{RoomLengths}
+use Rattle.definition.specs.declared.IvectorStream.{IvectorStream}
+use Rattle.definition.specs.Options.{optionsInRange, dimsInRange, dimsAgree}
+use Rattle.definition.specs.Kaldi.{triangle}
+use Rattle.definition.specs.Model.{tableLengths, tablesFit}
+use Rattle.definition.specs.Machine.{framesHeld, rowsHeld, waitingRoom}
+
+-- ---- a model's record
+
+-- it could come from a load: it meets none of 1, 4 and 5, and its tables have room
+unfoldable pub infoSound : IvectorInfo → Bool
+infoSound i = allTrue (optionsInRange (i .opts) ∷ dimsInRange (i .dims) ∷ dimsAgree (i .opts) (i .dims) ∷ tablesFit (i .opts) (i .dims) (i .tables) ∷ [])
+
+unfoldable pub sameTables : TableLengths → TableLengths → Bool
+sameTables a b = pairwise eqb (tableLengths a) (tableLengths b)
+
+-- ---- a stream's rooms
+
+-- scratch of a fetch: the weighted features of each Gaussian, or the factor of the solve
+unfoldable pub streamScratch : Dimensions → ℕ
+streamScratch d = max (d .«num_gauss» * d .«feat_dim») (d .«ivector_dim» * d .«ivector_dim»)
+
+-- the rooms that every call on a stream is lent, and those that a fetch is lent besides; what the latter keep
+abbrev pub ringLengths : RoomLengths → List ℕ
+ringLengths z = z .frames ∷ z .rows ∷ z .«waiting_frames» ∷ z .«waiting_weights» ∷ []
+
+abbrev pub fixedLengths : RoomLengths → List ℕ
+fixedLengths z = z .«cmvn_stats» ∷ z .linear ∷ z .quadratic ∷ z .current ∷ z .scratch ∷ []
+
+abbrev pub fixedSizes : Dimensions → List ℕ
+fixedSizes d = (d .«base_dim» + 1) ∷ d .«ivector_dim» ∷ triangle (d .«ivector_dim») ∷ d .«ivector_dim» ∷ streamScratch d ∷ []
+
+-- where this fails: refusal 8
+unfoldable pub roomsFit : Dimensions → RoomLengths → Bool
+roomsFit d z = allTrue (leb 1 (rowsIn (z .frames) (d .«base_dim»)) ∷ leb 2 (rowsIn (z .rows) (d .«base_dim»)) ∷ pairwise leb (fixedSizes d) (fixedLengths z) ∷ [])
+
+-- ---- 10
+
+-- no frame is below the one in front of it, nor the first below n
+unfoldable pub rising : ℕ → List ℕ → Bool
+rising n [] = true
+rising n (f ∷ fs) = leb n f && rising f fs
+
+-- what makes a record broken, the waiting frames lying in the room `waiting`
+unfoldable pub breaks : IvectorStream → List ℕ → List Bool
+breaks s waiting =
+    let o = s .info .opts in
+    let d = s .info .dims in
+    let held = take (s .waiting) waiting in
+    not (infoSound (s .info))
+    ∷ not (roomsFit d (s .rooms))
+    ∷ ltb 1000000000 (s .accepted)
+    ∷ ltb (s .accepted) (s .«num_frames_stats»)
+    ∷ ltb (s .«num_frames_stats» - o .«left_context») (s .mark)
+    ∷ ltb (rowsIn (s .rooms .frames) (d .«base_dim»)) (framesHeld (s .accepted) (s .mark))
+    ∷ ltb (rowsIn (s .rooms .rows) (d .«base_dim»)) (rowsHeld (o .«cmn_window») (s .accepted) (s .mark))
+    ∷ ltb (waitingRoom (s .rooms)) (s .waiting)
+    ∷ not (rising 0 held)
+    ∷ anyOf (λ f. ltb (f - o .«left_context») (s .mark)) held ∷ []
+
+unfoldable pub isBroken : IvectorStream → List ℕ → Bool
+isBroken s waiting = anyTrue (breaks s waiting)
+
+-- lent lengths are those of the record
+unfoldable pub sameRings : RoomLengths → RoomLengths → Bool
+sameRings a b = pairwise eqb (ringLengths a) (ringLengths b)
+
+unfoldable pub sameRooms : RoomLengths → RoomLengths → Bool
+sameRooms a b = sameRings a b && pairwise eqb (fixedLengths a) (fixedLengths b)

@@ -1,0 +1,48 @@
+use mathlib.Core.Path.{sym, subst}
+use mathlib.Core.Logic.{⊎-elim}
+use mathlib.Core.Bool.{Bool}
+use lib.Ieee.Exact.{HasValue}
+use borrow.Author.Needs.{needs}
+use Rattle.floats.proofs.Tens.{whole-in, plus-value, minus-value, times-ten, over-ten}
+use Rattle.floats.proofs.decimal.Statement.{statement}
+use Rattle.floats.proofs.decimal.Tie as tie
+
+-- x is ±m
+signed : (c : tie.Joined1) → let a = c .before .before .args in HasValue (c .if1 .x) (a .minus) (a .m) 1
+signed c =
+    let a = c .before .before .args in
+    let h = c .before .before .pre .0 in
+    ⊎-elim
+    (λ o. subst (λ (s : Bool). HasValue (c .if1 .x) s (a .m) 1) (sym (o .0 .taken)) (minus-value (a .m) (c .if1 .x) h (o .1)))
+    (λ o. subst (λ (s : Bool). HasValue (c .if1 .x) s (a .m) 1) (sym (o .0 .left)) (plus-value (a .m) (c .if1 .x) h (o .1)))
+    (c .if1 .came)
+
+int-to-float-x : tie.Need-int-to-float-x
+int-to-float-x c = whole-in _ (c .before .pre .0)
+
+ten-requires : tie.Need-ten-requires
+ten-requires c κs = search needs
+
+sub-ten : tie.Need-sub-ten
+sub-ten c = search needs
+
+ten-requires-2 : tie.Need-ten-requires-2
+ten-requires-2 c κs = search needs
+
+returns : tie.Need-returns
+returns c =
+    let j = c .before .before in
+    let e = j .before .before in
+    let a = e .args in
+    times-ten (a .minus) (a .m) (a .up) (a .down) (j .if1 .x) (c .ten .result) (signed j) (c .before .if2 .taken) (e .pre .1 .0) (c .ten .ensures)
+
+returns-2 : tie.Need-returns-2
+returns-2 c =
+    let j = c .before .before in
+    let e = j .before .before in
+    let a = e .args in
+    over-ten (a .minus) (a .m) (a .up) (a .down) (j .if1 .x) (c .ten2 .result) (signed j) (c .before .if2 .left) (e .pre .1 .1) (c .ten2 .ensures)
+
+pub decimal-spec : {M : Type 1} → statement M
+decimal-spec =
+    tie.close (tie.spec int-to-float-x ten-requires sub-ten ten-requires-2 returns returns-2)

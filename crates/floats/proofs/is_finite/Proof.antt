@@ -1,0 +1,10 @@
+use lib.Ieee.{binary32}
+use Rattle.floats.proofs.Extremes.{is-finite}
+use Rattle.floats.proofs.is_finite.Statement.{statement}
+use Rattle.floats.proofs.is_finite.Tie as tie
+
+returns : tie.Need-returns
+returns c = is-finite binary32 (c .args .x)
+
+pub is-finite-spec : {M : Type 1} → statement M
+is-finite-spec = tie.close (tie.spec returns)

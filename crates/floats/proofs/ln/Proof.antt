@@ -1,0 +1,56 @@
+use mathlib.Core.Path.{_≡_}
+use mathlib.Core.Bool.{false}
+use lib.Dec.{T}
+use lib.Ieee.{binary64, fits, isNan}
+use denote.Floats.{passes}
+use borrow.Author.Needs.{needs}
+use Rattle.floats.specs.Ln.{lnOf}
+use Rattle.floats.proofs.Patterns.{no-nan, false-not}
+use Rattle.floats.proofs.Signs.{of-nan, of-minus, of-inf, of-else}
+use Rattle.floats.proofs.Logs.{ln-from-zero, of-minus-zero, of-zero}
+use Rattle.floats.proofs.ln.Statement.{statement}
+use Rattle.floats.proofs.ln.Tie as tie
+
+-- what owning an f64 tells: the format holds it
+held : (c : tie.Start) → T (fits binary64 (c .args .v))
+held c = passes _ (c .good .0 .1)
+
+none : (c : tie.Else1) → isNan (c .before .args .v) ≡ false
+none c = no-nan (c .before .args .v) (c .if1 .left)
+
+returns : tie.Need-returns
+returns c = of-nan lnOf ln-from-zero (c .before .args .v) (c .if1 .taken)
+
+float-to-bits-b : tie.Need-float-to-bits-b
+float-to-bits-b c = false-not (isNan (c .before .args .v)) (none c)
+
+returns-2 : tie.Need-returns-2
+returns-2 c = let e = c .before .before .before in of-minus lnOf ln-from-zero (e .args .v) (held e) (none (c .before .before)) (c .if3 .taken)
+
+returns-3 : tie.Need-returns-3
+returns-3 c = let e = c .before .before .before in of-minus-zero (e .args .v) (held e) (none (c .before .before)) (c .before .if2 .taken) (c .if3 .left)
+
+returns-4 : tie.Need-returns-4
+returns-4 c = let e = c .before .before .before in of-zero (e .args .v) (held e) (none (c .before .before)) (c .if4 .taken)
+
+returns-5 : tie.Need-returns-5
+returns-5 c = let e = c .before .before .before .before in of-inf lnOf ln-from-zero (e .args .v) (held e) (none (c .before .before .before)) (c .before .before .if2 .left) (c .if5 .taken)
+
+ln-bits-requires : tie.Need-ln-bits-requires
+ln-bits-requires c κs = search needs
+
+returns-6 : tie.Need-returns-6
+returns-6 c = let e = c .before .before .before .before .before in of-else lnOf ln-from-zero (e .args .v) (held e) (none (c .before .before .before .before)) (c .ln-bits .result) (c .ln-bits .ensures)
+
+pub ln-spec : {M : Type 1} → statement M
+ln-spec =
+    tie.close
+    (tie.spec
+    returns
+    float-to-bits-b
+    returns-2
+    returns-3
+    returns-4
+    returns-5
+    ln-bits-requires
+    returns-6)

@@ -1,0 +1,23 @@
+use Prim.Native.Nat.{ℕ, _^_}
+use native.Mathlib.Omega.{arith}
+use lib.Ieee.{nan, round, ofInt, ofBits}
+use borrow.Author.Needs.{needs}
+use Rattle.loops.specs.Lists.{build}
+use Rattle.loops.proofs.Build.{at-build}
+use Rattle.floats.specs.Operators.{count}
+use Rattle.floats.proofs.ten.Statement.{statement}
+use Rattle.floats.proofs.ten.Tie as tie
+
+mul-result : tie.Need-mul-result
+mul-result c = search needs
+
+array-read-result : tie.Need-array-read-result
+array-read-result c = search needs
+
+-- antt computes that the table is the list of 10 ^ 0, .., 10 ^ 22
+returns : tie.Need-returns
+unfolding build ofInt ofBits round
+returns c = at-build nan 23 (λ (k : ℕ). count (10 ^ k)) (c .args .k) (omega arith)
+
+pub ten-spec : {M : Type 1} → statement M
+ten-spec = tie.close (tie.spec mul-result array-read-result returns)

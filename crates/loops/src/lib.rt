@@ -1,0 +1,1 @@
+// No code: the vocabulary of the definitions (specs/) and its laws (proofs/).
