@@ -3,3 +3,4 @@ pub mod Computed
 pub mod Examples
 pub mod Agree
 pub mod Lengths
+pub mod Batches
