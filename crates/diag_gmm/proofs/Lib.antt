@@ -1,0 +1,12 @@
+-- The laws that the proofs of the functions cite. Those of the posteriors in rooms are for callers too, Sorting and Ordered for readers.
+mod Likelihoods
+mod Comparing
+pub mod Sorting
+pub mod Ordered
+mod Sliding
+pub mod Rooms
+mod Pruning
+mod Gathering
+mod Choosing
+pub mod Apart
+pub mod Selecting

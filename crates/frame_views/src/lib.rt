@@ -1,0 +1,547 @@
+// The frame views of a stream, and its waiting weight changes: what `IvectorStream` does on its rooms.
+//
+// Frames lie in a ring, prefix rows in another: row t begins at (t mod F) * dim, F being how many rows the room has.
+use definition::IvectorOptions;
+ghost use mathlib.Core.Path.{_≡_};
+ghost use mathlib.Core.Bool.{true, false};
+ghost use mathlib.Core.List.{_∷_, foldl};
+ghost use Prim.Native.Nat.{_+_, _-_, _*_, _<_, _≤_, min, max};
+ghost use lib.ListN.{length, getD, take, drop};
+ghost use lib.Dec.{leb};
+ghost use lib.Ieee.{lt};
+ghost use Rattle.loops.specs.Lists.{if_then_else_, build, those, anyOf, over};
+ghost use Rattle.loops.specs.Ring.{rowsIn};
+ghost use Rattle.loops.specs.Steps.{fill, put};
+ghost use Rattle.floats.specs.Operators.{_-₃₂_, _+₃₂_, _*₃₂_, _+₆₄_, _-₆₄_, _*₆₄_, _/₆₄_, at};
+ghost use Rattle.floats.specs.Narrow.{narrowed};
+ghost use Rattle.definition.specs.Options.{width};
+ghost use Rattle.definition.specs.Views.{smoothed, windowed, cmvnState, cmvnFrame, spliceAt, ldaFrame};
+ghost use Rattle.definition.specs.Changes.{insertChange, changed, merged};
+ghost use Rattle.definition.specs.Stream.{rising};
+ghost use Rattle.frame_views.specs.Ring.{ringAt, ringFrames};
+ghost use Rattle.frame_views.specs.Rows.{Lent, splicedRow};
+ghost use Rattle.frame_views.specs.Waiting.{waitingIn, framesOf, weightsOf, waitingChanges};
+ghost use Rattle.frame_views.specs.Steps.{fetched, viewed, splicedTo, insertedTo};
+
+// a less b, not below 0.
+fn saturating_sub(a: usize, b: usize) -> usize
+    ensures { λ r. ⌜ r ≡ a - b ⌝ }
+{
+    if b <= a { a - b } else { 0 }
+}
+
+// The lower of two.
+fn min_usize(a: usize, b: usize) -> usize
+    ensures { λ r. ⌜ r ≡ min a b ⌝ }
+{
+    if a <= b { a } else { b }
+}
+
+// The higher of two.
+fn max_usize(a: usize, b: usize) -> usize
+    ensures { λ r. ⌜ r ≡ max a b ⌝ }
+{
+    if a <= b { b } else { a }
+}
+
+// Frame t.
+fn frame(frames: &[f32], dim: usize, t: usize) -> &[f32]
+    requires { ⌜ (0 < dim) × (0 < rowsIn (length (now frames)) dim) ⌝ }
+    ensures { λ r. ⌜ (now r ≡ build dim (ringAt dim (now (frames .entry)) t)) × (length (now r) ≡ dim) ⌝ }
+{
+    let start = t % (frames.len() / dim) * dim;
+    let end = start + dim;
+    &frames[start..end]
+}
+
+// Prefix row t: the sum of the frames before frame t.
+fn prefix(rows: &[f64], dim: usize, t: usize) -> &[f64]
+    requires { ⌜ (0 < dim) × (0 < rowsIn (length (now rows)) dim) ⌝ }
+    ensures { λ r. ⌜ (now r ≡ build dim (ringAt dim (now (rows .entry)) t)) × (length (now r) ≡ dim) ⌝ }
+{
+    let start = t % (rows.len() / dim) * dim;
+    let end = start + dim;
+    &rows[start..end]
+}
+
+// One row less another, at the front of the CMVN state.
+fn row_less(high: &[f64], low: &[f64], dim: usize, cmvn: &mut [f64])
+    requires { ⌜ (length (now high) ≡ dim) × (length (now low) ≡ dim) × (dim ≤ length (now cmvn)) ⌝ }
+    ensures { λ _. ⌜ now (cmvn .exit) ≡ fill dim (λ d. at (now (high .entry)) d -₆₄ at (now (low .entry)) d) (now (cmvn .entry)) ⌝ }
+{
+    for d in 0..dim {
+        cmvn[d] = high[d] - low[d];
+    }
+}
+
+// The CMVN state: that of frame t's window if the frame is loud, else as it was.
+fn cmvn_window(
+    o: IvectorOptions,
+    dim: usize,
+    accepted: usize,
+    t: usize,
+    frames: &[f32],
+    rows: &[f64],
+    cmvn: &mut [f64],
+)
+    requires { ⌜ (0 < dim) × (0 < rowsIn (length (now frames)) dim) × (0 < rowsIn (length (now rows)) dim) × (length (now cmvn) ≡ dim + 1) × (t < 1000000000) ⌝ }
+    ensures { λ _. ⌜ now (cmvn .exit) ≡ (if lt (o .«min_energy») (ringAt dim (now (frames .entry)) t 0) then windowed o dim (ringFrames dim accepted (now (frames .entry)) (now (rows .entry))) t else now (cmvn .entry)) ⌝ }
+{
+    let raw = frame(frames, dim, t);
+    if raw[0] > o.min_energy {
+        let lo = saturating_sub(t + 1, o.cmn_window);
+        let high = prefix(rows, dim, t + 1);
+        let low = prefix(rows, dim, lo);
+        row_less(high, low, dim, cmvn);
+        cmvn[dim] = std::num::nearest_u64_to_f64((t + 1 - lo) as u64);
+    }
+}
+
+// The global row, scaled, added to the CMVN state.
+fn add_scaled(scale: f64, global: &[f64], n: usize, cmvn: &mut [f64])
+    requires { ⌜ (n ≤ length (now global)) × (n ≤ length (now cmvn)) ⌝ }
+    ensures { λ _. ⌜ now (cmvn .exit) ≡ fill n (λ d. at (now (cmvn .entry)) d +₆₄ scale *₆₄ at (now (global .entry)) d) (now (cmvn .entry)) ⌝ }
+{
+    for d in 0..n {
+        cmvn[d] += scale * global[d];
+    }
+}
+
+// The CMVN state, with the global row added if its count is below the window.
+fn cmvn_smooth(o: IvectorOptions, dim: usize, global: &[f64], cmvn: &mut [f64])
+    requires { ⌜ (dim + 1 ≤ length (now global)) × (length (now cmvn) ≡ dim + 1) ⌝ }
+    ensures { λ _. ⌜ now (cmvn .exit) ≡ smoothed o dim (now (global .entry)) (now (cmvn .entry)) ⌝ }
+{
+    let window = std::num::nearest_u64_to_f64(o.cmn_window as u64);
+    let cur_count = cmvn[dim];
+    if cur_count < window {
+        let from_global = floats::min_f64(
+            window - cur_count,
+            std::num::nearest_u64_to_f64(o.global_frames as u64),
+        );
+        let scale = from_global / global[dim];
+        add_scaled(scale, global, dim + 1, cmvn);
+    }
+}
+
+// A raw frame less the mean of the CMVN state.
+fn raw_less_mean(raw: &[f32], cmvn: &[f64], dim: usize, out: &mut [f32])
+    requires { ⌜ (length (now raw) ≡ dim) × (length (now cmvn) ≡ dim + 1) × (length (now out) ≡ dim) ⌝ }
+    ensures { λ _. ⌜ now (out .exit) ≡ fill dim (λ d. at (now (raw .entry)) d -₃₂ narrowed (at (now (cmvn .entry)) d /₆₄ at (now (cmvn .entry)) dim)) (now (out .entry)) ⌝ }
+{
+    let count = cmvn[dim];
+    for d in 0..dim {
+        out[d] = raw[d] - floats::narrow(cmvn[d] / count);
+    }
+}
+
+// The normalised frame t. The window is taken anew only for a frame whose raw c0 is above `min_energy`; a quieter
+// one goes by what the fetch before it left, and smooths that again.
+pub fn cmvn_frame(
+    o: IvectorOptions,
+    dim: usize,
+    accepted: usize,
+    t: usize,
+    global: &[f64],
+    frames: &[f32],
+    rows: &[f64],
+    cmvn: &mut [f64],
+    out: &mut [f32],
+)
+    requires { ⌜ Lent dim accepted (now global) (now frames) (now rows) (now cmvn) ⌝ }
+    requires { ⌜ (t < accepted) × (length (now out) ≡ dim) ⌝ }
+    ensures { λ _. ⌜ (now (cmvn .exit) ≡ cmvnState o dim (now (global .entry)) (ringFrames dim accepted (now (frames .entry)) (now (rows .entry))) t (now (cmvn .entry)))
+        × (now (out .exit) ≡ cmvnFrame dim (ringFrames dim accepted (now (frames .entry)) (now (rows .entry))) t (now (cmvn .exit))) ⌝ }
+{
+    cmvn_window(o, dim, accepted, t, frames, rows, cmvn);
+    cmvn_smooth(o, dim, global, cmvn);
+    let raw = frame(frames, dim, t);
+    raw_less_mean(raw, cmvn, dim, out);
+}
+
+// What frame t adds to a spliced row: a part of the raw store, or of the normalised row.
+fn spliced_row<'a>(
+    frames: &'a [f32],
+    view: &'a [f32],
+    normalized: bool,
+    dim: usize,
+    t: usize,
+) -> &'a [f32]
+    requires { ⌜ (0 < dim) × (0 < rowsIn (length (now frames)) dim) × (length (now view) ≡ dim) ⌝ }
+    ensures { λ r. ⌜ (now r ≡ (if normalized then take dim (now (view .entry)) else build dim (ringAt dim (now (frames .entry)) t))) × (length (now r) ≡ dim) ⌝ }
+{
+    if normalized {
+        return &view[..dim];
+    }
+    frame(frames, dim, t)
+}
+
+// A row put into the spliced row from `start` on.
+fn put_row(row: &[f32], n: usize, start: usize, spliced: &mut [f32])
+    requires { ⌜ (length (now row) ≡ n) × (start + n ≤ length (now spliced)) ⌝ }
+    ensures { λ _. ⌜ now (spliced .exit) ≡ put start (build n (at (now (row .entry)))) (now (spliced .entry)) ⌝ }
+{
+    for i in 0..n {
+        spliced[start + i] = row[i];
+    }
+}
+
+// Frame t, if it is to be normalised: the CMVN state that its fetch leaves, and its view.
+fn fetch_frame(
+    o: IvectorOptions,
+    dim: usize,
+    accepted: usize,
+    t: usize,
+    normalized: bool,
+    global: &[f64],
+    frames: &[f32],
+    rows: &[f64],
+    cmvn: &mut [f64],
+    view: &mut [f32],
+)
+    requires { ⌜ Lent dim accepted (now global) (now frames) (now rows) (now cmvn) ⌝ }
+    requires { ⌜ (t < accepted) × (length (now view) ≡ dim) ⌝ }
+    ensures { λ _. ⌜ (now (cmvn .exit) ≡ fetched o dim (now (global .entry)) (ringFrames dim accepted (now (frames .entry)) (now (rows .entry))) normalized t (now (cmvn .entry)))
+        × (normalized ≡ true → now (view .exit) ≡ cmvnFrame dim (ringFrames dim accepted (now (frames .entry)) (now (rows .entry))) t (now (cmvn .exit))) ⌝ }
+{
+    if normalized {
+        cmvn_frame(o, dim, accepted, t, global, frames, rows, cmvn, view);
+    }
+}
+
+// Frame t, fetched, and put into the spliced row from `start` on.
+fn splice_one(
+    o: IvectorOptions,
+    dim: usize,
+    accepted: usize,
+    t: usize,
+    normalized: bool,
+    start: usize,
+    global: &[f64],
+    frames: &[f32],
+    rows: &[f64],
+    cmvn: &mut [f64],
+    view: &mut [f32],
+    spliced: &mut [f32],
+)
+    requires { ⌜ Lent dim accepted (now global) (now frames) (now rows) (now cmvn) ⌝ }
+    requires { ⌜ (t < accepted) × (length (now view) ≡ dim) × (start + dim ≤ length (now spliced)) ⌝ }
+    ensures { λ _. ⌜ (now (cmvn .exit) ≡ fetched o dim (now (global .entry)) (ringFrames dim accepted (now (frames .entry)) (now (rows .entry))) normalized t (now (cmvn .entry)))
+        × (now (spliced .exit) ≡ put start (viewed dim (ringFrames dim accepted (now (frames .entry)) (now (rows .entry))) normalized t (now (cmvn .exit))) (now (spliced .entry))) ⌝ }
+{
+    fetch_frame(
+        o,
+        dim,
+        accepted,
+        t,
+        normalized,
+        global,
+        frames,
+        rows,
+        cmvn,
+        view,
+    );
+    let row = spliced_row(frames, view, normalized, dim, t);
+    put_row(row, dim, start, spliced);
+}
+
+// The frame at place n of the row spliced around t, the ends clamped to frames 0 and last.
+fn splice_at(o: IvectorOptions, accepted: usize, t: usize, n: usize) -> usize
+    requires { ⌜ (t < accepted) × (accepted ≤ 1000000000) × (n < 1000000000) ⌝ }
+    ensures { λ r. ⌜ (r ≡ spliceAt o accepted t n) × (r < accepted) ⌝ }
+{
+    min_usize(saturating_sub(t + n, o.left_context), accepted - 1)
+}
+
+// The row spliced around frame t; a repeated frame is fetched again.
+fn splice(
+    o: IvectorOptions,
+    dim: usize,
+    accepted: usize,
+    t: usize,
+    normalized: bool,
+    width: usize,
+    global: &[f64],
+    frames: &[f32],
+    rows: &[f64],
+    cmvn: &mut [f64],
+    view: &mut [f32],
+    spliced: &mut [f32],
+)
+    requires { ⌜ Lent dim accepted (now global) (now frames) (now rows) (now cmvn) ⌝ }
+    requires { ⌜ (t < accepted) × (width < 1000000000) × (length (now view) ≡ dim) × (length (now spliced) ≡ width * dim) ⌝ }
+    ensures { λ _. ⌜ (now (cmvn .exit) ≡ splicedTo o dim (now (global .entry)) (ringFrames dim accepted (now (frames .entry)) (now (rows .entry))) normalized t width (now (cmvn .entry)) .0)
+        × (now (spliced .exit) ≡ splicedTo o dim (now (global .entry)) (ringFrames dim accepted (now (frames .entry)) (now (rows .entry))) normalized t width (now (cmvn .entry)) .1) ⌝ }
+{
+    for n in 0..width {
+        let u = splice_at(o, accepted, t, n);
+        splice_one(
+            o,
+            dim,
+            accepted,
+            u,
+            normalized,
+            n * dim,
+            global,
+            frames,
+            rows,
+            cmvn,
+            view,
+            spliced,
+        );
+    }
+}
+
+// What the LDA starts from.
+fn copy_offset(offset: &[f32], n: usize, out: &mut [f32])
+    requires { ⌜ (n ≤ length (now offset)) × (n ≤ length (now out)) ⌝ }
+    ensures { λ _. ⌜ now (out .exit) ≡ fill n (at (now (offset .entry))) (now (out .entry)) ⌝ }
+{
+    for r in 0..n {
+        out[r] = offset[r];
+    }
+}
+
+// One column of the LDA, times its element of the row.
+fn add_column(column: &[f32], x: f32, n: usize, out: &mut [f32])
+    requires { ⌜ (n ≤ length (now column)) × (n ≤ length (now out)) ⌝ }
+    ensures { λ _. ⌜ now (out .exit) ≡ fill n (λ r. at (now (out .entry)) r +₃₂ at (now (column .entry)) r *₃₂ x) (now (out .entry)) ⌝ }
+{
+    for r in 0..n {
+        out[r] += column[r] * x;
+    }
+}
+
+// The LDA of a spliced row, column by column.
+fn transform(lda_t: &[f32], lda_offset: &[f32], row: &[f32], d: usize, out: &mut [f32])
+    requires { ⌜ (length (now row) * d ≤ length (now «lda_t»)) × (d ≤ length (now «lda_offset»)) × (length (now out) ≡ d) ⌝ }
+    ensures { λ _. ⌜ now (out .exit) ≡ ldaFrame d (now («lda_t» .entry)) (now («lda_offset» .entry)) (now (row .entry)) ⌝ }
+{
+    copy_offset(lda_offset, d, out);
+    let cols = row.len();
+    for k in 0..cols {
+        let start = k * d;
+        let end = start + d;
+        add_column(&lda_t[start..end], row[k], d, out);
+    }
+}
+
+// `lda_frame` in lent rooms for the view of a frame and for the spliced row.
+fn lda_frame_in(
+    o: IvectorOptions,
+    dim: usize,
+    d: usize,
+    accepted: usize,
+    t: usize,
+    normalized: bool,
+    width: usize,
+    global: &[f64],
+    frames: &[f32],
+    rows: &[f64],
+    lda_t: &[f32],
+    lda_offset: &[f32],
+    cmvn: &mut [f64],
+    view: &mut [f32],
+    spliced: &mut [f32],
+    out: &mut [f32],
+)
+    requires { ⌜ Lent dim accepted (now global) (now frames) (now rows) (now cmvn) ⌝ }
+    requires { ⌜ (t < accepted) × (width < 1000000000) × (length (now view) ≡ dim) × (length (now spliced) ≡ width * dim)
+        × (width * dim * d ≤ length (now «lda_t»)) × (d ≤ length (now «lda_offset»)) × (length (now out) ≡ d) ⌝ }
+    ensures { λ _. ⌜ (now (cmvn .exit) ≡ splicedTo o dim (now (global .entry)) (ringFrames dim accepted (now (frames .entry)) (now (rows .entry))) normalized t width (now (cmvn .entry)) .0)
+        × (now (out .exit) ≡ ldaFrame d (now («lda_t» .entry)) (now («lda_offset» .entry)) (splicedTo o dim (now (global .entry)) (ringFrames dim accepted (now (frames .entry)) (now (rows .entry))) normalized t width (now (cmvn .entry)) .1)) ⌝ }
+{
+    splice(
+        o,
+        dim,
+        accepted,
+        t,
+        normalized,
+        width,
+        global,
+        frames,
+        rows,
+        cmvn,
+        view,
+        spliced,
+    );
+    transform(lda_t, lda_offset, spliced, d, out);
+}
+
+// The spliced and LDA-transformed frame t, from raw frames or from normalised ones. Its rows are of 17 frames at most,
+// each of 64 numbers.
+pub fn lda_frame(
+    o: IvectorOptions,
+    dim: usize,
+    d: usize,
+    accepted: usize,
+    t: usize,
+    normalized: bool,
+    global: &[f64],
+    frames: &[f32],
+    rows: &[f64],
+    lda_t: &[f32],
+    lda_offset: &[f32],
+    cmvn: &mut [f64],
+    out: &mut [f32],
+)
+    requires { ⌜ Lent dim accepted (now global) (now frames) (now rows) (now cmvn) ⌝ }
+    requires { ⌜ (t < accepted) × (o .«left_context» ≤ 8) × (o .«right_context» ≤ 8) × (dim ≤ 64)
+        × (dim * width o * d ≤ length (now «lda_t»)) × (d ≤ length (now «lda_offset»)) × (length (now out) ≡ d) ⌝ }
+    ensures { λ _. ⌜ (now (cmvn .exit) ≡ splicedRow o dim (now (global .entry)) (ringFrames dim accepted (now (frames .entry)) (now (rows .entry))) normalized t (now (cmvn .entry)) .0)
+        × (now (out .exit) ≡ ldaFrame d (now («lda_t» .entry)) (now («lda_offset» .entry)) (splicedRow o dim (now (global .entry)) (ringFrames dim accepted (now (frames .entry)) (now (rows .entry))) normalized t (now (cmvn .entry)) .1)) ⌝ }
+{
+    let mut view = [0.0f32; 64];
+    let mut spliced = [0.0f32; 1088];
+    let width = o.left_context + 1 + o.right_context;
+    let n = width * dim;
+    lda_frame_in(
+        o,
+        dim,
+        d,
+        accepted,
+        t,
+        normalized,
+        width,
+        global,
+        frames,
+        rows,
+        lda_t,
+        lda_offset,
+        cmvn,
+        &mut view[..dim],
+        &mut spliced[..n],
+        out,
+    );
+}
+
+// ---- waiting weight changes, in two rooms: n frames in order, and by how much the weight of each changes
+
+// How many of them are up to frame f.
+pub fn up_to(frames: &[usize], n: usize, f: usize) -> usize
+    requires { ⌜ (n ≤ length (now frames)) × (rising 0 (take n (now frames)) ≡ true) ⌝ }
+    ensures { λ r. ⌜ (r ≡ length (those (λ g. leb g f) (take n (now (frames .entry))))) × (r ≤ n) ⌝ }
+{
+    let mut k = n;
+    while k > 0 {
+        let last = k - 1;
+        if frames[last] <= f {
+            return k;
+        }
+        k = last;
+    }
+    0
+}
+
+// Places k to n - 1 go up by one.
+fn open_place(frames: &mut [usize], weights: &mut [f32], k: usize, n: usize)
+    requires { ⌜ (k ≤ n) × (n < length (now frames)) × (n < length (now weights)) ⌝ }
+    ensures { λ _. ⌜ (now (frames .exit) ≡ put (k + 1) (build (n - k) (λ j. getD (now (frames .entry)) (k + j) 0)) (now (frames .entry)))
+        × (now (weights .exit) ≡ put (k + 1) (build (n - k) (λ j. at (now (weights .entry)) (k + j))) (now (weights .entry))) ⌝ }
+{
+    let m = n - k;
+    for i in 0..m {
+        let j = n - i;
+        frames[j] = frames[j - 1];
+        weights[j] = weights[j - 1];
+    }
+}
+
+// One change more, behind those of its own frame and of lower ones.
+pub fn insert_change(frames: &mut [usize], weights: &mut [f32], n: usize, frame: usize, weight: f32)
+    requires { ⌜ (n < length (now frames)) × (n < length (now weights)) × (rising 0 (take n (now frames)) ≡ true) ⌝ }
+    ensures { λ _. ⌜ (now (frames .exit) ≡ over (framesOf (insertChange (waitingIn n (now (frames .entry)) (now (weights .entry))) (frame, weight))) (now (frames .entry)))
+        × (now (weights .exit) ≡ over (weightsOf (insertChange (waitingIn n (now (frames .entry)) (now (weights .entry))) (frame, weight))) (now (weights .entry))) ⌝ }
+{
+    let k = up_to(frames, n, frame);
+    open_place(frames, weights, k, n);
+    frames[k] = frame;
+    weights[k] = weight;
+}
+
+// Changes more, in the order given.
+fn insert_changes(
+    frames: &mut [usize],
+    weights: &mut [f32],
+    n: usize,
+    delta_frames: &[usize],
+    delta_weights: &[f32],
+)
+    requires { ⌜ (n + length (now «delta_frames») ≤ length (now frames)) × (n + length (now «delta_frames») ≤ length (now weights)) × (length (now «delta_weights») ≡ length (now «delta_frames»)) × (rising 0 (take n (now frames)) ≡ true) ⌝ }
+    ensures { λ _. ⌜ (now (frames .exit) ≡ over (framesOf (insertedTo (length (now («delta_frames» .entry))) (now («delta_frames» .entry)) (now («delta_weights» .entry)) (waitingIn n (now (frames .entry)) (now (weights .entry))))) (now (frames .entry)))
+        × (now (weights .exit) ≡ over (weightsOf (insertedTo (length (now («delta_frames» .entry))) (now («delta_frames» .entry)) (now («delta_weights» .entry)) (waitingIn n (now (frames .entry)) (now (weights .entry))))) (now (weights .entry))) ⌝ }
+{
+    let m = delta_frames.len();
+    for i in 0..m {
+        insert_change(frames, weights, n + i, delta_frames[i], delta_weights[i]);
+    }
+}
+
+// One more than the highest frame ever changed.
+fn past_highest_of(past_highest: usize, delta_frames: &[usize]) -> usize
+    requires { ⌜ anyOf (leb 1000000000) (now «delta_frames») ≡ false ⌝ }
+    ensures { λ r. ⌜ r ≡ foldl (λ n f. max n (f + 1)) «past_highest» (now («delta_frames» .entry)) ⌝ }
+{
+    let mut past = past_highest;
+    let m = delta_frames.len();
+    for i in 0..m {
+        past = max_usize(past, delta_frames[i] + 1);
+    }
+    past
+}
+
+// A change call. It gives one more than the highest frame ever changed.
+pub fn update_frame_weights(
+    frames: &mut [usize],
+    weights: &mut [f32],
+    n: usize,
+    past_highest: usize,
+    delta_frames: &[usize],
+    delta_weights: &[f32],
+) -> usize
+    requires { ⌜ (n + length (now «delta_frames») ≤ length (now frames)) × (n + length (now «delta_frames») ≤ length (now weights)) × (length (now «delta_weights») ≡ length (now «delta_frames»)) × (rising 0 (take n (now frames)) ≡ true) × (anyOf (leb 1000000000) (now «delta_frames») ≡ false) ⌝ }
+    ensures { λ r. ⌜ (now (frames .exit) ≡ over (framesOf (changed (waitingChanges n «past_highest» (now (frames .entry)) (now (weights .entry))) (now («delta_frames» .entry)) (now («delta_weights» .entry)) .waiting)) (now (frames .entry)))
+        × (now (weights .exit) ≡ over (weightsOf (changed (waitingChanges n «past_highest» (now (frames .entry)) (now (weights .entry))) (now («delta_frames» .entry)) (now («delta_weights» .entry)) .waiting)) (now (weights .entry)))
+        × (r ≡ changed (waitingChanges n «past_highest» (now (frames .entry)) (now (weights .entry))) (now («delta_frames» .entry)) (now («delta_weights» .entry)) .past-highest) ⌝ }
+{
+    insert_changes(frames, weights, n, delta_frames, delta_weights);
+    past_highest_of(past_highest, delta_frames)
+}
+
+// The first k of them are taken out.
+pub fn remove_first(frames: &mut [usize], weights: &mut [f32], n: usize, k: usize)
+    requires { ⌜ (k ≤ n) × (n ≤ length (now frames)) × (n ≤ length (now weights)) ⌝ }
+    ensures { λ _. ⌜ (now (frames .exit) ≡ over (framesOf (drop k (waitingIn n (now (frames .entry)) (now (weights .entry))))) (now (frames .entry)))
+        × (now (weights .exit) ≡ over (weightsOf (drop k (waitingIn n (now (frames .entry)) (now (weights .entry))))) (now (weights .entry))) ⌝ }
+{
+    let left = n - k;
+    for i in 0..left {
+        frames[i] = frames[k + i];
+        weights[i] = weights[k + i];
+    }
+}
+
+// Where the changes of one frame end, and the sum of their weights.
+pub struct Group {
+    pub end: usize,
+    pub weight: f32,
+}
+
+// The changes of change j's frame, from change j on, summed in their order from the first.
+pub fn sum_group(frames: &[usize], weights: &[f32], n: usize, j: usize) -> Group
+    requires { ⌜ (j < n) × (n ≤ length (now frames)) × (n ≤ length (now weights)) ⌝ }
+    ensures { λ r. ⌜ (j < r .end) × (r .end ≤ n) × (merged (drop j (waitingIn n (now (frames .entry)) (now (weights .entry))))
+        ≡ (getD (now (frames .entry)) j 0, r .weight) ∷ merged (drop (r .end) (waitingIn n (now (frames .entry)) (now (weights .entry))))) ⌝ }
+{
+    let frame = frames[j];
+    let mut weight = weights[j];
+    let mut end = j + 1;
+    while end < n {
+        if frames[end] != frame {
+            return Group { end, weight };
+        }
+        weight += weights[end];
+        end += 1;
+    }
+    Group { end, weight }
+}

@@ -1,0 +1,54 @@
+use borrow.Author.Needs.{needs}
+use mathlib.Core.Path.{ap, sym, _∙_}
+use Prim.Native.Nat.{ℕ}
+use native.Mathlib.Omega.{arith}
+use lib.Seq.{length-take-le}
+use Rattle.ivector_stats.specs.Steps.{quadraticOver}
+use Rattle.ivector_stats.proofs.Gaussians.{acc-is}
+use Rattle.ivector_stats.proofs.acc.Statement.{statement}
+use Rattle.ivector_stats.proofs.acc.Tie as tie
+
+array-borrow-prefix-row : tie.Need-array-borrow-prefix-row
+array-borrow-prefix-row c = c .before .before .before .before .before .before .before .before .before .pre .1
+
+slice-aggregate-acc-batch : tie.Need-slice-aggregate-acc-batch
+slice-aggregate-acc-batch c = sym (length-take-le _ _ (c .before .before .before .before .before .before .before .before .before .before .pre .1))
+
+acc-batch-requires : tie.Need-acc-batch-requires
+acc-batch-requires c κs =
+    let p = c .before .before .before .before .before .before .before .before .before .before .pre in
+    (p .4, rw (p .3) (p .5), p .2, length-take-le _ _ (p .1), p .6)
+
+rescale-requires : tie.Need-rescale-requires
+rescale-requires c κs =
+    let acc-batch = c .before .before .before .before .before .before .before .acc-batch in
+    let p = c .before .before .before .before .before .before .before .before .before .before .before .before .before .before .before .before .before .before .pre in
+    let k = acc-batch .kept .1 .1 .1 .1 .1 .1 .1 .1 .1 in
+    (p .0, p .1, k .0 ∙ p .2, k .1 .0 ∙ p .3)
+
+same-length : tie.Need-same-length
+same-length c = search needs
+
+same-length-2 : tie.Need-same-length-2
+same-length-2 c = search needs
+
+returns : tie.Need-returns
+returns c =
+    let acc-batch = c .before .before .before .before .before .before .before .before .before .before .before .before .acc-batch in
+    let rescale = c .before .before .before .before .rescale in
+    let a = c .before .before .before .before .before .before .before .before .before .before .before .before .before .before .before .before .before .before .before .before .before .before .before .args in
+    let p = c .before .before .before .before .before .before .before .before .before .before .before .before .before .before .before .before .before .before .before .before .before .before .before .pre in
+    let e = acc-batch .ensures in
+    λ es h. rescale .ensures ∙ acc-is (a .d) es (a .m) (a .seen .now) (a .tot .now) (a .sum .now) h (omega (arith, p .6)) (a .dim) (a .sigma-inv-m .now) (a .u .now) (a .prior-offset) (a .o .«max_count») (a .num-frames) (a .linear .now) (a .quadratic .now) (e .0) (e .1 ∙ ap (λ (n : ℕ). quadraticOver n (a .u .now) (a .seen .now) (a .tot .now) (a .quadratic .now) (a .m)) (p .3)) (e .2)
+
+pub acc-spec : {M : Type 1} → statement M
+acc-spec =
+    tie.close
+    (tie.spec
+    array-borrow-prefix-row
+    slice-aggregate-acc-batch
+    acc-batch-requires
+    rescale-requires
+    same-length
+    same-length-2
+    returns)

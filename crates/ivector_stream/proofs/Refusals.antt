@@ -1,0 +1,123 @@
+-- What is known once a call is taken, and the tests of a change as code makes them.
+use mathlib.Core.Path.{_≡_, sym, ap, _∙_}
+use mathlib.Core.Bool.{Bool, true, false, not, _||_}
+use mathlib.Core.List.{List, [], _∷_, _++_}
+use Prim.Native.Nat.{ℕ, _+_, _-_, _≤_, _<_}
+use native.Mathlib.Nat.{div-mul-le-self, mul-le-mul-right}
+use native.Mathlib.Omega.{arith}
+use lib.ListN.{length}
+use lib.Dec.{eqb, leb, ltb}
+use lib.Ieee.{Float}
+use lib.Ieee.Scale.{finite}
+use borrow.Author.Tests.{not-false, eqb-true, eqb-false, eq-eqb, ne-eqb, lt-ltb, le-ltb, ltb-false}
+use Rattle.loops.specs.Lists.{anyOf}
+use Rattle.loops.specs.Refusal.{firstOf}
+use Rattle.loops.proofs.Choose.{or-first, or-second, or-none, or-fails}
+use Rattle.loops.proofs.Refusal.{none-first}
+use Rattle.definition.specs.declared.IvectorInfo.{IvectorInfo}
+use Rattle.definition.specs.declared.IvectorStream.{IvectorStream}
+use Rattle.definition.specs.declared.RoomLengths.{RoomLengths}
+use Rattle.definition.specs.declared.TableLengths.{TableLengths}
+use Rattle.definition.specs.Machine.{waitingRoom, pushTests, changeTests}
+use Rattle.definition.specs.Stream.{infoSound, sameTables, roomsFit}
+use Rattle.limits.proofs.Ranges.{DimRanges, dim-ranges, info-sound, Fitting, fitting}
+use Rattle.ivector_stream.specs.Calls.{newRefusal, recordTests, pushRefusal, changeRefusal}
+use Rattle.ivector_stream.proofs.Records.{Passed, tests-passed, other-passed, few}
+
+-- ---- a fresh stream
+
+pub record NewTaken (i : IvectorInfo) (z : RoomLengths) : Type 0 where
+  pub dims-are : DimRanges (i .dims)
+  pub rooms-are : Fitting (i .dims) z
+  pub row-long : i .dims .«base_dim» ≤ z .rows
+
+pub new-taken : (i : IvectorInfo) (t : TableLengths) (z : RoomLengths) → newRefusal i t z ≡ 0 → NewTaken i z
+unfolding newRefusal
+new-taken i t z e =
+    let h = none-first ((not (sameTables t (i .tables)), 10) ∷ (not (infoSound i), 10) ∷ (not (roomsFit (i .dims) z), 8) ∷ []) tt e in
+    let f = fitting _ _ (not-false _ (h .1 .1 .0)) in
+    record {
+      dims-are = dim-ranges _ (info-sound i (not-false _ (h .1 .0)) .dims-are);
+      rooms-are = f;
+      row-long = omega (arith, div-mul-le-self (z .rows) (i .dims .«base_dim»), mul-le-mul-right (i .dims .«base_dim») (f .rows-fit));
+    }
+
+-- ---- push
+
+module _ (s : IvectorStream) (z : RoomLengths) (fs : List ℕ) (x : List Float) where
+  pub record PushTaken : Type 0 where
+    pub passed : Passed s z fs
+    pub wide : length x ≡ s .info .dims .«base_dim»
+    pub more : s .accepted < 1000000000
+
+  pub push-taken : pushRefusal s z fs x ≡ 0 → PushTaken
+  unfolding pushRefusal pushTests
+  push-taken e =
+      let h = none-first (recordTests s z fs ++ pushTests (s .info .opts) (s .info .dims) (s .rooms) (s .accepted) (s .mark) x) tt e in
+      let p = tests-passed s z fs (h .0) (h .1 .0) in
+      let f = eqb-false (s .accepted) 1000000000 (h .1 .1 .1 .1 .0) in
+      record { passed = p; wide = eqb-true _ _ (not-false _ (h .1 .1 .0)); more = omega (arith, p .whole-is .few) }
+
+  pub push-few : (pushRefusal s z fs x ≡ 10 → ⊥) → (s .accepted ≤ 1000000000) × (s .mark ≤ 1000000000)
+  unfolding pushRefusal
+  push-few h = few s z fs (other-passed s z fs _ h)
+
+-- ---- change
+
+module _ (fs : List ℕ) (ws : List Float) where
+  abbrev uneven : Bool
+  uneven = not (eqb (length fs) (length ws))
+
+  pub lists-differ : (length fs ≡ length ws → ⊥) → (uneven || ltb 1024 (length fs)) ≡ true
+  lists-differ h = or-first uneven _ (ap not (ne-eqb _ _ h))
+
+  pub lists-long : 1024 < length fs → (uneven || ltb 1024 (length fs)) ≡ true
+  lists-long h = or-second uneven _ (lt-ltb _ _ h)
+
+  pub lists-pass : length fs ≡ length ws → length fs ≤ 1024 → (uneven || ltb 1024 (length fs)) ≡ false
+  lists-pass e h = or-none uneven _ (ap not (eq-eqb _ _ e)) (le-ltb _ _ h)
+
+  abbrev far : Bool
+  far = anyOf (leb 1000000000) fs
+
+  abbrev wild : Bool
+  wild = anyOf (λ w. not (finite w)) ws
+
+  pub frames-far : far ≡ true → (far || wild) ≡ true
+  frames-far = or-first far wild
+
+  pub weights-wild : wild ≡ true → (far || wild) ≡ true
+  weights-wild = or-second far wild
+
+  pub numbers-pass : far ≡ false → wild ≡ false → (far || wild) ≡ false
+  numbers-pass = or-none far wild
+
+pub room-short : {room free n m : ℕ} → n ≤ room → free ≡ room - n → free < m → ltb room (n + m) ≡ true
+room-short {room} {n = n} {m = m} l e h = lt-ltb room (n + m) (omega arith)
+
+pub room-enough : {room free n m : ℕ} → n ≤ room → free ≡ room - n → m ≤ free → ltb room (n + m) ≡ false
+room-enough {room} {n = n} {m = m} l e h = le-ltb room (n + m) (omega arith)
+
+module _ (s : IvectorStream) (z : RoomLengths) (fs gs : List ℕ) (ws : List Float) where
+  pub record ChangeTaken : Type 0 where
+    pub passed : Passed s z fs
+    pub even : length gs ≡ length ws
+    pub near : anyOf (leb 1000000000) gs ≡ false
+    pub room-is : s .waiting + length gs ≤ waitingRoom (s .rooms)
+
+  pub change-taken : changeRefusal s z fs gs ws ≡ 0 → ChangeTaken
+  unfolding changeRefusal changeTests
+  change-taken e =
+      let h = none-first (recordTests s z fs ++ changeTests (s .info .opts) (s .rooms) (s .mark) (s .waiting) gs ws) tt e in
+      let a = or-fails (uneven gs ws) (ltb 1024 (length gs)) (h .1 .1 .0) in
+      let b = or-fails (far gs ws) (wild gs ws) (h .1 .1 .1 .0) in
+      record {
+        passed = tests-passed s z fs (h .0) (h .1 .0);
+        even = eqb-true _ _ (not-false _ (a .0));
+        near = b .0;
+        room-is = ltb-false _ _ (h .1 .1 .1 .1 .1 .0);
+      }
+
+  pub change-few : (changeRefusal s z fs gs ws ≡ 10 → ⊥) → (s .accepted ≤ 1000000000) × (s .mark ≤ 1000000000)
+  unfolding changeRefusal
+  change-few h = few s z fs (other-passed s z fs _ h)

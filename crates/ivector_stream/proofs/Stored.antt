@@ -1,0 +1,98 @@
+-- Rooms that the calls write: a frame and a prefix row in their rings, and cleared rooms.
+use mathlib.Core.Path.{_≡_, sym, ap, _∙_}
+use mathlib.Core.Bool.{true}
+use mathlib.Core.List.{List, [], _∷_, _++_, foldl}
+use mathlib.Core.Logic.{_⊎_, ⊎-elim}
+use Prim.Native.Nat.{ℕ, _+_, _-_, _≤_, _<_, min, max}
+use native.Mathlib.Omega.{arith}
+use lib.ListN.{length, getD, set, take, drop, replicate, length-append, length-drop}
+use lib.Seq.{length-take-le, getD-take}
+use lib.Ieee.{Float, nan}
+use Rattle.loops.specs.Lists.{build, over}
+use Rattle.loops.specs.Ring.{rowsIn}
+use Rattle.loops.specs.Steps.{fill, put, place}
+use Rattle.loops.proofs.Build.{length-build, build-list, build-same}
+use Rattle.loops.proofs.Fill.{fill-end, fill-over, over-back, put-end, put-turn, put-before, put-past}
+use Rattle.loops.proofs.Ring.{rows-apart}
+use Rattle.floats.specs.Operators.{_+₆₄_, at}
+use Rattle.definition.specs.declared.IvectorStream.{IvectorStream}
+use Rattle.definition.specs.Machine.{forgotten}
+use Rattle.definition.specs.Stream.{rising}
+use Rattle.limits.proofs.Ordered.{min-first}
+use Rattle.frame_views.specs.Ring.{ringAt}
+use Rattle.ivector_stream.specs.Calls.{pushedFrames, pushedRows, forgetMark}
+
+-- a room with zeros, or another value, in its first n places
+pub cleared : {A : Type 0} (v : A) (i n : ℕ) (x : List A) {s : List A} → i ≤ n → n ≤ i → s ≡ fill i (λ k. v) x → s ≡ over (replicate n v) x
+cleared v i n x l m e = fill-end _ i n x l m e ∙ fill-over _ n x ∙ ap (λ (l : List _). over l x) (build-same n v)
+
+-- the first n places of a room, lent and come back
+module _ {A : Type 0} (n : ℕ) (room xs : List A) (e : length xs ≡ n) where
+  pub lent-over : {ys : List A} → xs ≡ ys → xs ++ drop n room ≡ over ys room
+  lent-over h = over-back n xs room e ∙ ap (λ (l : List A). over l room) h
+
+  pub lent-length : n ≤ length room → length (xs ++ drop n room) ≡ length room
+  lent-length l = simp (length-append, length-drop) (omega arith)
+
+-- a frame copied in
+pub copied : {A : Type 0} (d : A) (a i : ℕ) (xs room : List A) {s : List A} → i ≤ length xs → length xs ≤ i → s ≡ put a (build i (λ k. getD xs k d)) room → s ≡ put a xs room
+copied d a i xs room l m e = put-end a _ i (length xs) room l m e ∙ ap (λ (l : List _). put a l room) (build-list d xs)
+
+-- the sums of a row and a frame: the row lies apart from where they go
+module _ (last next : ℕ) (frame rows : List Float) (fits : next + length frame ≤ length rows) (apart : (last + length frame ≤ next) ⊎ (next + length frame ≤ last)) where
+  abbrev pub sums : ℕ → Float
+  sums d = at rows (last + d) +₆₄ at frame d
+
+  row-stays : (i : ℕ) {s : List Float} → i < length frame → s ≡ put next (build i sums) rows → at s (last + i) ≡ at rows (last + i)
+  row-stays i l e =
+      ap (λ (r : List Float). at r (last + i)) e
+      ∙ ⊎-elim
+      (λ (h : last + length frame ≤ next). put-before nan next (build i sums) rows (omega arith) (last + i) (omega arith))
+      (λ (h : next + length frame ≤ last). put-past nan next (build i sums) rows (omega arith) (last + i) (omega (arith, length-build i sums))) apart
+
+  pub sums-turn : (i : ℕ) {s : List Float} {v : Float} → i < length frame → s ≡ put next (build i sums) rows → v ≡ at frame i
+      → set s (next + i) (at s (last + i) +₆₄ v) ≡ put next (build (i + 1) sums) rows
+  sums-turn i {v = v} l e h = put-turn next sums i rows (omega arith) e (ap (λ (x : Float). x +₆₄ v) (row-stays i l e) ∙ ap (λ (x : Float). at rows (last + i) +₆₄ x) h)
+
+-- ---- a push: row t of a ring, and the row after it
+
+pub place-after : (n w t : ℕ) {a b k : ℕ} → 2 ≤ rowsIn n w → k ≡ w → a ≡ place n w t → b ≡ place n w (t + 1) → (a + k ≤ b) ⊎ (b + k ≤ a)
+place-after n w t r d e f = rw (d, e, f) (rows-apart n w t (t + 1) (omega arith) (omega arith))
+
+module _ (s : IvectorStream) (x : List Float) where
+  pub pushed-frames : (frames : List Float) {a : ℕ} {out : List Float} → a ≡ place (length frames) (s .info .dims .«base_dim») (s .accepted) → out ≡ put a x frames → out ≡ pushedFrames s frames x
+  unfolding pushedFrames
+  pushed-frames frames e h = h ∙ ap (λ (k : ℕ). put k x frames) e
+
+  pub pushed-rows : (rows : List Float) {a b : ℕ} {out : List Float} → length x ≡ s .info .dims .«base_dim»
+      → a ≡ place (length rows) (s .info .dims .«base_dim») (s .accepted) → b ≡ place (length rows) (s .info .dims .«base_dim») (s .accepted + 1)
+      → out ≡ put b (build (length x) (λ d. at rows (a + d) +₆₄ at x d)) rows → out ≡ pushedRows s rows x
+  unfolding pushedRows ringAt
+  pushed-rows rows {a} {b} d e f h =
+      let dim : ℕ = s .info .dims .«base_dim» in
+      let sums : ℕ → ℕ → Float = λ k d. at rows (k + d) +₆₄ at x d in
+      h ∙ ap (λ (k : ℕ). put b (build k (sums a)) rows) d ∙ ap (λ (k : ℕ). put b (build dim (sums k)) rows) e ∙ ap (λ (k : ℕ). put k (build dim (sums (place (length rows) dim (s .accepted)))) rows) f
+
+-- ---- the lowest of a number and of n frames in order
+
+module _ (low : ℕ) (fs : List ℕ) (n : ℕ) where
+  pub lowest-none : n ≡ 0 → low ≡ foldl min low (take n fs)
+  lowest-none e = rw e
+
+  pub lowest-first : {r : ℕ} → 0 < n → n ≤ length fs → rising 0 (take n fs) ≡ true → r ≡ min low (getD fs 0 0) → r ≡ foldl min low (take n fs)
+  lowest-first p l o e =
+      e ∙ ap (min low) (sym (getD-take n fs 0 0 p)) ∙ sym (min-first low 0 (take n fs) (omega (arith, length-take-le n fs l)) o)
+
+lowest-under : (low : ℕ) (fs : List ℕ) → foldl min low fs ≤ low
+lowest-under low [] = omega arith
+lowest-under low (f ∷ fs) = omega (arith, lowest-under (min low f) fs)
+
+-- the new mark, as code comes to it, and that it is no later than the statistics
+module _ (s : IvectorStream) (fs : List ℕ) (f : ℕ) {reached first kept mark : ℕ} (a : reached ≡ min f (s .«num_frames_stats»)) (b : first ≡ foldl min reached (take (s .waiting) fs))
+    (c : kept ≡ first - s .info .opts .«left_context») (d : mark ≡ max (s .mark) kept) where
+  pub forget-is : mark ≡ forgetMark s fs f
+  unfolding forgetMark forgotten
+  forget-is = rw (d, c, b, a)
+
+  pub forget-under : {n : ℕ} → s .mark ≤ n → s .«num_frames_stats» ≤ n → mark ≤ n
+  forget-under h l = omega (arith, lowest-under reached (take (s .waiting) fs))

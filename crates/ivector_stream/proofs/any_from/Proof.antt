@@ -1,0 +1,58 @@
+-- `ivector_stream::any_from` meets its contract. Assumes nothing.
+use borrow.Author.Needs.{needs}
+use Prim.Native.Nat.{_≤_, _-_}
+use mathlib.Core.Path.{_≡_, refl, sym, ap, _∙_}
+use lib.ListN.{length, drop}
+use native.Mathlib.Omega.{arith}
+use Rattle.loops.specs.Lists.{anyOf}
+use Rattle.loops.proofs.Tests.{any-turn, any-found, any-end}
+use lib.Dec.{leb}
+use borrow.Author.Tests.{le-leb, lt-leb}
+use Rattle.ivector_stream.proofs.any_from.Statement.{statement}
+use Rattle.ivector_stream.proofs.any_from.Tie as tie
+
+abbrev Inv-loop : tie.InvT-loop
+Inv-loop frames limit i₀ i-end i =
+    (i ≤ i-end) × (i-end ≡ length frames) × (anyOf (leb limit) (drop i frames) ≡ anyOf (leb limit) frames)
+
+abbrev μ-loop : tie.MeasureT-loop
+μ-loop frames limit i₀ i-end i = i-end - i
+
+loop-holds : tie.Need-loop-holds Inv-loop μ-loop
+loop-holds c = (search needs, search needs, refl)
+
+mul-if1 : tie.Need-mul-if1 Inv-loop μ-loop
+mul-if1 c = search needs
+
+shared-slice-read-if1 : tie.Need-shared-slice-read-if1 Inv-loop μ-loop
+shared-slice-read-if1 c = search needs
+
+returns : tie.Need-returns Inv-loop μ-loop
+returns c = any-found (leb (c .before .before .before .before .args .limit)) _ (c .before .before .before .before .args .frames .now) (c .before .before .before .loop .i) (omega arith) (le-leb _ _ (c .if1 .taken)) (c .before .before .before .loop .inv .2)
+
+add-i : tie.Need-add-i Inv-loop μ-loop
+add-i c = search needs
+
+loop-less : tie.Need-loop-less Inv-loop μ-loop
+loop-less c = search needs
+
+loop-again : tie.Need-loop-again Inv-loop μ-loop
+loop-again c = (omega arith, omega arith, any-turn (leb (c .before .before .before .before .args .limit)) _ (c .before .before .before .before .args .frames .now) (c .before .before .before .loop .i) (omega arith) (lt-leb _ _ (c .if1 .left)) (c .before .before .before .loop .inv .2))
+
+returns-2 : tie.Need-returns-2 Inv-loop μ-loop
+returns-2 c = any-end (leb (c .before .before .args .limit)) (c .before .before .args .frames .now) (c .before .loop .i) (omega arith) (c .before .loop .inv .2)
+
+pub any-from-spec : {M : Type 1} → statement M
+any-from-spec =
+    tie.close
+    (tie.spec
+    Inv-loop
+    μ-loop
+    loop-holds
+    mul-if1
+    shared-slice-read-if1
+    returns
+    add-i
+    loop-less
+    loop-again
+    returns-2)

@@ -1,0 +1,33 @@
+-- `ivector_stream::lowest` meets its contract. Assumes nothing.
+use borrow.Author.Needs.{needs}
+use mathlib.Core.Path.{sym, ap, _∙_}
+use mathlib.Core.List.{List, foldl}
+use Prim.Native.Nat.{ℕ, min}
+use native.Mathlib.Omega.{arith}
+use lib.ListN.{take}
+use lib.Seq.{length-take-le, getD-take}
+use Rattle.limits.proofs.Ordered.{min-first}
+use Rattle.ivector_stream.proofs.Stored.{lowest-none, lowest-first}
+use Rattle.ivector_stream.proofs.lowest.Statement.{statement}
+use Rattle.ivector_stream.proofs.lowest.Tie as tie
+
+returns : tie.Need-returns
+returns c = lowest-none _ _ _ (c .if1 .taken)
+
+shared-slice-read-smaller : tie.Need-shared-slice-read-smaller
+shared-slice-read-smaller c = search needs
+
+smaller-requires : tie.Need-smaller-requires
+smaller-requires c κs = search needs
+
+returns-2 : tie.Need-returns-2
+returns-2 c = lowest-first _ _ _ (omega arith) (c .before .before .before .before .pre .0) (c .before .before .before .before .pre .1) (c .smaller .ensures)
+
+pub lowest-spec : {M : Type 1} → statement M
+lowest-spec =
+    tie.close
+    (tie.spec
+    returns
+    shared-slice-read-smaller
+    smaller-requires
+    returns-2)

@@ -1,0 +1,26 @@
+-- `ivector_stream::reply` meets its contract. Assumes nothing.
+use borrow.Author.Needs.{needs}
+use Rattle.ivector_stream.proofs.Replies.{reply-10, reply-held}
+use Rattle.ivector_stream.proofs.reply.Statement.{statement}
+use Rattle.ivector_stream.proofs.reply.Tie as tie
+
+returns : tie.Need-returns
+returns c = reply-10 _ _ _ (c .if1 .taken)
+
+frames-held-requires : tie.Need-frames-held-requires
+frames-held-requires c κs = search needs
+
+rows-held-requires : tie.Need-rows-held-requires
+rows-held-requires c κs = (c .before .before .before .before .pre) (c .before .before .before .if1 .left)
+
+returns-2 : tie.Need-returns-2
+returns-2 c = reply-held _ _ _ (c .before .before .before .before .if1 .left) (c .before .frames-held .ensures) (c .rows-held .ensures)
+
+pub reply-spec : {M : Type 1} → statement M
+reply-spec =
+    tie.close
+    (tie.spec
+    returns
+    frames-held-requires
+    rows-held-requires
+    returns-2)

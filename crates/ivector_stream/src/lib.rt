@@ -1,0 +1,541 @@
+// `IvectorStream`: a stream's record, and the calls on it but for the fetch. The rooms are lent to each call: frames and prefix
+// rows in two rings, the waiting weight changes in two lists. The model's tables are lent where they are read.
+use definition::IvectorInfo;
+use definition::IvectorStream;
+use definition::NewStream;
+use definition::RoomLengths;
+use definition::StreamAnswer;
+use definition::StreamCall;
+use definition::TableLengths;
+ghost use mathlib.Core.Path.{_≡_};
+ghost use mathlib.Core.Bool.{true, false, not};
+ghost use mathlib.Core.Logic.{_⊎_};
+ghost use mathlib.Core.List.{foldl};
+ghost use Prim.Native.Nat.{ℕ, _+_, _-_, _<_, _≤_, min};
+ghost use lib.ListN.{length, take, replicate};
+ghost use lib.Dec.{leb, ltb};
+ghost use lib.Ieee.Scale.{finite};
+ghost use Rattle.loops.specs.Lists.{build, anyOf, over};
+ghost use Rattle.loops.specs.Refusal.{taken};
+ghost use Rattle.loops.specs.Ring.{rowsIn};
+ghost use Rattle.loops.specs.Steps.{put, place};
+ghost use Rattle.floats.specs.Operators.{_+₆₄_, zero₆₄, at};
+ghost use Rattle.definition.specs.Kaldi.{triangle};
+ghost use Rattle.definition.specs.Statistics.{newStats};
+ghost use Rattle.definition.specs.Solve.{priorVector};
+ghost use Rattle.definition.specs.Changes.{Changes, changed};
+ghost use Rattle.definition.specs.Machine.{framesReady};
+ghost use Rattle.definition.specs.Stream.{rising};
+ghost use Rattle.ivector_stream.specs.Rooms.{Tables, tableLengthsOf, Rooms, roomLengthsOf, changesIn};
+ghost use Rattle.ivector_stream.specs.Calls.{newRefusal, newAnswer, freshRooms, answerOf, callOf, withAccepted, withFinished, withMark, withChanges, pushRefusal, pushedFrames, pushedRows, plainRefusal, changeRefusal, overFrames, overWeights, forgetMark};
+ghost use Rattle.ivector_stream.specs.Lent.{ringsOf};
+
+// ---- answers
+
+// What a call returns that leaves the record s. A refusal 10 is its number alone.
+pub fn reply(refusal: usize, s: IvectorStream, not_finite: usize) -> StreamCall
+    requires { ⌜ ((refusal ≡ 10 → ⊥) → (s .accepted ≤ 1000000000) × (s .mark ≤ 1000000000)) ⌝ }
+    ensures { λ r. ⌜ r ≡ callOf refusal s «not_finite» ⌝ }
+{
+    if refusal == 10 {
+        return StreamCall {
+            answer: StreamAnswer {
+                refusal,
+                frames_held: 0,
+                rows_held: 0,
+                not_finite: 0,
+            },
+            stream: s,
+        };
+    }
+    let i = s.info;
+    let o = i.opts;
+    let frames_held = limits::frames_held(s.accepted, s.mark);
+    let rows_held = limits::rows_held(o.cmn_window, s.accepted, s.mark);
+    StreamCall {
+        answer: StreamAnswer {
+            refusal,
+            frames_held,
+            rows_held,
+            not_finite,
+        },
+        stream: s,
+    }
+}
+
+// The lengths of the rooms that every call is lent.
+fn rings(frames: usize, rows: usize, waiting_frames: usize, waiting_weights: usize) -> RoomLengths
+    ensures { λ r. ⌜ r ≡ ringsOf frames rows «waiting_frames» «waiting_weights» ⌝ }
+{
+    RoomLengths {
+        frames,
+        rows,
+        waiting_frames,
+        waiting_weights,
+        cmvn_stats: 0,
+        linear: 0,
+        quadratic: 0,
+        current: 0,
+        scratch: 0,
+    }
+}
+
+// Refusal 10 of every call, or 0.
+fn plain_refusal(s: IvectorStream, lent: RoomLengths, waiting_frames: &[usize]) -> usize
+    ensures { λ r. ⌜ r ≡ plainRefusal s lent (now («waiting_frames» .entry)) ⌝ }
+{
+    let z = s.rooms;
+    if !limits::same_rings(lent, z) {
+        return 10;
+    }
+    if limits::is_broken(s, waiting_frames) {
+        return 10;
+    }
+    0
+}
+
+// ---- a fresh stream
+
+fn new_refusal(info: IvectorInfo, tables: TableLengths, rooms: RoomLengths) -> usize
+    ensures { λ r. ⌜ r ≡ newRefusal info tables rooms ⌝ }
+{
+    let t = info.tables;
+    let d = info.dims;
+    if !limits::same_tables(tables, t) {
+        return 10;
+    }
+    if !limits::info_sound(info) {
+        return 10;
+    }
+    if !limits::rooms_fit(d, rooms) {
+        return 8;
+    }
+    0
+}
+
+// Zeros in a room's first n places.
+fn clear(room: &mut [f64], n: usize)
+    requires { ⌜ n ≤ length (now room) ⌝ }
+    ensures { λ _. ⌜ now (room .exit) ≡ over (replicate n zero₆₄) (now (room .entry)) ⌝ }
+{
+    for i in 0..n {
+        room[i] = 0.0;
+    }
+}
+
+// The statistics before any frame, and the prior as the current vector.
+fn fresh_estimate(
+    dim: usize,
+    prior_offset: f64,
+    linear: &mut [f64],
+    quadratic: &mut [f64],
+    current: &mut [f64],
+)
+    requires { ⌜ (0 < dim) × (dim ≤ 128) × (dim ≤ length (now linear)) × (triangle dim ≤ length (now quadratic)) × (dim ≤ length (now current)) ⌝ }
+    ensures { λ _. ⌜ (now (linear .exit) ≡ over (newStats dim «prior_offset» .linear) (now (linear .entry)))
+        × (now (quadratic .exit) ≡ over (newStats dim «prior_offset» .quadratic) (now (quadratic .entry)))
+        × (now (current .exit) ≡ over (priorVector dim «prior_offset») (now (current .entry))) ⌝ }
+{
+    let packed = dim * (dim + 1) / 2;
+    ivector_stats::new(
+        dim,
+        prior_offset,
+        &mut linear[..dim],
+        &mut quadratic[..packed],
+    );
+    ivector_stats::prior_vector(dim, prior_offset, &mut current[..dim]);
+}
+
+pub fn new(
+    info: IvectorInfo,
+    gconsts: &[f32],
+    means_invvars_t: &[f32],
+    inv_vars_t: &[f32],
+    sigma_inv_m: &[f64],
+    u: &[f64],
+    lda_t: &[f32],
+    lda_offset: &[f32],
+    global_mean_stats: &[f64],
+    frames: &[f32],
+    rows: &mut [f64],
+    waiting_frames: &[usize],
+    waiting_weights: &[f32],
+    cmvn_stats: &mut [f64],
+    linear: &mut [f64],
+    quadratic: &mut [f64],
+    current: &mut [f64],
+    scratch: &[f64],
+) -> NewStream
+    ensures { λ r. ⌜ (
+        let t : Tables = record { gconsts = now (gconsts .entry); means-invvars-t = now («means_invvars_t» .entry); inv-vars-t = now («inv_vars_t» .entry); sigma-inv-m = now («sigma_inv_m» .entry); u = now (u .entry); lda-t = now («lda_t» .entry); lda-offset = now («lda_offset» .entry); global-mean-stats = now («global_mean_stats» .entry) } in
+        let z : Rooms = record { frames = now (frames .entry); rows = now (rows .entry); waiting-frames = now («waiting_frames» .entry); waiting-weights = now («waiting_weights» .entry); cmvn = now («cmvn_stats» .entry); linear = now (linear .entry); quadratic = now (quadratic .entry); current = now (current .entry) } in
+        let n : ℕ = newRefusal info (tableLengthsOf t) (roomLengthsOf z (length (now (scratch .entry)))) in
+        (r ≡ newAnswer info (tableLengthsOf t) (roomLengthsOf z (length (now (scratch .entry)))))
+        × (now (rows .exit) ≡ taken n (freshRooms info z .rows) (now (rows .entry)))
+        × (now («cmvn_stats» .exit) ≡ taken n (freshRooms info z .cmvn) (now («cmvn_stats» .entry)))
+        × (now (linear .exit) ≡ taken n (freshRooms info z .linear) (now (linear .entry)))
+        × (now (quadratic .exit) ≡ taken n (freshRooms info z .quadratic) (now (quadratic .entry)))
+        × (now (current .exit) ≡ taken n (freshRooms info z .current) (now (current .entry)))) ⌝ }
+{
+    let tables = TableLengths {
+        gconsts: gconsts.len(),
+        means_invvars_t: means_invvars_t.len(),
+        inv_vars_t: inv_vars_t.len(),
+        sigma_inv_m: sigma_inv_m.len(),
+        u: u.len(),
+        lda_t: lda_t.len(),
+        lda_offset: lda_offset.len(),
+        global_mean_stats: global_mean_stats.len(),
+    };
+    let rooms = RoomLengths {
+        frames: frames.len(),
+        rows: rows.len(),
+        waiting_frames: waiting_frames.len(),
+        waiting_weights: waiting_weights.len(),
+        cmvn_stats: cmvn_stats.len(),
+        linear: linear.len(),
+        quadratic: quadratic.len(),
+        current: current.len(),
+        scratch: scratch.len(),
+    };
+    let refusal = new_refusal(info, tables, rooms);
+    if refusal != 0 {
+        return NewStream::Refused(refusal);
+    }
+    let d = info.dims;
+    clear(rows, d.base_dim);
+    clear(cmvn_stats, d.base_dim + 1);
+    fresh_estimate(d.ivector_dim, info.prior_offset, linear, quadratic, current);
+    NewStream::Stream(IvectorStream {
+        info,
+        rooms,
+        accepted: 0,
+        num_frames_stats: 0,
+        mark: 0,
+        waiting: 0,
+        past_highest: 0,
+        delta_weights_provided: false,
+        input_finished: false,
+        num_frames: 0.0,
+    })
+}
+
+// ---- push
+
+fn any_not_finite(x: &[f32]) -> bool
+    ensures { λ r. ⌜ r ≡ anyOf (λ v. not (finite v)) (now (x .entry)) ⌝ }
+{
+    for i in 0..x.len() {
+        if !floats::is_finite(x[i]) {
+            return true;
+        }
+    }
+    false
+}
+
+fn push_refusal(
+    s: IvectorStream,
+    lent: RoomLengths,
+    waiting_frames: &[usize],
+    frame: &[f32],
+) -> usize
+    ensures { λ r. ⌜ r ≡ pushRefusal s lent (now («waiting_frames» .entry)) (now (frame .entry)) ⌝ }
+{
+    let refusal = plain_refusal(s, lent, waiting_frames);
+    if refusal != 0 {
+        return refusal;
+    }
+    let i = s.info;
+    let o = i.opts;
+    let d = i.dims;
+    let z = s.rooms;
+    if frame.len() != d.base_dim {
+        return 11;
+    }
+    if any_not_finite(frame) {
+        return 12;
+    }
+    if s.accepted == 1000000000 {
+        return 13;
+    }
+    let frames_held = limits::frames_held(s.accepted, s.mark);
+    if frames_held == z.frames / d.base_dim {
+        return 14;
+    }
+    let rows_held = limits::rows_held(o.cmn_window, s.accepted, s.mark);
+    if rows_held == z.rows / d.base_dim {
+        return 15;
+    }
+    0
+}
+
+// Where row t of a ring of `length` numbers begins.
+fn row_place(length: usize, dim: usize, t: usize) -> usize
+    requires { ⌜ (0 < dim) × (0 < rowsIn length dim) ⌝ }
+    ensures { λ r. ⌜ r ≡ place length dim t ⌝ }
+{
+    t % (length / dim) * dim
+}
+
+// A frame stored from place a on.
+fn put_frame(frames: &mut [f32], a: usize, frame: &[f32])
+    requires { ⌜ a + length (now frame) ≤ length (now frames) ⌝ }
+    ensures { λ _. ⌜ now (frames .exit) ≡ put a (now (frame .entry)) (now (frames .entry)) ⌝ }
+{
+    for d in 0..frame.len() {
+        frames[a + d] = frame[d];
+    }
+}
+
+// The prefix row at `last` and a frame, summed into the row at `next`.
+fn add_frame(rows: &mut [f64], last: usize, next: usize, frame: &[f32])
+    requires { ⌜ (last + length (now frame) ≤ length (now rows)) × (next + length (now frame) ≤ length (now rows)) × ((last + length (now frame) ≤ next) ⊎ (next + length (now frame) ≤ last)) ⌝ }
+    ensures { λ _. ⌜ now (rows .exit) ≡ put next (build (length (now (frame .entry))) (λ d. at (now (rows .entry)) (last + d) +₆₄ at (now (frame .entry)) d)) (now (rows .entry)) ⌝ }
+{
+    for d in 0..frame.len() {
+        rows[next + d] = rows[last + d] + std::num::f32_to_f64_with_nan(frame[d]);
+    }
+}
+
+pub fn push_frame(
+    s: IvectorStream,
+    frame: &[f32],
+    frames: &mut [f32],
+    rows: &mut [f64],
+    waiting_frames: &[usize],
+    waiting_weights: &[f32],
+) -> StreamCall
+    ensures { λ r. ⌜ (
+        let n : ℕ = pushRefusal s (ringsOf (length (now (frames .entry))) (length (now (rows .entry))) (length (now («waiting_frames» .entry))) (length (now («waiting_weights» .entry)))) (now («waiting_frames» .entry)) (now (frame .entry)) in
+        (r ≡ callOf n (taken n (withAccepted s (s .accepted + 1)) s) 0)
+        × (now (frames .exit) ≡ taken n (pushedFrames s (now (frames .entry)) (now (frame .entry))) (now (frames .entry)))
+        × (now (rows .exit) ≡ taken n (pushedRows s (now (rows .entry)) (now (frame .entry))) (now (rows .entry)))) ⌝ }
+{
+    let lent = rings(
+        frames.len(),
+        rows.len(),
+        waiting_frames.len(),
+        waiting_weights.len(),
+    );
+    let refusal = push_refusal(s, lent, waiting_frames, frame);
+    if refusal != 0 {
+        return reply(refusal, s, 0);
+    }
+    let i = s.info;
+    let d = i.dims;
+    let a = row_place(frames.len(), d.base_dim, s.accepted);
+    put_frame(frames, a, frame);
+    let last = row_place(rows.len(), d.base_dim, s.accepted);
+    let next = row_place(rows.len(), d.base_dim, s.accepted + 1);
+    add_frame(rows, last, next, frame);
+    let mut t = s;
+    t.accepted = s.accepted + 1;
+    reply(0, t, 0)
+}
+
+// ---- finish
+
+pub fn set_input_finished(
+    s: IvectorStream,
+    frames: &[f32],
+    rows: &[f64],
+    waiting_frames: &[usize],
+    waiting_weights: &[f32],
+) -> StreamCall
+    ensures { λ r. ⌜ (
+        let n : ℕ = plainRefusal s (ringsOf (length (now (frames .entry))) (length (now (rows .entry))) (length (now («waiting_frames» .entry))) (length (now («waiting_weights» .entry)))) (now («waiting_frames» .entry)) in
+        r ≡ callOf n (taken n (withFinished s) s) 0) ⌝ }
+{
+    let lent = rings(
+        frames.len(),
+        rows.len(),
+        waiting_frames.len(),
+        waiting_weights.len(),
+    );
+    let refusal = plain_refusal(s, lent, waiting_frames);
+    if refusal != 0 {
+        return reply(refusal, s, 0);
+    }
+    let mut t = s;
+    t.input_finished = true;
+    reply(0, t, 0)
+}
+
+// ---- change
+
+// Whether a frame is `limit` or more.
+fn any_from(frames: &[usize], limit: usize) -> bool
+    ensures { λ r. ⌜ r ≡ anyOf (leb limit) (now (frames .entry)) ⌝ }
+{
+    for i in 0..frames.len() {
+        if limit <= frames[i] {
+            return true;
+        }
+    }
+    false
+}
+
+// Whether a frame less the left context is below the mark.
+fn any_below(frames: &[usize], left: usize, mark: usize) -> bool
+    ensures { λ r. ⌜ r ≡ anyOf (λ f. ltb (f - left) mark) (now (frames .entry)) ⌝ }
+{
+    for i in 0..frames.len() {
+        let first = limits::less(frames[i], left);
+        if first < mark {
+            return true;
+        }
+    }
+    false
+}
+
+fn change_refusal(
+    s: IvectorStream,
+    lent: RoomLengths,
+    waiting_frames: &[usize],
+    delta_frames: &[usize],
+    delta_weights: &[f32],
+) -> usize
+    ensures { λ r. ⌜ r ≡ changeRefusal s lent (now («waiting_frames» .entry)) (now («delta_frames» .entry)) (now («delta_weights» .entry)) ⌝ }
+{
+    let refusal = plain_refusal(s, lent, waiting_frames);
+    if refusal != 0 {
+        return refusal;
+    }
+    let i = s.info;
+    let o = i.opts;
+    let z = s.rooms;
+    if delta_frames.len() != delta_weights.len() {
+        return 16;
+    }
+    if 1024 < delta_frames.len() {
+        return 16;
+    }
+    if any_from(delta_frames, 1000000000) {
+        return 17;
+    }
+    if any_not_finite(delta_weights) {
+        return 17;
+    }
+    if any_below(delta_frames, o.left_context, s.mark) {
+        return 18;
+    }
+    let room = limits::smaller(z.waiting_frames, z.waiting_weights);
+    let free = limits::less(room, s.waiting);
+    if free < delta_frames.len() {
+        return 19;
+    }
+    0
+}
+
+pub fn update_frame_weights(
+    s: IvectorStream,
+    delta_frames: &[usize],
+    delta_weights: &[f32],
+    frames: &[f32],
+    rows: &[f64],
+    waiting_frames: &mut [usize],
+    waiting_weights: &mut [f32],
+) -> StreamCall
+    ensures { λ r. ⌜ (
+        let n : ℕ = changeRefusal s (ringsOf (length (now (frames .entry))) (length (now (rows .entry))) (length (now («waiting_frames» .entry))) (length (now («waiting_weights» .entry)))) (now («waiting_frames» .entry)) (now («delta_frames» .entry)) (now («delta_weights» .entry)) in
+        let c : Changes = changed (changesIn s (now («waiting_frames» .entry)) (now («waiting_weights» .entry))) (now («delta_frames» .entry)) (now («delta_weights» .entry)) in
+        (r ≡ callOf n (taken n (withChanges s c (s .«num_frames_stats») (s .«num_frames»)) s) 0)
+        × (now («waiting_frames» .exit) ≡ taken n (overFrames c (now («waiting_frames» .entry))) (now («waiting_frames» .entry)))
+        × (now («waiting_weights» .exit) ≡ taken n (overWeights c (now («waiting_weights» .entry))) (now («waiting_weights» .entry)))) ⌝ }
+{
+    let lent = rings(
+        frames.len(),
+        rows.len(),
+        waiting_frames.len(),
+        waiting_weights.len(),
+    );
+    let refusal = change_refusal(s, lent, waiting_frames, delta_frames, delta_weights);
+    if refusal != 0 {
+        return reply(refusal, s, 0);
+    }
+    let past_highest = frame_views::update_frame_weights(
+        waiting_frames,
+        waiting_weights,
+        s.waiting,
+        s.past_highest,
+        delta_frames,
+        delta_weights,
+    );
+    let mut t = s;
+    t.waiting = s.waiting + delta_frames.len();
+    t.past_highest = past_highest;
+    t.delta_weights_provided = true;
+    reply(0, t, 0)
+}
+
+// ---- forget
+
+// The lowest of `low` and of n waiting frames, which are in order.
+fn lowest(low: usize, waiting_frames: &[usize], n: usize) -> usize
+    requires { ⌜ (n ≤ length (now «waiting_frames»)) × (rising 0 (take n (now «waiting_frames»)) ≡ true) ⌝ }
+    ensures { λ r. ⌜ r ≡ foldl min low (take n (now («waiting_frames» .entry))) ⌝ }
+{
+    if n == 0 {
+        return low;
+    }
+    limits::smaller(low, waiting_frames[0])
+}
+
+// An utterance begins at `frame`: no weight change will reach before it.
+pub fn forget_before(
+    s: IvectorStream,
+    frame: usize,
+    frames: &[f32],
+    rows: &[f64],
+    waiting_frames: &[usize],
+    waiting_weights: &[f32],
+) -> StreamCall
+    ensures { λ r. ⌜ (
+        let n : ℕ = plainRefusal s (ringsOf (length (now (frames .entry))) (length (now (rows .entry))) (length (now («waiting_frames» .entry))) (length (now («waiting_weights» .entry)))) (now («waiting_frames» .entry)) in
+        r ≡ callOf n (taken n (withMark s (forgetMark s (now («waiting_frames» .entry)) frame)) s) 0) ⌝ }
+{
+    let lent = rings(
+        frames.len(),
+        rows.len(),
+        waiting_frames.len(),
+        waiting_weights.len(),
+    );
+    let refusal = plain_refusal(s, lent, waiting_frames);
+    if refusal != 0 {
+        return reply(refusal, s, 0);
+    }
+    let i = s.info;
+    let o = i.opts;
+    let reached = limits::smaller(frame, s.num_frames_stats);
+    let first = lowest(reached, waiting_frames, s.waiting);
+    let kept = limits::less(first, o.left_context);
+    let mut t = s;
+    t.mark = limits::larger(s.mark, kept);
+    reply(0, t, 0)
+}
+
+// ---- questions
+
+// Frames that can be fetched: the spliced view needs the right context.
+pub fn num_frames_ready(s: IvectorStream) -> usize
+    ensures { λ r. ⌜ r ≡ framesReady (s .info .opts) (s .«input_finished») (s .accepted) ⌝ }
+{
+    let i = s.info;
+    let o = i.opts;
+    limits::frames_ready(o, s.input_finished, s.accepted)
+}
+
+pub fn ivector_dim(s: IvectorStream) -> usize
+    ensures { λ r. ⌜ r ≡ s .info .dims .«ivector_dim» ⌝ }
+{
+    let i = s.info;
+    let d = i.dims;
+    d.ivector_dim
+}
+
+// The first frame that is not in the statistics.
+pub fn num_frames_stats(s: IvectorStream) -> usize
+    ensures { λ r. ⌜ r ≡ s .«num_frames_stats» ⌝ }
+{
+    s.num_frames_stats
+}

@@ -1,0 +1,69 @@
+-- Parsers one after the other, as code meets them: a call answers r, which says `of r`, and a `match` shows that r is its case c.
+use mathlib.Core.Path.{_≡_, sym, ap, _∙_, subst}
+use mathlib.Core.Bool.{Bool, true, false}
+use mathlib.Core.List.{List}
+use Prim.Native.Nat.{ℕ}
+use Rattle.loops.specs.Lists.{if_then_else_}
+use Rattle.definition.specs.Reader.{Got, Parser, after, need, refused, read}
+
+module _ {R A : Type 0} (of : R → Got A) {r c : R} {g : Got A} where
+  -- what the last answer says
+  pub ends : of r ≡ g → r ≡ c → of c ≡ g
+  ends e h = sym (ap of h) ∙ e
+
+  -- the same, from the definition
+  pub told : of r ≡ g → r ≡ c → g ≡ of c
+  told e h = sym e ∙ ap of h
+
+  -- past one answer: a refusal ends the chain by `refl`
+  pub step : {B : Type 0} {x : Got B} (k : A → Parser B) (s : List ℕ) → of r ≡ g → r ≡ c → x ≡ after (of c) k s → x ≡ after g k s
+  step k s e h t = t ∙ ap (λ (y : Got A). after y k s) (ends e h)
+
+module _ {A B : Type 0} {x : Got B} (k : A → Parser B) (s : List ℕ) where
+  -- past what is known of the definition
+  pub goes : {g : Got A} {a : A} {p : ℕ} → g ≡ read a p → x ≡ k a s p → x ≡ after g k s
+  goes e t = t ∙ sym (ap (λ (y : Got A). after y k s) e)
+
+  pub stops : {g : Got A} {n : ℕ} → g ≡ refused n → x ≡ refused n → x ≡ after g k s
+  stops e t = t ∙ sym (ap (λ (y : Got A). after y k s) e)
+
+-- a test
+pub met : {t : Bool} (n : ℕ) (s : List ℕ) (p : ℕ) → t ≡ true → read tt p ≡ need t n s p
+met n s p e = rw e
+
+pub unmet : {t : Bool} (n : ℕ) (s : List ℕ) (p : ℕ) → t ≡ false → refused n ≡ need t n s p
+unmet n s p e = rw e
+
+-- a choice between two parsers
+pub first-one : {A : Type 0} {t : Bool} {x : Got A} (p q : Parser A) (s : List ℕ) (at : ℕ) → t ≡ true → x ≡ p s at → x ≡ (if t then p else q) s at
+first-one p q s at e h = rw e h
+
+pub other-one : {A : Type 0} {t : Bool} {x : Got A} (p q : Parser A) (s : List ℕ) (at : ℕ) → t ≡ false → x ≡ q s at → x ≡ (if t then p else q) s at
+other-one p q s at e h = rw e h
+
+-- ---- nothing that is refused was read
+
+abbrev isRead : {A : Type 0} → Got A → Type 0
+isRead (refused n) = ⊥
+isRead (read a next) = Unit {0}
+
+pub not-read : {A : Type 0} {n : ℕ} {a : A} {z : ℕ} → refused n ≡ read a z → ⊥
+not-read e = subst isRead (sym e) tt
+
+abbrev valueOf : {A : Type 0} → A → Got A → A
+valueOf d (refused n) = d
+valueOf d (read a next) = a
+
+pub same-value : {A : Type 0} {a b : A} {p q : ℕ} → read a p ≡ read b q → a ≡ b
+same-value {a = a} e = ap (valueOf a) e
+
+-- the position that an answer gives
+abbrev pub placeOf : {A : Type 0} → Got A → ℕ
+placeOf (refused n) = n
+placeOf (read a next) = next
+
+pub same-place : {A : Type 0} {a b : A} {p q : ℕ} → read a p ≡ read b q → p ≡ q
+same-place e = ap placeOf e
+
+pub same-refusal : {A : Type 0} {m n : ℕ} → _≡_ {A = Got A} (refused m) (refused n) → m ≡ n
+same-refusal e = ap placeOf e

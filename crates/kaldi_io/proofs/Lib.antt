@@ -1,0 +1,4 @@
+-- The laws that the functions' proofs cite.
+pub mod Chain
+pub mod Bytes
+pub mod Numbers

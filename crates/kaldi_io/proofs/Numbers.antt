@@ -1,0 +1,181 @@
+-- Laws of numbers in bytes, each for both widths.
+use mathlib.Core.Path.{_≡_, refl, sym, ap, _∙_, subst}
+use mathlib.Core.Bool.{Bool, true, false, not, cond, false≢true}
+use mathlib.Core.List.{List, [], _∷_}
+use Prim.Native.Nat.{ℕ, zero, suc, _+_, _-_, _*_, _/_, _%_, _≤_, _<_}
+use native.Mathlib.Nat.{not-suc-le-zero, le-of-suc-le-suc, zero-add, suc-add, suc-mul, add-comm, le-add-right, mul-zero, mul-suc, add-zero}
+use native.Mathlib.Omega.{arith}
+use borrow.Author.Tests.{eq-eqb, ne-eqb}
+use lib.Dec.{T, leb, eqb}
+use lib.ListN.{length, take, drop}
+use lib.Seq.{drop-drop, take-nil, take-take}
+use lib.Ieee.{Float, nan, inf, fin, Format, binary32, binary64, ofBits, ofFields, odd, nanBits, isNan, lt, hid, ones, top, prec, low}
+use lib.Ieee.Scale.{finite}
+use lib.Ieee.Bits.{nanBits-is}
+use Rattle.loops.specs.Lists.{allOf}
+use Rattle.loops.specs.Steps.{fill}
+use Rattle.loops.proofs.Choose.{by-test}
+use Rattle.loops.proofs.Fill.{fill-end, fill-list}
+use Rattle.loops.proofs.Tests.{each-at, at-each, all-turn, all-fails, all-end}
+use Rattle.floats.specs.Operators.{zero₃₂, at}
+use Rattle.definition.specs.Reader.{littleEndian, size, numbers, kept, floats, refused, read}
+use Rattle.kaldi_io.specs.Answers.{Ready}
+use Rattle.kaldi_io.proofs.Bytes.{bytes-ok, bytes-short, both-true}
+
+-- ---- which patterns are finite
+
+odd-finite : (d : ℕ) (s : Bool) (q k l : ℕ) → finite (odd d s q k l) ≡ true
+unfolding odd
+odd-finite d s zero k l = refl
+odd-finite d s (suc q) k l = refl
+
+fields-finite : (a b s : Bool) (v : Float) → finite v ≡ true → finite (cond a (cond b (inf s) nan) v) ≡ not a
+fields-finite true true s v h = refl
+fields-finite true false s v h = refl
+fields-finite false b s v h = h
+
+no-ones : (f : Format) → eqb 0 (ones f) ≡ false
+no-ones binary32 = refl
+no-ones binary64 = refl
+
+ofFields-finite : (f : Format) (s : Bool) (x t : ℕ) → finite (ofFields f s x t) ≡ not (eqb x (ones f))
+unfolding ofFields
+ofFields-finite f s zero t = odd-finite (prec f) s t 0 (low f) ∙ sym (ap not (no-ones f))
+ofFields-finite f s (suc x) t = fields-finite (eqb (suc x) (ones f)) (eqb t 0) s (odd (prec f) s (hid f + t) x (low f)) (odd-finite (prec f) s (hid f + t) x (low f))
+
+finite-field : (f : Format) (b : ℕ) → finite (ofBits f b) ≡ not (eqb (b % top f / hid f) (ones f))
+unfolding ofBits
+finite-field f b = ofFields-finite f (leb (top f) b) (b % top f / hid f) (b % hid f)
+
+zero-is : (f : Format) → ofBits f 0 ≡ zero₃₂
+unfolding ofBits ofFields odd
+zero-is binary32 = refl
+zero-is binary64 = refl
+
+not-nan : (x : Float) → finite x ≡ true → isNan x ≡ false
+unfolding isNan
+not-nan nan e = absurd (false≢true e)
+not-nan (inf s) e = refl
+not-nan (fin s m e) h = refl
+
+-- a finite pattern may become a float
+pub finite-pattern : (f : Format) (b : ℕ) → finite (ofBits f b) ≡ true → T (not (nanBits f b))
+finite-pattern f b e = subst (λ (t : Bool). T (not t)) (sym (nanBits-is f b ∙ not-nan (ofBits f b) e)) tt
+
+kept-finite : (positive : Bool) (x : Float) → kept positive x ≡ true → finite x ≡ true
+unfolding kept
+kept-finite true x e = both-true (finite x) (lt zero₃₂ x) e .0
+kept-finite false x e = e
+
+pub kept-is : (x : Float) → kept false x ≡ finite x
+unfolding kept
+kept-is x = refl
+
+-- the tests that code makes of a pattern
+module _ (f : Format) (positive : Bool) (b : ℕ) where
+  pub pattern-out : b % top f / hid f ≡ ones f → false ≡ kept positive (ofBits f b)
+  unfolding kept
+  pattern-out e = let h : finite (ofBits f b) ≡ false = finite-field f b ∙ ap not (eq-eqb _ _ e) in by-test positive (λ t. rw (t, h)) (λ t. rw t (sym h))
+
+  module _ (ok : b % top f / hid f ≡ ones f → ⊥) where
+    pub pattern-finite : finite (ofBits f b) ≡ true
+    pattern-finite = finite-field f b ∙ ap not (ne-eqb _ _ ok)
+
+    pub pattern-any : positive ≡ false → true ≡ kept positive (ofBits f b)
+    unfolding kept
+    pattern-any e = rw e (sym pattern-finite)
+
+    pub pattern-positive : positive ≡ true → lt (ofBits f 0) (ofBits f b) ≡ kept positive (ofBits f b)
+    unfolding kept
+    pattern-positive e = rw (e, zero-is) (simp pattern-finite)
+
+-- ---- the numbers of a list of bytes
+
+numbers-cons : (f : Format) (n : ℕ) (l : List ℕ) → numbers f (suc n) l ≡ ofBits f (littleEndian (take (size f) l)) ∷ numbers f n (drop (size f) l)
+unfolding numbers
+numbers-cons f n l = refl
+
+pub numbers-length : (f : Format) (n : ℕ) (l : List ℕ) → length (numbers f n l) ≡ n
+unfolding numbers
+numbers-length f zero l = refl
+numbers-length f (suc n) l = ap suc (numbers-length f n (drop (size f) l))
+
+drop-take : {A : Type 0} (m n : ℕ) (l : List A) → drop m (take (m + n) l) ≡ take n (drop m l)
+drop-take zero n l = ap (λ (k : ℕ). take k l) (zero-add n)
+drop-take (suc m) n [] = ap (λ (k : ℕ). drop (suc m) (take k [])) (suc-add m n) ∙ sym (take-nil n)
+drop-take (suc m) n (x ∷ l) = ap (λ (k : ℕ). drop (suc m) (take k (x ∷ l))) (suc-add m n) ∙ drop-take m n l
+
+-- only their own bytes count
+numbers-take : (f : Format) (n : ℕ) (l : List ℕ) → numbers f n (take (n * size f) l) ≡ numbers f n l
+unfolding numbers
+numbers-take f zero l = refl
+numbers-take f (suc n) l =
+    let e : suc n * size f ≡ size f + n * size f = suc-mul n (size f) ∙ add-comm (n * size f) (size f) in
+    let p : take (size f) (take (suc n * size f) l) ≡ take (size f) l = rw e (take-take (size f) (size f + n * size f) l (le-add-right (size f) (n * size f))) in
+    let q : drop (size f) (take (suc n * size f) l) ≡ take (n * size f) (drop (size f) l) = rw e (drop-take (size f) (n * size f) l) in
+    rw (p, q, numbers-take f n (drop (size f) l))
+
+-- number i stands i sizes further
+pub numbers-at : (f : Format) (n : ℕ) (s : List ℕ) (p i : ℕ) → i < n → at (numbers f n (drop p s)) i ≡ ofBits f (littleEndian (take (size f) (drop (p + size f * i) s)))
+numbers-at f zero s p i h = absurd (not-suc-le-zero h)
+numbers-at f (suc n) s p zero h =
+    let e : p ≡ p + size f * 0 = sym (rw mul-zero (add-zero p)) in
+    ap (λ (l : List Float). at l 0) (numbers-cons f n (drop p s)) ∙ ap (λ (q : ℕ). ofBits f (littleEndian (take (size f) (drop q s)))) e
+numbers-at f (suc n) s p (suc i) h =
+    let e : p + size f + size f * i ≡ p + size f * suc i = rw mul-suc (omega arith) in
+    ap (λ (l : List Float). at l (suc i)) (numbers-cons f n (drop p s))
+    ∙ ap (λ (l : List ℕ). at (numbers f n l) i) (drop-drop (size f) p s)
+    ∙ numbers-at f n s (p + size f) i (le-of-suc-le-suc h)
+    ∙ ap (λ (q : ℕ). ofBits f (littleEndian (take (size f) (drop q s)))) e
+
+-- ---- a run of numbers, as the loop over it goes
+
+module _ (f : Format) (positive : Bool) (n : ℕ) (s : List ℕ) (p : ℕ) where
+  pub floats-short : length s - p < n * size f → refused 2 ≡ floats f positive n s p
+  unfolding floats
+  floats-short h = simp (bytes-short (n * size f) s p h)
+
+  module _ (fits : n * size f ≤ length s - p) where
+    floats-bad : allOf (kept positive) (numbers f n (drop p s)) ≡ false → refused 6 ≡ floats f positive n s p
+    unfolding floats
+    floats-bad e = simp (bytes-ok (n * size f) s p fits, numbers-take, e)
+
+    floats-good : allOf (kept positive) (numbers f n (drop p s)) ≡ true → read (numbers f n (drop p s)) (p + n * size f) ≡ floats f positive n s p
+    unfolding floats
+    floats-good e = simp (bytes-ok (n * size f) s p fits, numbers-take, e)
+
+    -- the first i are passed
+    module _ (i : ℕ) (so-far : allOf (kept positive) (drop i (numbers f n (drop p s))) ≡ allOf (kept positive) (numbers f n (drop p s))) where
+      module _ (l : i < n) {x : ℕ} (is : x ≡ littleEndian (take (size f) (drop (p + size f * i) s))) where
+        known : {b : Bool} → kept positive (ofBits f x) ≡ b → kept positive (at (numbers f n (drop p s)) i) ≡ b
+        known e = ap (kept positive) (numbers-at f n s p i l ∙ ap (ofBits f) (sym is)) ∙ e
+
+        pub floats-stop : kept positive (ofBits f x) ≡ false → refused 6 ≡ floats f positive n s p
+        floats-stop e = floats-bad (sym (all-fails (kept positive) nan _ i (rw numbers-length l) (known e) so-far))
+
+        pub floats-turn : kept positive (ofBits f x) ≡ true → allOf (kept positive) (drop (i + 1) (numbers f n (drop p s))) ≡ allOf (kept positive) (numbers f n (drop p s))
+        floats-turn e = all-turn (kept positive) nan _ i (rw numbers-length l) (known e) so-far
+
+      module _ (l : n ≤ i) where
+        passed : allOf (kept positive) (numbers f n (drop p s)) ≡ true
+        passed = sym (all-end (kept positive) _ i (rw numbers-length l) so-far)
+
+        pub floats-end : (z : ℕ) → z ≡ p + n * size f → read (numbers f n (drop p s)) z ≡ floats f positive n s p
+        floats-end z e = rw e (floats-good passed)
+
+        pub floats-ready : Ready f n s p
+        floats-ready =
+            record { inside = fits; good = at-each finite nan _ (λ k h. kept-finite positive _ (each-at (kept positive) nan _ k passed h)) }
+
+-- ---- a number, and all of them, once they are checked
+
+module _ (f : Format) (n : ℕ) (s : List ℕ) (p i : ℕ) {x : ℕ} (l : i < n) (is : x ≡ littleEndian (take (size f) (drop (p + size f * i) s))) where
+  pub number-is : ofBits f x ≡ at (numbers f n (drop p s)) i
+  number-is = ap (ofBits f) is ∙ sym (numbers-at f n s p i l)
+
+  pub number-finite : Ready f n s p → finite (ofBits f x) ≡ true
+  number-finite h = ap finite number-is ∙ each-at finite nan _ i (h .good) (rw numbers-length l)
+
+pub numbers-filled : (f : Format) (n i : ℕ) (l : List ℕ) (room : List Float) {x : List Float} → length room ≡ n → i ≤ n → n ≤ i → x ≡ fill i (at (numbers f n l)) room → x ≡ numbers f n l
+numbers-filled f n i l room e p q h =
+    fill-end _ i n room p q h ∙ ap (λ (k : ℕ). fill k (at (numbers f n l)) room) (sym (numbers-length f n l)) ∙ fill-list nan (numbers f n l) room (e ∙ sym (numbers-length f n l))

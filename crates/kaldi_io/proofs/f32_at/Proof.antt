@@ -1,0 +1,35 @@
+use native.Mathlib.Omega.{arith}
+use lib.Ieee.{binary32}
+use Rattle.kaldi_io.proofs.Numbers.{finite-pattern, number-is, number-finite}
+use Rattle.kaldi_io.proofs.f32_at.Statement.{statement}
+use Rattle.kaldi_io.proofs.f32_at.Tie as tie
+
+mul-u32-at : tie.Need-mul-u32-at
+mul-u32-at c = omega (arith, c .before .pre .0 .inside)
+
+add-u32-at : tie.Need-add-u32-at
+add-u32-at c = omega (arith, c .before .pre .0 .inside)
+
+u32-at-requires : tie.Need-u32-at-requires
+u32-at-requires c κs = omega (arith, c .before .pre .0 .inside)
+
+float-from-bits-result : tie.Need-float-from-bits-result
+float-from-bits-result c =
+    let a = c .before .before .args in
+    let pre = c .before .before .pre in
+    finite-pattern binary32 _ (number-finite binary32 (a .n) (a .s .now) (a .from) (a .i) (pre .1) (c .u32-at .ensures) (pre .0))
+
+returns : tie.Need-returns
+returns c =
+    let a = c .before .before .args in
+    number-is binary32 (a .n) (a .s .now) (a .from) (a .i) (c .before .before .pre .1) (c .u32-at .ensures)
+
+pub f32-at-spec : {M : Type 1} → statement M
+f32-at-spec =
+    tie.close
+    (tie.spec
+    mul-u32-at
+    add-u32-at
+    u32-at-requires
+    float-from-bits-result
+    returns)

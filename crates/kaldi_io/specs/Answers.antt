@@ -1,0 +1,109 @@
+-- What the answers say: a refusal's number, or a value and the next position, as the definition's parsers have them. Numbers stay in the
+-- bytes s, and an answer says where.
+use mathlib.Core.Path.{_≡_}
+use mathlib.Core.Bool.{true}
+use mathlib.Core.List.{List}
+use Prim.Native.Nat.{ℕ, _+_, _-_, _*_, _≤_}
+use lib.ListN.{length, take, drop}
+use lib.Ieee.{Float, Format, binary64}
+use lib.Ieee.Scale.{finite}
+use Rattle.loops.specs.Lists.{allOf}
+use Rattle.definition.specs.Options.{maxFeat}
+use Rattle.definition.specs.Reader.{Got, read, refused, size, numbers}
+use Rattle.definition.specs.Kaldi as K
+use Rattle.definition.specs.Kaldi.{triangle}
+use Rattle.kaldi_io.specs.declared.Next.{Next}
+use Rattle.kaldi_io.specs.declared.Next.the-variants as N
+use Rattle.kaldi_io.specs.declared.Dim.{Dim}
+use Rattle.kaldi_io.specs.declared.Dim.the-variants as D
+use Rattle.kaldi_io.specs.declared.Word.{Word}
+use Rattle.kaldi_io.specs.declared.Word.the-variants as W
+use Rattle.kaldi_io.specs.declared.Number.{Number}
+use Rattle.kaldi_io.specs.declared.Number.the-variants as X
+use Rattle.kaldi_io.specs.declared.Vector.{Vector}
+use Rattle.kaldi_io.specs.declared.Vector.the-variants as L
+use Rattle.kaldi_io.specs.declared.Matrix.{Matrix}
+use Rattle.kaldi_io.specs.declared.Matrix.the-variants as M
+use Rattle.kaldi_io.specs.declared.Packed.{Packed}
+use Rattle.kaldi_io.specs.declared.Packed.the-variants as P
+
+-- ---- items
+
+abbrev pub nextOf : Next → Got (Unit {0})
+nextOf (N.At next) = read tt next
+nextOf (N.Refused n) = refused n
+
+abbrev pub dimOf : Dim → Got ℕ
+dimOf (D.Is n next) = read n next
+dimOf (D.Refused r) = refused r
+
+abbrev pub numberOf : Number → Got Float
+numberOf (X.Is x next) = read x next
+numberOf (X.Refused r) = refused r
+
+abbrev pub wordOf : List ℕ → Word → Got (List ℕ)
+wordOf s (W.Is from len next) = read (take len (drop from s)) next
+wordOf s (W.Refused r) = refused r
+
+-- a word lies in the bytes
+abbrev pub wordIn : List ℕ → Word → Type 0
+wordIn s (W.Is from len next) = from + len ≤ length s
+wordIn s (W.Refused r) = Unit {0}
+
+-- ---- numbers that were checked
+
+abbrev pub floatsOf : Format → ℕ → List ℕ → ℕ → Next → Got (List Float)
+floatsOf f n s at (N.At next) = read (numbers f n (drop at s)) next
+floatsOf f n s at (N.Refused r) = refused r
+
+-- n numbers can be read from a place: they are in the bytes, and finite
+pub record Ready (f : Format) (n : ℕ) (s : List ℕ) (at : ℕ) : Type 0 where
+  pub inside : n * size f ≤ length s - at
+  pub good : allOf finite (numbers f n (drop at s)) ≡ true
+
+abbrev pub floatsIn : Format → ℕ → List ℕ → ℕ → Next → Type 0
+floatsIn f n s at (N.At next) = Ready f n s at
+floatsIn f n s at (N.Refused r) = Unit {0}
+
+-- ---- blocks
+
+abbrev pub vectorOf : Format → List ℕ → Vector → Got (List Float)
+vectorOf f s (L.Is len from next) = read (numbers f len (drop from s)) next
+vectorOf f s (L.Refused r) = refused r
+
+pub record VectorIn (f : Format) (most : ℕ) (s : List ℕ) (len from : ℕ) : Type 0 where
+  pub ready : Ready f len s from
+  pub low : 1 ≤ len
+  pub high : len ≤ most
+
+abbrev pub vectorIn : Format → ℕ → List ℕ → Vector → Type 0
+vectorIn f most s (L.Is len from next) = VectorIn f most s len from
+vectorIn f most s (L.Refused r) = Unit {0}
+
+abbrev pub matrixOf : Format → List ℕ → Matrix → Got K.Matrix
+matrixOf f s (M.Is rows cols from next) = read (record { rows = rows; cols = cols; nums = numbers f (rows * cols) (drop from s) }) next
+matrixOf f s (M.Refused r) = refused r
+
+pub record MatrixIn (f : Format) (most-rows most-cols : ℕ) (s : List ℕ) (rows cols from : ℕ) : Type 0 where
+  pub ready : Ready f (rows * cols) s from
+  pub rows-low : 1 ≤ rows
+  pub rows-high : rows ≤ most-rows
+  pub cols-low : 1 ≤ cols
+  pub cols-high : cols ≤ most-cols
+
+abbrev pub matrixIn : Format → ℕ → ℕ → List ℕ → Matrix → Type 0
+matrixIn f most-rows most-cols s (M.Is rows cols from next) = MatrixIn f most-rows most-cols s rows cols from
+matrixIn f most-rows most-cols s (M.Refused r) = Unit {0}
+
+abbrev pub packedOf : List ℕ → Packed → Got K.Packed
+packedOf s (P.Is dim from next) = read (record { size = dim; nums = numbers binary64 (triangle dim) (drop from s) }) next
+packedOf s (P.Refused r) = refused r
+
+pub record PackedIn (s : List ℕ) (dim from : ℕ) : Type 0 where
+  pub ready : Ready binary64 (triangle dim) s from
+  pub low : 1 ≤ dim
+  pub high : dim ≤ maxFeat
+
+abbrev pub packedIn : List ℕ → Packed → Type 0
+packedIn s (P.Is dim from next) = PackedIn s dim from
+packedIn s (P.Refused r) = Unit {0}

@@ -1,0 +1,558 @@
+// Reader of Kaldi's binary format, on lent bytes and a position: as `KaldiReader` in the Rust. A block is checked where it stands; its
+// numbers are read from there once everything is checked.
+ghost use mathlib.Core.Path.{_≡_};
+ghost use mathlib.Core.Bool.{Bool, not};
+ghost use Prim.Native.Nat.{_+_, _-_, _≤_, _<_};
+ghost use lib.ListN.{length, take, drop};
+ghost use lib.Ieee.{binary32, binary64, ofBits};
+ghost use Rattle.floats.specs.Operators.{at};
+ghost use Rattle.definition.specs.Reader.{run, same, littleEndian, numbers, kept, floats};
+ghost use Rattle.definition.specs.Kaldi.{binary, blank, word, token, dim, vector, matrix, skipped, packedMatrix, single};
+ghost use Rattle.kaldi_io.specs.Answers.{nextOf, dimOf, wordOf, wordIn, floatsOf, floatsIn, Ready, vectorOf, vectorIn, matrixOf, matrixIn, packedOf, packedIn, numberOf};
+
+// Limits of dimensions: Gaussians, features, i-vector, LDA columns, and a block that is skipped.
+pub const MAX_GAUSS: usize = 1024;
+
+pub const MAX_FEAT: usize = 64;
+
+pub const MAX_IVECTOR: usize = 128;
+
+pub const MAX_COLUMNS: usize = 1089;
+
+pub const MAX_SKIPPED: usize = 1_000_000;
+
+// The next position, or a refusal's number.
+pub enum Next {
+    At(usize),
+    Refused(usize),
+}
+
+// A dimension.
+pub enum Dim {
+    Is { n: usize, next: usize },
+    Refused(usize),
+}
+
+// A word: its place and its length.
+pub enum Word {
+    Is {
+        from: usize,
+        len: usize,
+        next: usize,
+    },
+    Refused(usize),
+}
+
+// A number that was read.
+pub enum Number {
+    Is { x: f64, next: usize },
+    Refused(usize),
+}
+
+// A vector: its length, and where its numbers stand.
+pub enum Vector {
+    Is {
+        len: usize,
+        from: usize,
+        next: usize,
+    },
+    Refused(usize),
+}
+
+// A matrix: its lengths, and where its numbers stand.
+pub enum Matrix {
+    Is {
+        rows: usize,
+        cols: usize,
+        from: usize,
+        next: usize,
+    },
+    Refused(usize),
+}
+
+// A packed symmetric matrix: its dimension, and where its numbers stand.
+pub enum Packed {
+    Is {
+        dim: usize,
+        from: usize,
+        next: usize,
+    },
+    Refused(usize),
+}
+
+// How many bytes are left.
+fn left(s: &[u8], at: usize) -> usize
+    ensures { λ r. ⌜ r ≡ length (now (s .entry)) - at ⌝ }
+{
+    if at <= s.len() { s.len() - at } else { 0 }
+}
+
+fn expect_binary(s: &[u8], at: usize) -> Next
+    ensures { λ r. ⌜ nextOf r ≡ binary (now (s .entry)) at ⌝ }
+{
+    if left(s, at) < 2 {
+        return Next::Refused(2);
+    }
+    if s[at] != 0 {
+        return Next::Refused(3);
+    }
+    if s[at + 1] != b'B' {
+        return Next::Refused(3);
+    }
+    Next::At(at + 2)
+}
+
+// ---- tokens
+
+fn is_blank(b: u8) -> bool
+    ensures { λ r. ⌜ r ≡ blank b ⌝ }
+{
+    match b {
+        b' ' | b'\n' | b'\t' => true,
+        _ => false,
+    }
+}
+
+// The first place from `at` on that has no blank, or the end.
+fn skip_blanks(s: &[u8], at: usize) -> usize
+    ensures { λ r. ⌜ r ≡ at + run blank (drop at (now (s .entry))) ⌝ }
+{
+    let mut i = at;
+    while i < s.len() {
+        if is_blank(s[i]) {
+            i += 1;
+        } else {
+            return i;
+        }
+    }
+    i
+}
+
+// The first place from `at` on that has a blank, or the end.
+fn skip_word(s: &[u8], at: usize) -> usize
+    ensures { λ r. ⌜ r ≡ at + run (λ b. not (blank b)) (drop at (now (s .entry))) ⌝ }
+{
+    let mut i = at;
+    while i < s.len() {
+        if is_blank(s[i]) {
+            return i;
+        }
+        i += 1;
+    }
+    i
+}
+
+pub fn read_token(s: &[u8], at: usize) -> Word
+    ensures { λ r. ⌜ wordOf (now (s .entry)) r ≡ word (now (s .entry)) at ⌝ }
+    ensures { λ r. ⌜ wordIn (now (s .entry)) r ⌝ }
+{
+    let from = skip_blanks(s, at);
+    let end = skip_word(s, from);
+    if end < s.len() {
+        Word::Is {
+            from,
+            len: end - from,
+            next: end + 1,
+        }
+    } else {
+        Word::Refused(2)
+    }
+}
+
+// Whether the `len` bytes from a place are `want`.
+pub fn same_at(s: &[u8], from: usize, len: usize, want: &[u8]) -> bool
+    requires { ⌜ from + len ≤ length (now s) ⌝ }
+    ensures { λ r. ⌜ r ≡ same (take len (drop from (now (s .entry)))) (now (want .entry)) ⌝ }
+{
+    if len != want.len() {
+        return false;
+    }
+    let mut i = 0;
+    while i < len {
+        if s[from + i] != want[i] {
+            return false;
+        }
+        i += 1;
+    }
+    true
+}
+
+pub fn expect_token(s: &[u8], at: usize, want: &[u8]) -> Next
+    ensures { λ r. ⌜ nextOf r ≡ token (now (want .entry)) (now (s .entry)) at ⌝ }
+{
+    match read_token(s, at) {
+        Word::Refused(n) => Next::Refused(n),
+        Word::Is { from, len, next } => {
+            if same_at(s, from, len, want) {
+                Next::At(next)
+            } else {
+                Next::Refused(3)
+            }
+        }
+    }
+}
+
+// ---- numbers
+
+fn wide(b: u8) -> u32
+    ensures { λ r. ⌜ (r ≡ b) × (r < 256) ⌝ }
+{
+    b as u32
+}
+
+// Four bytes, and eight, from low to high.
+fn u32_at(s: &[u8], at: usize) -> u32
+    requires { ⌜ at + 4 ≤ length (now s) ⌝ }
+    ensures { λ r. ⌜ r ≡ littleEndian (take 4 (drop at (now (s .entry)))) ⌝ }
+{
+    let a = wide(s[at]);
+    let b = wide(s[at + 1]);
+    let c = wide(s[at + 2]);
+    let d = wide(s[at + 3]);
+    a + b * 256 + c * 65536 + d * 16777216
+}
+
+fn u64_at(s: &[u8], at: usize) -> u64
+    requires { ⌜ at + 8 ≤ length (now s) ⌝ }
+    ensures { λ r. ⌜ r ≡ littleEndian (take 8 (drop at (now (s .entry)))) ⌝ }
+{
+    let low = u32_at(s, at) as u64;
+    let high = u32_at(s, at + 4) as u64;
+    low + high * 4294967296
+}
+
+// The size byte 4, and a number from `low` to `high`.
+pub fn read_dim(s: &[u8], at: usize, low: usize, high: usize) -> Dim
+    ensures { λ r. ⌜ dimOf r ≡ dim low high (now (s .entry)) at ⌝ }
+{
+    if left(s, at) == 0 {
+        return Dim::Refused(2);
+    }
+    if s[at] != 4 {
+        return Dim::Refused(3);
+    }
+    if left(s, at + 1) < 4 {
+        return Dim::Refused(2);
+    }
+    let n = u32_at(s, at + 1) as usize;
+    if n < low {
+        return Dim::Refused(4);
+    }
+    if high < n {
+        return Dim::Refused(4);
+    }
+    Dim::Is { n, next: at + 5 }
+}
+
+// Whether a pattern is that of a number to keep: finite, and above 0 where that is asked. The exponent's bits are looked at first, so that
+// no pattern of a NaN becomes a float.
+fn kept_f32(bits: u32, positive: bool) -> bool
+    ensures { λ r. ⌜ r ≡ kept positive (ofBits binary32 bits) ⌝ }
+{
+    if bits % 2147483648 / 8388608 == 255 {
+        return false;
+    }
+    if positive {
+        return 0.0 < f32::from_bits(bits);
+    }
+    true
+}
+
+fn kept_f64(bits: u64, positive: bool) -> bool
+    ensures { λ r. ⌜ r ≡ kept positive (ofBits binary64 bits) ⌝ }
+{
+    if bits % 9223372036854775808 / 4503599627370496 == 2047 {
+        return false;
+    }
+    if positive {
+        return 0.0 < f64::from_bits(bits);
+    }
+    true
+}
+
+// The size byte 8, and a finite number.
+pub fn read_f64(s: &[u8], at: usize) -> Number
+    ensures { λ r. ⌜ numberOf r ≡ single (now (s .entry)) at ⌝ }
+{
+    if left(s, at) < 1 {
+        return Number::Refused(2);
+    }
+    if s[at] != 8 {
+        return Number::Refused(3);
+    }
+    if left(s, at + 1) < 8 {
+        return Number::Refused(2);
+    }
+    let bits = u64_at(s, at + 1);
+    if kept_f64(bits, false) {
+        Number::Is {
+            x: f64::from_bits(bits),
+            next: at + 9,
+        }
+    } else {
+        Number::Refused(6)
+    }
+}
+
+// ---- runs of numbers
+
+// n numbers to keep: their whole extent, then each of them.
+fn check_f32s(s: &[u8], at: usize, n: usize, positive: bool) -> Next
+    ensures { λ r. ⌜ floatsOf binary32 n (now (s .entry)) at r ≡ floats binary32 positive n (now (s .entry)) at ⌝ }
+    ensures { λ r. ⌜ floatsIn binary32 n (now (s .entry)) at r ⌝ }
+{
+    if left(s, at) / 4 < n {
+        return Next::Refused(2);
+    }
+    let mut i = 0;
+    while i < n {
+        if !kept_f32(u32_at(s, at + 4 * i), positive) {
+            return Next::Refused(6);
+        }
+        i += 1;
+    }
+    Next::At(at + 4 * n)
+}
+
+fn check_f64s(s: &[u8], at: usize, n: usize, positive: bool) -> Next
+    ensures { λ r. ⌜ floatsOf binary64 n (now (s .entry)) at r ≡ floats binary64 positive n (now (s .entry)) at ⌝ }
+    ensures { λ r. ⌜ floatsIn binary64 n (now (s .entry)) at r ⌝ }
+{
+    if left(s, at) / 8 < n {
+        return Next::Refused(2);
+    }
+    let mut i = 0;
+    while i < n {
+        if !kept_f64(u64_at(s, at + 8 * i), positive) {
+            return Next::Refused(6);
+        }
+        i += 1;
+    }
+    Next::At(at + 8 * n)
+}
+
+// Number i of n that were checked.
+pub fn f32_at(s: &[u8], from: usize, n: usize, i: usize) -> f32
+    requires { ⌜ Ready binary32 n (now s) from ⌝ }
+    requires { ⌜ i < n ⌝ }
+    ensures { λ r. ⌜ r ≡ at (numbers binary32 n (drop from (now (s .entry)))) i ⌝ }
+{
+    f32::from_bits(u32_at(s, from + 4 * i))
+}
+
+pub fn f64_at(s: &[u8], from: usize, n: usize, i: usize) -> f64
+    requires { ⌜ Ready binary64 n (now s) from ⌝ }
+    requires { ⌜ i < n ⌝ }
+    ensures { λ r. ⌜ r ≡ at (numbers binary64 n (drop from (now (s .entry)))) i ⌝ }
+{
+    f64::from_bits(u64_at(s, from + 8 * i))
+}
+
+// All of them, into a room that they fill.
+pub fn fill_f32s(s: &[u8], from: usize, out: &mut [f32])
+    requires { ⌜ Ready binary32 (length (now out)) (now s) from ⌝ }
+    ensures { λ _. ⌜ now (out .exit) ≡ numbers binary32 (length (now (out .entry))) (drop from (now (s .entry))) ⌝ }
+{
+    let n = out.len();
+    let mut i = 0;
+    while i < n {
+        out[i] = f32_at(s, from, n, i);
+        i += 1;
+    }
+}
+
+pub fn fill_f64s(s: &[u8], from: usize, out: &mut [f64])
+    requires { ⌜ Ready binary64 (length (now out)) (now s) from ⌝ }
+    ensures { λ _. ⌜ now (out .exit) ≡ numbers binary64 (length (now (out .entry))) (drop from (now (s .entry))) ⌝ }
+{
+    let n = out.len();
+    let mut i = 0;
+    while i < n {
+        out[i] = f64_at(s, from, n, i);
+        i += 1;
+    }
+}
+
+// ---- blocks
+
+// A vector of at most `most` numbers.
+pub fn check_float_vec(s: &[u8], at: usize, positive: bool, most: usize) -> Vector
+    ensures { λ r. ⌜ vectorOf binary32 (now (s .entry)) r ≡ vector binary32 positive most (now (s .entry)) at ⌝ }
+    ensures { λ r. ⌜ vectorIn binary32 most (now (s .entry)) r ⌝ }
+{
+    let p = match expect_token(s, at, b"FV") {
+        Next::At(next) => next,
+        Next::Refused(e) => return Vector::Refused(e),
+    };
+    match read_dim(s, p, 1, most) {
+        Dim::Refused(e) => Vector::Refused(e),
+        Dim::Is { n, next: from } => match check_f32s(s, from, n, positive) {
+            Next::Refused(e) => Vector::Refused(e),
+            Next::At(next) => Vector::Is { len: n, from, next },
+        },
+    }
+}
+
+// A matrix, row after row.
+pub fn check_float_matrix(
+    s: &[u8],
+    at: usize,
+    positive: bool,
+    most_rows: usize,
+    most_cols: usize,
+) -> Matrix
+    requires { ⌜ («most_rows» ≤ 1000000) × («most_cols» ≤ 1000000) ⌝ }
+    ensures { λ r. ⌜ matrixOf binary32 (now (s .entry)) r ≡ matrix binary32 positive «most_rows» «most_cols» (now (s .entry)) at ⌝ }
+    ensures { λ r. ⌜ matrixIn binary32 «most_rows» «most_cols» (now (s .entry)) r ⌝ }
+{
+    let p = match expect_token(s, at, b"FM") {
+        Next::At(next) => next,
+        Next::Refused(e) => return Matrix::Refused(e),
+    };
+    match read_dim(s, p, 1, most_rows) {
+        Dim::Refused(e) => Matrix::Refused(e),
+        Dim::Is { n: rows, next: q } => match read_dim(s, q, 1, most_cols) {
+            Dim::Refused(e) => Matrix::Refused(e),
+            Dim::Is {
+                n: cols,
+                next: from,
+            } => match check_f32s(s, from, rows * cols, positive) {
+                Next::Refused(e) => Matrix::Refused(e),
+                Next::At(next) => Matrix::Is {
+                    rows,
+                    cols,
+                    from,
+                    next,
+                },
+            },
+        },
+    }
+}
+
+pub fn check_double_matrix(
+    s: &[u8],
+    at: usize,
+    positive: bool,
+    most_rows: usize,
+    most_cols: usize,
+) -> Matrix
+    requires { ⌜ («most_rows» ≤ 1000000) × («most_cols» ≤ 1000000) ⌝ }
+    ensures { λ r. ⌜ matrixOf binary64 (now (s .entry)) r ≡ matrix binary64 positive «most_rows» «most_cols» (now (s .entry)) at ⌝ }
+    ensures { λ r. ⌜ matrixIn binary64 «most_rows» «most_cols» (now (s .entry)) r ⌝ }
+{
+    let p = match expect_token(s, at, b"DM") {
+        Next::At(next) => next,
+        Next::Refused(e) => return Matrix::Refused(e),
+    };
+    match read_dim(s, p, 1, most_rows) {
+        Dim::Refused(e) => Matrix::Refused(e),
+        Dim::Is { n: rows, next: q } => match read_dim(s, q, 1, most_cols) {
+            Dim::Refused(e) => Matrix::Refused(e),
+            Dim::Is {
+                n: cols,
+                next: from,
+            } => match check_f64s(s, from, rows * cols, positive) {
+                Next::Refused(e) => Matrix::Refused(e),
+                Next::At(next) => Matrix::Is {
+                    rows,
+                    cols,
+                    from,
+                    next,
+                },
+            },
+        },
+    }
+}
+
+// A symmetric matrix: its lower triangle, row after row.
+pub fn check_packed_double(s: &[u8], at: usize) -> Packed
+    ensures { λ r. ⌜ packedOf (now (s .entry)) r ≡ packedMatrix (now (s .entry)) at ⌝ }
+    ensures { λ r. ⌜ packedIn (now (s .entry)) r ⌝ }
+{
+    let p = match expect_token(s, at, b"DP") {
+        Next::At(next) => next,
+        Next::Refused(e) => return Packed::Refused(e),
+    };
+    match read_dim(s, p, 1, MAX_FEAT) {
+        Dim::Refused(e) => Packed::Refused(e),
+        Dim::Is { n, next: from } => match check_f64s(s, from, n * (n + 1) / 2, false) {
+            Next::Refused(e) => Packed::Refused(e),
+            Next::At(next) => Packed::Is { dim: n, from, next },
+        },
+    }
+}
+
+// A vector that is not kept: skipped by its length.
+pub fn skip_float_vec(s: &[u8], at: usize) -> Next
+    ensures { λ r. ⌜ nextOf r ≡ skipped binary32 (now (s .entry)) at ⌝ }
+{
+    let p = match expect_token(s, at, b"FV") {
+        Next::At(next) => next,
+        Next::Refused(e) => return Next::Refused(e),
+    };
+    match read_dim(s, p, 0, MAX_SKIPPED) {
+        Dim::Refused(e) => Next::Refused(e),
+        Dim::Is { n, next: from } => {
+            if left(s, from) / 4 < n {
+                Next::Refused(2)
+            } else {
+                Next::At(from + n * 4)
+            }
+        }
+    }
+}
+
+pub fn skip_double_vec(s: &[u8], at: usize) -> Next
+    ensures { λ r. ⌜ nextOf r ≡ skipped binary64 (now (s .entry)) at ⌝ }
+{
+    let p = match expect_token(s, at, b"DV") {
+        Next::At(next) => next,
+        Next::Refused(e) => return Next::Refused(e),
+    };
+    match read_dim(s, p, 0, MAX_SKIPPED) {
+        Dim::Refused(e) => Next::Refused(e),
+        Dim::Is { n, next: from } => {
+            if left(s, from) / 8 < n {
+                Next::Refused(2)
+            } else {
+                Next::At(from + n * 8)
+            }
+        }
+    }
+}
+
+// ---- the reader
+
+// The lent bytes and a position. Each function takes the reader apart, and leaves the work to one above.
+pub struct KaldiReader<'a> {
+    pub src: &'a [u8],
+    pub at: usize,
+}
+
+impl<'a> KaldiReader<'a> {
+    pub fn new(src: &'a [u8]) -> KaldiReader<'a>
+        ensures { λ r. ⌜ (r .src ≡ src .entry) × (r .at ≡ 0) ⌝ }
+    {
+        KaldiReader { src, at: 0 }
+    }
+
+    // The reader at another place.
+    pub fn moved(self, at: usize) -> KaldiReader<'a>
+        ensures { λ r. ⌜ (r .src ≡ self .entry .src) × (r .at ≡ at) ⌝ }
+    {
+        KaldiReader { src: self.src, at }
+    }
+
+    pub fn expect_binary(self) -> Next
+        ensures { λ r. ⌜ nextOf r ≡ binary (now (self .entry .src)) (self .entry .at) ⌝ }
+    {
+        expect_binary(self.src, self.at)
+    }
+}
+
+// The mark at the start of a file.
+pub fn open_binary(s: &[u8]) -> Next
+    ensures { λ r. ⌜ nextOf r ≡ binary (now (s .entry)) 0 ⌝ }
+{
+    KaldiReader::new(s).expect_binary()
+}

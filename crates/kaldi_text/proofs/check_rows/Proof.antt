@@ -1,0 +1,259 @@
+use mathlib.Core.Path.{refl, sym, subst}
+use borrow.Author.Needs.{needs}
+use Rattle.floats.specs.Operators.{zero₆₄}
+use Rattle.definition.specs.Text.{line, rows}
+use Rattle.kaldi_io.specs.Answers.{nextOf}
+use Rattle.kaldi_io.proofs.Chain.{told, step, goes, stops, met, unmet}
+use Rattle.kaldi_text.specs.Steps.{nextIn, rowOf, rowIn}
+use Rattle.kaldi_text.proofs.Rows.{outline-refused, row-stands, row-is, too-few, uneven, even}
+use Rattle.kaldi_text.proofs.check_rows.Statement.{statement}
+use Rattle.kaldi_text.proofs.check_rows.Tie as tie
+
+expect-bracket-requires : tie.Need-expect-bracket-requires
+expect-bracket-requires c κs = search needs
+
+enum-known-next : tie.Need-enum-known-next
+enum-known-next c = search needs
+
+enum-known-e : tie.Need-enum-known-e
+enum-known-e c = search needs
+
+returns : tie.Need-returns
+unfolding rows
+returns c =
+    let expect-bracket = c .before .before .before .expect-bracket in (
+      step nextOf _ _ (expect-bracket .ensures .0) (c .before .e .given .1) refl,
+      tt,
+    )
+
+check-line-requires : tie.Need-check-line-requires
+check-line-requires c κs =
+    let a = c .before .before .before .before .before .args in
+    let expect-bracket = c .before .before .before .expect-bracket in
+    let pre = c .before .before .before .before .before .pre in
+    ((subst (nextIn (a .s .now)) (c .before .next .given .1) (expect-bracket .ensures .1)), pre)
+
+enum-known-e-2 : tie.Need-enum-known-e-2
+enum-known-e-2 c = search needs
+
+enum-known-len : tie.Need-enum-known-len
+enum-known-len c = search needs
+
+check-line-requires-2 : tie.Need-check-line-requires-2
+check-line-requires-2 c κs =
+    let a = c .before .before .before .before .before .before .before .before .before .args in
+    let check-line = c .before .before .before .check-line in
+    let pre = c .before .before .before .before .before .before .before .before .before .pre in
+    ((subst (rowIn (a .s .now)) (c .before .len .given .1) (check-line .ensures .1)) .0, pre)
+
+enum-known-e-3 : tie.Need-enum-known-e-3
+enum-known-e-3 c = search needs
+
+enum-known-len2 : tie.Need-enum-known-len2
+enum-known-len2 c = search needs
+
+expect-bracket-requires-2 : tie.Need-expect-bracket-requires-2
+expect-bracket-requires-2 c κs = search needs
+
+enum-known-next-2 : tie.Need-enum-known-next-2
+enum-known-next-2 c = search needs
+
+enum-known-e-4 : tie.Need-enum-known-e-4
+enum-known-e-4 c = search needs
+
+returns-2 : tie.Need-returns-2
+unfolding rows
+returns-2 c =
+    let expect-bracket = c .before .before .before .before .before .before .before .before .before .before .before .before .before .before .before .expect-bracket in
+    let next = c .before .before .before .before .before .before .before .before .before .before .before .before .before .next in
+    let a = c .before .before .before .before .before .before .before .before .before .before .before .before .before .before .before .before .before .args in
+    let check-line = c .before .before .before .before .before .before .before .before .before .before .before .check-line in
+    let len = c .before .before .before .before .before .before .before .before .before .len in
+    let check-line2 = c .before .before .before .before .before .before .before .check-line2 in
+    let len2 = c .before .before .before .before .before .len2 in
+    let expect-bracket2 = c .before .before .before .expect-bracket2 in (
+      step nextOf _ _ (expect-bracket .ensures .0) (next .given .1)
+          (goes _ _ (row-stands (a .s .now) (next .given .0 .0) (told rowOf (check-line .ensures .0) (len .given .1)))
+          (goes _ _ (row-stands (a .s .now) (len .given .0 .1 .1 .0) (told rowOf (check-line2 .ensures .0) (len2 .given .1)))
+          (step nextOf _ _ (expect-bracket2 .ensures .0) (c .before .e4 .given .1) refl))),
+      tt,
+    )
+
+expect-end-requires : tie.Need-expect-end-requires
+expect-end-requires c κs = search needs
+
+enum-known-next-3 : tie.Need-enum-known-next-3
+enum-known-next-3 c = search needs
+
+enum-known-e-5 : tie.Need-enum-known-e-5
+enum-known-e-5 c = search needs
+
+returns-3 : tie.Need-returns-3
+unfolding rows
+returns-3 c =
+    let expect-bracket = c .before .before .before .before .before .before .before .before .before .before .before .before .before .before .before .before .before .before .before .expect-bracket in
+    let next = c .before .before .before .before .before .before .before .before .before .before .before .before .before .before .before .before .before .next in
+    let a = c .before .before .before .before .before .before .before .before .before .before .before .before .before .before .before .before .before .before .before .before .before .args in
+    let check-line = c .before .before .before .before .before .before .before .before .before .before .before .before .before .before .before .check-line in
+    let len = c .before .before .before .before .before .before .before .before .before .before .before .before .before .len in
+    let check-line2 = c .before .before .before .before .before .before .before .before .before .before .before .check-line2 in
+    let len2 = c .before .before .before .before .before .before .before .before .before .len2 in
+    let expect-bracket2 = c .before .before .before .before .before .before .before .expect-bracket2 in
+    let next2 = c .before .before .before .before .before .next2 in
+    let expect-end = c .before .before .before .expect-end in (
+      step nextOf _ _ (expect-bracket .ensures .0) (next .given .1)
+          (goes _ _ (row-stands (a .s .now) (next .given .0 .0) (told rowOf (check-line .ensures .0) (len .given .1)))
+          (goes _ _ (row-stands (a .s .now) (len .given .0 .1 .1 .0) (told rowOf (check-line2 .ensures .0) (len2 .given .1)))
+          (step nextOf _ _ (expect-bracket2 .ensures .0) (next2 .given .1)
+          (step nextOf _ _ (expect-end .ensures) (c .before .e5 .given .1) refl)))),
+      tt,
+    )
+
+returns-4 : tie.Need-returns-4
+unfolding rows
+returns-4 c =
+    let expect-bracket = c .before .before .before .before .before .before .before .before .before .before .before .before .before .before .before .before .before .before .before .before .expect-bracket in
+    let next = c .before .before .before .before .before .before .before .before .before .before .before .before .before .before .before .before .before .before .next in
+    let a = c .before .before .before .before .before .before .before .before .before .before .before .before .before .before .before .before .before .before .before .before .before .before .args in
+    let check-line = c .before .before .before .before .before .before .before .before .before .before .before .before .before .before .before .before .check-line in
+    let len = c .before .before .before .before .before .before .before .before .before .before .before .before .before .before .len in
+    let check-line2 = c .before .before .before .before .before .before .before .before .before .before .before .before .check-line2 in
+    let len2 = c .before .before .before .before .before .before .before .before .before .before .len2 in
+    let expect-bracket2 = c .before .before .before .before .before .before .before .before .expect-bracket2 in
+    let next2 = c .before .before .before .before .before .before .next2 in
+    let expect-end = c .before .before .before .before .expect-end in (
+      step nextOf _ _ (expect-bracket .ensures .0) (next .given .1)
+          (goes _ _ (row-stands (a .s .now) (next .given .0 .0) (told rowOf (check-line .ensures .0) (len .given .1)))
+          (goes _ _ (row-stands (a .s .now) (len .given .0 .1 .1 .0) (told rowOf (check-line2 .ensures .0) (len2 .given .1)))
+          (step nextOf _ _ (expect-bracket2 .ensures .0) (next2 .given .1)
+          (step nextOf _ _ (expect-end .ensures) (c .before .before .next3 .given .1)
+          (stops _ _ (sym (unmet 7 _ _ (too-few (a .s .now) (next .given .0 .0) (told rowOf (check-line .ensures .0) (len .given .1)) (told rowOf (check-line2 .ensures .0) (len2 .given .1)) (c .if1 .taken)))) refl))))),
+      tt,
+    )
+
+returns-5 : tie.Need-returns-5
+unfolding rows
+returns-5 c =
+    let expect-bracket = c .before .before .before .before .before .before .before .before .before .before .before .before .before .before .before .before .before .before .before .before .before .expect-bracket in
+    let next = c .before .before .before .before .before .before .before .before .before .before .before .before .before .before .before .before .before .before .before .next in
+    let a = c .before .before .before .before .before .before .before .before .before .before .before .before .before .before .before .before .before .before .before .before .before .before .before .args in
+    let check-line = c .before .before .before .before .before .before .before .before .before .before .before .before .before .before .before .before .before .check-line in
+    let len = c .before .before .before .before .before .before .before .before .before .before .before .before .before .before .before .len in
+    let check-line2 = c .before .before .before .before .before .before .before .before .before .before .before .before .before .check-line2 in
+    let len2 = c .before .before .before .before .before .before .before .before .before .before .before .len2 in
+    let expect-bracket2 = c .before .before .before .before .before .before .before .before .before .expect-bracket2 in
+    let next2 = c .before .before .before .before .before .before .before .next2 in
+    let expect-end = c .before .before .before .before .before .expect-end in
+    let next3 = c .before .before .before .next3 in (
+      step nextOf _ _ (expect-bracket .ensures .0) (next .given .1)
+          (goes _ _ (row-stands (a .s .now) (next .given .0 .0) (told rowOf (check-line .ensures .0) (len .given .1)))
+          (goes _ _ (row-stands (a .s .now) (len .given .0 .1 .1 .0) (told rowOf (check-line2 .ensures .0) (len2 .given .1)))
+          (step nextOf _ _ (expect-bracket2 .ensures .0) (next2 .given .1)
+          (step nextOf _ _ (expect-end .ensures) (next3 .given .1)
+          (stops _ _ (sym (unmet 7 _ _ (uneven (a .s .now) (next .given .0 .0) (told rowOf (check-line .ensures .0) (len .given .1)) (told rowOf (check-line2 .ensures .0) (len2 .given .1)) (c .before .if1 .left) (c .if2 .taken)))) refl))))),
+      tt,
+    )
+
+returns-6 : tie.Need-returns-6
+unfolding rows
+returns-6 c =
+    let expect-bracket = c .before .before .before .before .before .before .before .expect-bracket in
+    let next = c .before .before .before .before .before .next in
+    let a = c .before .before .before .before .before .before .before .before .before .args in
+    let check-line = c .before .before .before .check-line in (
+      step nextOf _ _ (expect-bracket .ensures .0) (next .given .1)
+          (stops _ _ (outline-refused zero₆₄ (line (a .s .now) (next .given .0 .0)) (told rowOf (check-line .ensures .0) (c .before .e2 .given .1))) refl),
+      tt,
+    )
+
+returns-7 : tie.Need-returns-7
+unfolding rows
+returns-7 c =
+    let expect-bracket = c .before .before .before .before .before .before .before .before .before .before .before .expect-bracket in
+    let next = c .before .before .before .before .before .before .before .before .before .next in
+    let a = c .before .before .before .before .before .before .before .before .before .before .before .before .before .args in
+    let check-line = c .before .before .before .before .before .before .before .check-line in
+    let len = c .before .before .before .before .before .len in
+    let check-line2 = c .before .before .before .check-line2 in (
+      step nextOf _ _ (expect-bracket .ensures .0) (next .given .1)
+          (goes _ _ (row-stands (a .s .now) (next .given .0 .0) (told rowOf (check-line .ensures .0) (len .given .1)))
+          (stops _ _ (outline-refused zero₆₄ (line (a .s .now) (len .given .0 .1 .1 .0)) (told rowOf (check-line2 .ensures .0) (c .before .e3 .given .1))) refl)),
+      tt,
+    )
+
+returns-8 : tie.Need-returns-8
+unfolding rows
+returns-8 c =
+    let expect-bracket = c .before .before .before .before .before .before .before .before .before .before .before .before .before .before .before .before .before .before .before .before .before .before .expect-bracket in
+    let next = c .before .before .before .before .before .before .before .before .before .before .before .before .before .before .before .before .before .before .before .before .next in
+    let a = c .before .before .before .before .before .before .before .before .before .before .before .before .before .before .before .before .before .before .before .before .before .before .before .before .args in
+    let check-line = c .before .before .before .before .before .before .before .before .before .before .before .before .before .before .before .before .before .before .check-line in
+    let len = c .before .before .before .before .before .before .before .before .before .before .before .before .before .before .before .before .len in
+    let check-line2 = c .before .before .before .before .before .before .before .before .before .before .before .before .before .before .check-line2 in
+    let len2 = c .before .before .before .before .before .before .before .before .before .before .before .before .len2 in
+    let expect-bracket2 = c .before .before .before .before .before .before .before .before .before .before .expect-bracket2 in
+    let next2 = c .before .before .before .before .before .before .before .before .next2 in
+    let expect-end = c .before .before .before .before .before .before .expect-end in
+    let next3 = c .before .before .before .before .next3 in
+    let if1 = c .before .before .if1 in
+    let pre = c .before .before .before .before .before .before .before .before .before .before .before .before .before .before .before .before .before .before .before .before .before .before .before .before .pre in (
+      step nextOf _ _ (expect-bracket .ensures .0) (next .given .1)
+          (goes _ _ (row-stands (a .s .now) (next .given .0 .0) (told rowOf (check-line .ensures .0) (len .given .1)))
+          (goes _ _ (row-stands (a .s .now) (len .given .0 .1 .1 .0) (told rowOf (check-line2 .ensures .0) (len2 .given .1)))
+          (step nextOf _ _ (expect-bracket2 .ensures .0) (next2 .given .1)
+          (step nextOf _ _ (expect-end .ensures) (next3 .given .1)
+          (goes _ _ (sym (met 7 _ _ (even (a .s .now) (next .given .0 .0) (told rowOf (check-line .ensures .0) (len .given .1)) (told rowOf (check-line2 .ensures .0) (len2 .given .1)) (if1 .left) (c .before .if2 .left) (c .if3 .taken)))) refl))))),
+      row-is (a .s .now) (next .given .0 .0) (told rowOf (check-line .ensures .0) (len .given .1)) (if1 .left) ((subst (rowIn (a .s .now)) (len .given .1) (check-line .ensures .1)) .1) (subst (nextIn (a .s .now)) (next .given .1) (expect-bracket .ensures .1)) pre,
+    )
+
+returns-9 : tie.Need-returns-9
+unfolding rows
+returns-9 c =
+    let expect-bracket = c .before .before .before .before .before .before .before .before .before .before .before .before .before .before .before .before .before .before .before .before .before .before .expect-bracket in
+    let next = c .before .before .before .before .before .before .before .before .before .before .before .before .before .before .before .before .before .before .before .before .next in
+    let a = c .before .before .before .before .before .before .before .before .before .before .before .before .before .before .before .before .before .before .before .before .before .before .before .before .args in
+    let check-line = c .before .before .before .before .before .before .before .before .before .before .before .before .before .before .before .before .before .before .check-line in
+    let len = c .before .before .before .before .before .before .before .before .before .before .before .before .before .before .before .before .len in
+    let check-line2 = c .before .before .before .before .before .before .before .before .before .before .before .before .before .before .check-line2 in
+    let len2 = c .before .before .before .before .before .before .before .before .before .before .before .before .len2 in
+    let expect-bracket2 = c .before .before .before .before .before .before .before .before .before .before .expect-bracket2 in
+    let next2 = c .before .before .before .before .before .before .before .before .next2 in
+    let expect-end = c .before .before .before .before .before .before .expect-end in
+    let next3 = c .before .before .before .before .next3 in (
+      step nextOf _ _ (expect-bracket .ensures .0) (next .given .1)
+          (goes _ _ (row-stands (a .s .now) (next .given .0 .0) (told rowOf (check-line .ensures .0) (len .given .1)))
+          (goes _ _ (row-stands (a .s .now) (len .given .0 .1 .1 .0) (told rowOf (check-line2 .ensures .0) (len2 .given .1)))
+          (step nextOf _ _ (expect-bracket2 .ensures .0) (next2 .given .1)
+          (step nextOf _ _ (expect-end .ensures) (next3 .given .1)
+          (stops _ _ (sym (unmet 7 _ _ (even (a .s .now) (next .given .0 .0) (told rowOf (check-line .ensures .0) (len .given .1)) (told rowOf (check-line2 .ensures .0) (len2 .given .1)) (c .before .before .if1 .left) (c .before .if2 .left) (c .if3 .left)))) refl))))),
+      tt,
+    )
+
+pub check-rows-spec : {M : Type 1} → statement M
+check-rows-spec =
+    tie.close
+    (tie.spec
+    expect-bracket-requires
+    enum-known-next
+    enum-known-e
+    returns
+    check-line-requires
+    enum-known-e-2
+    enum-known-len
+    check-line-requires-2
+    enum-known-e-3
+    enum-known-len2
+    expect-bracket-requires-2
+    enum-known-next-2
+    enum-known-e-4
+    returns-2
+    expect-end-requires
+    enum-known-next-3
+    enum-known-e-5
+    returns-3
+    returns-4
+    returns-5
+    returns-6
+    returns-7
+    returns-8
+    returns-9)

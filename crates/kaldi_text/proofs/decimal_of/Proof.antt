@@ -1,0 +1,69 @@
+use mathlib.Core.Path.{_≡_, refl, sym, _∙_}
+use mathlib.Core.Logic.{⊎-elim}
+use Prim.Native.Nat.{_+_, _-_, _*_, _≤_, min}
+use native.Mathlib.Omega.{arith}
+use borrow.Author.Needs.{needs}
+use lib.ListN.{take, drop}
+use Rattle.definition.specs.Text.{decimal}
+use Rattle.kaldi_text.proofs.Decimals.{decimal-turn, decimal-end}
+use Rattle.kaldi_text.proofs.decimal_of.Statement.{statement}
+use Rattle.kaldi_text.proofs.decimal_of.Tie as tie
+
+abbrev Inv-loop : tie.InvT-loop
+Inv-loop s from to m cap x₀ i₀ x i =
+    (x ≤ cap) × (min (decimal m (take (to - from) (drop from s))) cap ≡ min (decimal x (take (to - i) (drop i s))) cap)
+
+abbrev μ-loop : tie.MeasureT-loop
+μ-loop s from to m cap x₀ i₀ x i = to - i
+
+loop-holds : tie.Need-loop-holds Inv-loop μ-loop
+loop-holds c = (search needs, refl)
+
+mul-y : tie.Need-mul-y Inv-loop μ-loop
+mul-y c = search needs
+
+shared-slice-read-digit-value : tie.Need-shared-slice-read-digit-value Inv-loop μ-loop
+shared-slice-read-digit-value c = search needs
+
+digit-value-requires : tie.Need-digit-value-requires Inv-loop μ-loop
+digit-value-requires c κs = search needs
+
+add-y : tie.Need-add-y Inv-loop μ-loop
+add-y c = search needs
+
+add-i : tie.Need-add-i Inv-loop μ-loop
+add-i c = search needs
+
+loop-less : tie.Need-loop-less Inv-loop μ-loop
+loop-less c = search needs
+
+loop-again : tie.Need-loop-again Inv-loop μ-loop
+loop-again c =
+    let if1 = c .if1 in
+    let loop = c .before .before .before .before .loop in
+    let digit-value = c .before .digit-value in
+    let a = c .before .before .before .before .before .before .args in
+    let is : if1 .x ≡ min (loop .x * 10 + digit-value .result) (a .cap) = ⊎-elim (λ w. omega arith) (λ w. omega arith) (if1 .came) in
+    (omega arith, loop .inv .1 ∙ decimal-turn (a .s .now) (loop .i) (a .to) (loop .x) (a .cap) (omega arith) (omega arith) (digit-value .ensures .0) is)
+
+returns : tie.Need-returns Inv-loop μ-loop
+returns c =
+    let loop = c .before .loop in
+    let a = c .before .before .before .args in
+    sym (loop .inv .1 ∙ decimal-end (a .s .now) (loop .i) (a .to) (loop .x) (a .cap) (omega arith) (omega arith))
+
+pub decimal-of-spec : {M : Type 1} → statement M
+decimal-of-spec =
+    tie.close
+    (tie.spec
+    Inv-loop
+    μ-loop
+    loop-holds
+    mul-y
+    shared-slice-read-digit-value
+    digit-value-requires
+    add-y
+    add-i
+    loop-less
+    loop-again
+    returns)

@@ -1,0 +1,39 @@
+use mathlib.Core.Path.{sym, _∙_}
+use native.Mathlib.Omega.{arith}
+use borrow.Author.Needs.{needs}
+use Rattle.kaldi_text.proofs.Sorting.{here-inside}
+use Rattle.kaldi_text.proofs.Rows.{bracket-yes, bracket-no}
+use Rattle.kaldi_text.proofs.expect_bracket.Statement.{statement}
+use Rattle.kaldi_text.proofs.expect_bracket.Tie as tie
+
+skip-spaces-requires : tie.Need-skip-spaces-requires
+skip-spaces-requires c κs = search needs
+
+byte-here-requires : tie.Need-byte-here-requires
+byte-here-requires c κs = search needs
+
+add-t7 : tie.Need-add-t7
+add-t7 c =
+    let a = c .before .before .before .before .args in
+    omega (arith, here-inside _ (a .s .now) (c .before .before .skip-spaces .result) (sym (c .before .byte-here .ensures) ∙ c .if1 .taken))
+
+returns : tie.Need-returns
+returns c =
+    let skip-spaces = c .before .before .skip-spaces in
+    let byte-here = c .before .byte-here in
+    let if1 = c .if1 in
+    let a = c .before .before .before .before .args in
+    (bracket-yes _ _ (skip-spaces .ensures) _ (sym (byte-here .ensures) ∙ if1 .taken), omega (arith, here-inside _ (a .s .now) (skip-spaces .result) (sym (byte-here .ensures) ∙ if1 .taken)))
+
+returns-2 : tie.Need-returns-2
+returns-2 c = (bracket-no _ _ (c .before .before .skip-spaces .ensures) _ (sym (c .before .byte-here .ensures) ∙ c .if1 .left), tt)
+
+pub expect-bracket-spec : {M : Type 1} → statement M
+expect-bracket-spec =
+    tie.close
+    (tie.spec
+    skip-spaces-requires
+    byte-here-requires
+    add-t7
+    returns
+    returns-2)

@@ -1,0 +1,117 @@
+use mathlib.Core.Path.{_≡_, _∙_}
+use mathlib.Core.Bool.{not, _&&_}
+use Prim.Native.Nat.{_-_, _≤_}
+use native.Mathlib.Omega.{arith}
+use borrow.Author.Needs.{needs}
+use lib.Dec.{eqb}
+use lib.ListN.{length, drop}
+use Rattle.loops.specs.Steps.{fill}
+use Rattle.loops.proofs.Fill.{fill-none, fill-turn, fill-end}
+use Rattle.floats.specs.Operators.{at}
+use Rattle.definition.specs.Reader.{read}
+use Rattle.definition.specs.Text.{space, row, line}
+use Rattle.kaldi_io.specs.Answers.{numberOf}
+use Rattle.kaldi_io.proofs.Chain.{told, placeOf}
+use Rattle.kaldi_text.specs.Answers.{cells}
+use Rattle.kaldi_text.proofs.Numbers.{run-within}
+use Rattle.kaldi_text.proofs.Rows.{line-is, row-place, row-filled, number-there, number-value, row-rest, rest-inside}
+use Rattle.kaldi_text.proofs.fill_row.Statement.{statement}
+use Rattle.kaldi_text.proofs.fill_row.Tie as tie
+
+abbrev Inv-loop : tie.InvT-loop
+Inv-loop s from out₀ n p₀ i₀ out p i =
+    (i ≤ n) × (length out ≡ n) × (n ≡ length out₀) × (p ≤ length s) × (row (66 - i) s p ≡ read (drop i (cells (line s from))) (placeOf (line s from))) × (out ≡ fill i (at (cells (line s from))) out₀)
+
+abbrev μ-loop : tie.MeasureT-loop
+μ-loop s from out₀ n p₀ i₀ out p i = n - i
+
+skip-spaces-requires : tie.Need-skip-spaces-requires Inv-loop μ-loop
+skip-spaces-requires c κs = search needs
+
+loop-holds : tie.Need-loop-holds Inv-loop μ-loop
+loop-holds c =
+    let skip-spaces = c .skip-spaces in
+    let a = c .before .before .before .args in
+    let pre = c .before .before .before .pre in
+    (search needs, search needs, search needs, omega (arith, skip-spaces .ensures, run-within space (a .s .now) (a .from) (pre .inside)), line-is _ _ (skip-spaces .ensures) ∙ row-place _ (pre .stands), fill-none _ _)
+
+skip-gaps-requires : tie.Need-skip-gaps-requires Inv-loop μ-loop
+skip-gaps-requires c κs = search needs
+
+read-number-requires : tie.Need-read-number-requires Inv-loop μ-loop
+read-number-requires c κs =
+    let a = c .before .before .before .before .before .before .args in
+    let loop = c .before .before .loop in
+    let pre = c .before .before .before .before .before .before .pre in
+    (omega (arith, c .skip-gaps .ensures, run-within (λ b. not (eqb b 10) && space b) (a .s .now) (loop .p) (loop .inv .3)), pre .short)
+
+enum-told : tie.Need-enum-told Inv-loop μ-loop
+enum-told c = search needs
+
+same-length : tie.Need-same-length Inv-loop μ-loop
+same-length c = search needs
+
+returns : tie.Need-returns Inv-loop μ-loop
+returns c =
+    let a = c .before .before .before .before .before .before .before .before .before .args in
+    let loop = c .before .before .before .before .before .loop in
+    let skip-gaps = c .before .before .before .skip-gaps in
+    let pre = c .before .before .before .before .before .before .before .before .before .pre in
+    absurd (number-there (a .s .now) (cells (line (a .s .now) (a .from))) _ (loop .i) (loop .p) (skip-gaps .ensures) (omega (arith, pre .many)) (omega (arith, pre .many, pre .high)) (loop .inv .4) (told numberOf (c .before .before .read-number .ensures) (c .enum-told .given .1)))
+
+enum-known-x : tie.Need-enum-known-x Inv-loop μ-loop
+enum-known-x c = search needs
+
+mul-out : tie.Need-mul-out Inv-loop μ-loop
+mul-out c = search needs
+
+slice-write-out : tie.Need-slice-write-out Inv-loop μ-loop
+slice-write-out c = search needs
+
+add-i : tie.Need-add-i Inv-loop μ-loop
+add-i c = search needs
+
+loop-less : tie.Need-loop-less Inv-loop μ-loop
+loop-less c = search needs
+
+loop-again : tie.Need-loop-again Inv-loop μ-loop
+loop-again c =
+    let a = c .before .before .before .before .before .before .before .before .before .before .args in
+    let loop = c .before .before .before .before .before .before .loop in
+    let skip-gaps = c .before .before .before .before .skip-gaps in
+    let pre = c .before .before .before .before .before .before .before .before .before .before .pre in
+    let read-number = c .before .before .before .read-number in
+    let x = c .before .x in
+    (search needs, search needs, search needs, rest-inside (a .s .now) (cells (line (a .s .now) (a .from))) _ (loop .i) (loop .p) (skip-gaps .ensures) (omega (arith, pre .many)) (omega (arith, pre .many, pre .high)) (loop .inv .4) (told numberOf (read-number .ensures) (x .given .1)), row-rest (a .s .now) (cells (line (a .s .now) (a .from))) _ (loop .i) (loop .p) (skip-gaps .ensures) (omega (arith, pre .many)) (omega (arith, pre .many, pre .high)) (loop .inv .4) (told numberOf (read-number .ensures) (x .given .1)), fill-turn _ _ _ (omega arith) (loop .inv .5) (number-value (a .s .now) (cells (line (a .s .now) (a .from))) _ (loop .i) (loop .p) (skip-gaps .ensures) (omega (arith, pre .many)) (omega (arith, pre .many, pre .high)) (loop .inv .4) (told numberOf (read-number .ensures) (x .given .1))))
+
+same-length-2 : tie.Need-same-length-2 Inv-loop μ-loop
+same-length-2 c = search needs
+
+returns-2 : tie.Need-returns-2 Inv-loop μ-loop
+returns-2 c =
+    let loop = c .before .loop in
+    let a = c .before .before .before .before .before .args in
+    let pre = c .before .before .before .before .before .pre in
+    fill-end _ _ _ _ (loop .inv .0) (c .loop-test .left) (loop .inv .5) ∙ row-filled _ (a .out .now) (loop .inv .2) (pre .many)
+
+pub fill-row-spec : {M : Type 1} → statement M
+fill-row-spec =
+    tie.close
+    (tie.spec
+    Inv-loop
+    μ-loop
+    skip-spaces-requires
+    loop-holds
+    skip-gaps-requires
+    read-number-requires
+    enum-told
+    same-length
+    returns
+    enum-known-x
+    mul-out
+    slice-write-out
+    add-i
+    loop-less
+    loop-again
+    same-length-2
+    returns-2)

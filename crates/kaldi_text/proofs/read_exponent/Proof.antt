@@ -1,0 +1,74 @@
+use mathlib.Core.Path.{sym, ap, _∙_}
+use mathlib.Core.List.{[], _∷_}
+use Prim.Native.Nat.{_+_}
+use native.Mathlib.Omega.{arith}
+use types.Run.{miss}
+use borrow.Author.Needs.{needs}
+use lib.Dec.{eqb}
+use Rattle.definition.specs.Options.{within}
+use Rattle.kaldi_text.specs.Steps.{tag, capped}
+use Rattle.kaldi_text.proofs.Sorting.{here-inside, other-tag}
+use Rattle.kaldi_text.proofs.Numbers.{run-within, exponent-some, exponent-none, power-none, power-some}
+use Rattle.kaldi_text.specs.declared.Kind.{Kind}
+use Rattle.kaldi_text.proofs.read_exponent.Statement.{statement}
+use Rattle.kaldi_text.proofs.read_exponent.Tie as tie
+
+kind-at-requires : tie.Need-kind-at-requires
+kind-at-requires c κs = search needs
+
+enum-told : tie.Need-enum-told
+enum-told c = search needs
+
+add-read-sign : tie.Need-add-read-sign
+add-read-sign c =
+    let a = c .before .before .before .before .args in
+    omega (arith, here-inside _ (a .s .now) (a .at) (sym (c .before .before .kind-at .ensures .exponent) ∙ ap (λ (k : Kind). eqb (tag k) 3) (c .enum-told .given .1)))
+
+read-sign-requires : tie.Need-read-sign-requires
+read-sign-requires c κs =
+    let a = c .before .before .before .before .args in
+    omega (arith, here-inside _ (a .s .now) (a .at) (sym (c .before .before .kind-at .ensures .exponent) ∙ ap (λ (k : Kind). eqb (tag k) 3) (c .enum-told .given .1)))
+
+skip-digits-requires : tie.Need-skip-digits-requires
+skip-digits-requires c κs = search needs
+
+returns : tie.Need-returns
+returns c =
+    let a = c .before .before .before .before .before .before .before .args in
+    let read-sign = c .before .before .read-sign in
+    let kind-at = c .before .before .before .before .before .kind-at in
+    let enum-told = c .before .before .before .enum-told in
+    (ap capped (power-none (a .s .now) (a .at + 1) (read-sign .ensures .1) (c .before .skip-digits .ensures) (omega (arith, run-within (within 48 57) (a .s .now) (read-sign .result .next) (read-sign .ensures .0))) (c .if1 .taken) ∙ exponent-some _ _ (sym (kind-at .ensures .exponent) ∙ ap (λ (k : Kind). eqb (tag k) 3) (enum-told .given .1))), tt)
+
+decimal-of-requires : tie.Need-decimal-of-requires
+decimal-of-requires c κs =
+    let a = c .before .before .before .before .before .before .before .args in
+    let read-sign = c .before .before .read-sign in
+    ((omega (arith, run-within (within 48 57) (a .s .now) (read-sign .result .next) (read-sign .ensures .0))), omega arith)
+
+returns-2 : tie.Need-returns-2
+returns-2 c =
+    let a = c .before .before .before .before .before .before .before .before .args in
+    let read-sign = c .before .before .before .read-sign in
+    let kind-at = c .before .before .before .before .before .before .kind-at in
+    let enum-told = c .before .before .before .before .enum-told in
+    (power-some (a .s .now) (a .at + 1) (read-sign .ensures .1) (c .before .before .skip-digits .ensures) (omega (arith, run-within (within 48 57) (a .s .now) (read-sign .result .next) (read-sign .ensures .0))) (c .before .if1 .left) (c .decimal-of .ensures) ∙ ap capped (exponent-some _ _ (sym (kind-at .ensures .exponent) ∙ ap (λ (k : Kind). eqb (tag k) 3) (enum-told .given .1))), omega arith)
+
+returns-3 : tie.Need-returns-3
+returns-3 c =
+    let kind-at = c .before .kind-at in
+    (ap capped (exponent-none _ _ (sym (kind-at .ensures .exponent) ∙ other-tag (0 ∷ 1 ∷ 2 ∷ 4 ∷ 5 ∷ []) 3 (kind-at .result) (miss (0 ∷ 1 ∷ 2 ∷ 4 ∷ 5 ∷ []) 3 tt) (c .match .keys2))), omega arith)
+
+pub read-exponent-spec : {M : Type 1} → statement M
+read-exponent-spec =
+    tie.close
+    (tie.spec
+    kind-at-requires
+    enum-told
+    add-read-sign
+    read-sign-requires
+    skip-digits-requires
+    returns
+    decimal-of-requires
+    returns-2
+    returns-3)

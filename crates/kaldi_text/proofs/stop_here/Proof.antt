@@ -1,0 +1,26 @@
+use mathlib.Core.Path.{_∙_}
+use borrow.Author.Needs.{needs}
+use Rattle.kaldi_text.proofs.Sorting.{here-in, here-past}
+use Rattle.kaldi_text.proofs.stop_here.Statement.{statement}
+use Rattle.kaldi_text.proofs.stop_here.Tie as tie
+
+shared-slice-read-is-stop : tie.Need-shared-slice-read-is-stop
+shared-slice-read-is-stop c = search needs
+
+is-stop-requires : tie.Need-is-stop-requires
+is-stop-requires c κs = search needs
+
+returns : tie.Need-returns
+returns c = c .is-stop .ensures ∙ here-in _ _ _ (c .before .before .if1 .taken)
+
+returns-2 : tie.Need-returns-2
+returns-2 c = here-past _ _ _ (c .if1 .left)
+
+pub stop-here-spec : {M : Type 1} → statement M
+stop-here-spec =
+    tie.close
+    (tie.spec
+    shared-slice-read-is-stop
+    is-stop-requires
+    returns
+    returns-2)

@@ -1,0 +1,418 @@
+-- A call that is taken keeps what holds between the program and the keeping machine.
+use mathlib.Core.Path.{_≡_, refl, sym, ap, ap₂, subst, _∙_}
+use Prim.Native.Nat.{ℕ, zero, suc, _+_, _-_, _≤_, _<_, min, max}
+use native.Mathlib.Omega.{arith}
+use mathlib.Core.Bool.{Bool, true, false, not, _||_, _&&_}
+use mathlib.Core.List.{List, [], _∷_, _++_, map, foldl}
+use lib.ListN.{length, take, getD, length-append, length-map, List·getD-map}
+use lib.Dec.{leb, ltb, eqb}
+use borrow.Author.Tests.{eqb-true, eqb-false, leb-true, leb-false, ltb-false, le-ltb, not-false}
+use lib.Ieee.{Float, nan}
+use Rattle.loops.specs.Lists.{if_then_else_, build, those, anyOf, over}
+use Rattle.loops.specs.Refusal.{firstOf}
+use Rattle.loops.specs.Ring.{rowsIn}
+use Rattle.loops.specs.Steps.{put, place}
+use Rattle.loops.proofs.Choose.{by-test, or-fails}
+use Rattle.loops.proofs.Build.{length-build, build-list, map-build}
+use Rattle.loops.proofs.Fill.{length-over, take-over, length-put}
+use Rattle.loops.proofs.Refusal.{none-first}
+use Rattle.loops.proofs.Ring.{place-in}
+use Rattle.loops.proofs.Tests.{none-at, at-none, length-those, anyOf-map}
+use Rattle.floats.specs.Operators.{_+₆₄_, at}
+use Rattle.definition.specs.declared.IvectorInfo.{IvectorInfo}
+use Rattle.definition.specs.declared.IvectorOptions.{IvectorOptions}
+use Rattle.definition.specs.declared.IvectorStream.{IvectorStream}
+use Rattle.definition.specs.declared.RoomLengths.{RoomLengths}
+use Rattle.definition.specs.declared.FrameWeight.{FrameWeight}
+use Rattle.definition.specs.Kaldi.{triangle}
+use Rattle.definition.specs.Model.{Model}
+use Rattle.definition.specs.Posteriors.{weighed, unweighted}
+use Rattle.definition.specs.Changes.{Change, Changes, insertChange, changed, reached, merged, Batch, batch}
+use Rattle.definition.specs.Estimate.{Estimate, updated}
+use Rattle.definition.specs.Machine.{Machine, machine, accepted, allFrames, framesHeld, rowsHeld, framesReady, waitingRoom, forgotten, pushTests, changeTests, fetchTests, tests, after}
+use Rattle.definition.specs.Machine as K
+use Rattle.definition.specs.Stream.{rising}
+use Rattle.definition.proofs.Agree.{Agree, Inside, updated-ext}
+use Rattle.definition.proofs.Lengths.{Long, updated-long}
+use Rattle.frame_views.specs.Ring.{ringAt, ringFrames}
+use Rattle.frame_views.specs.Waiting.{waitingIn}
+use Rattle.ivector_stream.specs.Rooms.{Tables, modelIn, Rooms, roomLengthsOf, framesIn, changesIn, estimateIn}
+use Rattle.ivector_stream.specs.Calls.{withAccepted, withChanges, pushedFrames, pushedRows, overFrames, overWeights, forgetMark, catchesUp, fetchEstimate, fetchChanges, fetchStream, fetchRooms}
+use Rattle.keeping.specs.Keeping.{Given, push, finish, change, forget, fetch, callOf, Program, program, withRings, withWaiting, leaves}
+use Rattle.keeping.proofs.Facts.{Ranges, ranges, Fitting, fitting}
+use Rattle.keeping.proofs.Waiting.{framesOf, weightsOf, waiting-over, inserts-none, inserts-rising, length-inserts, those-rising, those-none, lowest-first, lowest-at, Each, merged-each, those-each}
+use Rattle.keeping.proofs.Sound.{streamOf, Made, Inv, held-are}
+use Rattle.keeping.proofs.Pushed.{one-more, pushed-agrees}
+
+-- a higher mark holds fewer rows
+rows-fewer : (a m m′ w r : ℕ) → m ≤ m′ → a + 1 - (m + 1 - w) ≤ r → a + 1 - (m′ + 1 - w) ≤ r
+rows-fewer a m m′ w r h l = omega arith
+
+less-than : (a b : ℕ) → a ≤ b → (a ≡ b → ⊥) → a < b
+less-than a b h e = omega arith
+
+-- equal parts make equal wholes
+pub four : {A B : Type 0} (f : A → A → A → A → B) {a a′ b b′ c c′ d d′ : A} → a ≡ a′ → b ≡ b′ → c ≡ c′ → d ≡ d′ → f a b c d ≡ f a′ b′ c′ d′
+four f p q r s = rw (p, q, r, s)
+
+six : {A B : Type 0} (f : A → A → A → A → A → A → B) {a a′ b b′ c c′ d d′ e e′ g g′ : A}
+    → a ≡ a′ → b ≡ b′ → c ≡ c′ → d ≡ d′ → e ≡ e′ → g ≡ g′ → f a b c d e g ≡ f a′ b′ c′ d′ e′ g′
+six f p q r s t u = rw (p, q, r, s, t, u)
+
+-- ---- the frames of a batch have their context held
+
+module _ (o : IvectorOptions) (mark accepted : ℕ) where
+  abbrev Good : ℕ → Type 0
+  Good u = (mark ≤ u - o .«left_context») × (u < accepted)
+
+  inside-build : (m : ℕ) (h : ℕ → ℕ × FrameWeight) → ((j : ℕ) → j < m → Good (h j .0)) → Inside o mark accepted (build m h)
+  unfolding build
+  inside-build zero h p = tt
+  inside-build (suc m) h p = (p 0 (omega arith) .0, p 0 (omega arith) .1, inside-build m (λ j. h (suc j)) (λ j l. p (suc j) (omega arith)))
+
+  inside-map : (g : Change → FrameWeight) (cs : List Change) → Each Good cs → Inside o mark accepted (map (λ d. (d .0, g d)) cs)
+  inside-map g [] h = tt
+  inside-map g (c ∷ cs) h = (h .0 .0, h .0 .1, inside-map g cs (h .1))
+
+  waiting-each : (f : ℕ) (cs : List Change) → f < accepted → anyOf (λ g. ltb (g - o .«left_context») mark) (framesOf cs) ≡ false → Each Good (those (λ d. leb (d .0) f) cs)
+  waiting-each f cs l e =
+      those-each Good (λ d. leb (d .0) f) cs
+      (λ j p q.
+      let h : getD (framesOf cs) j 0 ≡ getD cs j (0, nan) .0 = List·getD-map (λ (c : Change). c .0) cs j (0, nan) in
+      let b : mark ≤ getD (framesOf cs) j 0 - o .«left_context» = ltb-false (getD (framesOf cs) j 0 - o .«left_context») mark (none-at (λ g. ltb (g - o .«left_context») mark) 0 (framesOf cs) j e (rw (length-map cs (λ (c : Change). c .0)) p)) in
+      (omega (arith, h, b), omega (arith, leb-true (getD cs j (0, nan) .0) f q)))
+
+  inside-batch : (c : Changes) (next f : ℕ) → mark ≤ next - o .«left_context» → f < accepted
+      → anyOf (λ g. ltb (g - o .«left_context») mark) (framesOf (c .waiting)) ≡ false → Inside o mark accepted (batch o c next f)
+  unfolding batch
+  inside-batch c next f p l e =
+      by-test (c .called)
+      (λ q. rw q (inside-map (λ d. weighed o (d .1)) (merged (those (λ d. leb (d .0) f) (c .waiting))) (merged-each Good _ (waiting-each f (c .waiting) l e))))
+      (λ q. rw q (inside-build (f + 1 - next) (λ j. (next + j, unweighted o)) (λ j r. (omega arith, omega arith))))
+
+module _ (i : IvectorInfo) (z : RoomLengths) (n : ℕ) (t : Tables) (made : Made i t z) where
+  abbrev M : Model
+  M = modelIn i t
+
+  abbrev dim : ℕ
+  dim = i .dims .«base_dim»
+
+  abbrev left : ℕ
+  left = i .opts .«left_context»
+
+  abbrev window : ℕ
+  window = i .opts .«cmn_window»
+
+  -- the program's state after a taken call is that of the machine after it
+  abbrev pub Next : Machine → Rooms → Given → Type 0
+  Next k w g = (w′ : Rooms) × (leaves t n (program (streamOf i z k) w) g ≡ program (streamOf i z (after M k (callOf g))) w′) × Inv i z n (after M k (callOf g)) w′
+
+  module _ (k : Machine) (w : Rooms) (v : Inv i z n k w) where
+    -- ---- finish and forget
+
+    finish-next : Next k w finish
+    unfolding leaves after
+    finish-next = (
+      w,
+      refl,
+      record {
+        lengths-are = v .lengths-are;
+        few = v .few;
+        next-is = v .next-is;
+        mark-is = v .mark-is;
+        frames-fit = v .frames-fit;
+        rows-fit = v .rows-fit;
+        waiting-fit = v .waiting-fit;
+        waiting-is = v .waiting-is;
+        in-order = v .in-order;
+        held-back = v .held-back;
+        estimate-is = v .estimate-is;
+        long = v .long;
+        agrees = v .agrees;
+      },
+    )
+
+    forget-next : (f : ℕ) → Next k w (forget f)
+    unfolding leaves after forgetMark forgotten
+    forget-next f =
+        let fs : List ℕ = framesOf (k .changes .waiting) in
+        let low : ℕ = foldl min (min f (k .next)) fs in
+        let mark′ : ℕ = max (k .mark) (low - left) in
+        let below : low ≤ min f (k .next) = lowest-first (min f (k .next)) fs in
+        let m : mark′ ≤ k .next - left = omega (arith, v .mark-is, below) in
+        let back : anyOf (λ g. ltb (g - left) mark′) fs ≡ false =
+        at-none (λ g. ltb (g - left) mark′) 0 fs (λ j l. le-ltb (getD fs j 0 - left) mark′ (omega (arith, lowest-at (min f (k .next)) fs j l, ltb-false (getD fs j 0 - left) (k .mark) (none-at (λ g. ltb (g - left) (k .mark)) 0 fs j (v .held-back) l)))) in (
+          w,
+          ap (λ (gs : List ℕ). program (record {
+            info = i;
+            rooms = z;
+            accepted = accepted k;
+            «num_frames_stats» = k .next;
+            mark = max (k .mark) (foldl min (min f (k .next)) gs - left);
+            waiting = length (k .changes .waiting);
+            «past_highest» = k .changes .past-highest;
+            «delta_weights_provided» = k .changes .called;
+            «input_finished» = k .finished;
+            «num_frames» = k .estimate .stats .num-frames;
+          }) w) (held-are i z n t made k w v),
+          record {
+            lengths-are = v .lengths-are;
+            few = v .few;
+            next-is = v .next-is;
+            mark-is = m;
+            frames-fit = omega (arith, v .frames-fit);
+            rows-fit = rows-fewer (accepted k) (k .mark) mark′ window (rowsIn (z .rows) dim) (omega arith) (v .rows-fit);
+            waiting-fit = v .waiting-fit;
+            waiting-is = v .waiting-is;
+            in-order = v .in-order;
+            held-back = back;
+            estimate-is = v .estimate-is;
+            long = v .long;
+            agrees = record {
+              accepted-is = v .agrees .accepted-is;
+              frame-is = λ u d p q l. v .agrees .frame-is u d (omega arith) q l;
+              prefix-is = λ u d p q l. v .agrees .prefix-is u d (omega arith) q l;
+            };
+          },
+        )
+
+    -- ---- change
+
+    change-next : (fs : List ℕ) (ws : List Float) → anyOf (λ f. ltb (f - left) (k .mark)) fs ≡ false → length (k .changes .waiting) + length fs ≤ waitingRoom z → Next k w (change fs ws)
+    unfolding leaves after changed
+    change-next fs ws back room =
+        let c₀ : Changes = changesIn (streamOf i z k) (w .waiting-frames) (w .waiting-weights) in
+        let given : List Change = build (length fs) (λ j. (getD fs j 0, at ws j)) in
+        let new : List Change = foldl insertChange (k .changes .waiting) given in
+        let frames-are : framesOf given ≡ fs = map-build (λ (c : Change). c .0) (length fs) (λ j. (getD fs j 0, at ws j)) ∙ build-list 0 fs in
+        let many : length new ≡ length (k .changes .waiting) + length fs = length-inserts (k .changes .waiting) given ∙ ap (λ (j : ℕ). length (k .changes .waiting) + j) (length-build (length fs) _) in
+        let same : changed c₀ fs ws ≡ changed (k .changes) fs ws =
+        ap (λ (l : List Change). record { waiting = foldl insertChange l given; past-highest = foldl (λ (n f : ℕ). max n (f + 1)) (k .changes .past-highest) fs; called = true }) (v .waiting-is) in
+        let w′ : Rooms = withWaiting w (over (framesOf new) (w .waiting-frames)) (over (weightsOf new) (w .waiting-weights)) in
+        let a : length (over (framesOf new) (w .waiting-frames)) ≡ length (w .waiting-frames) = length-over (framesOf new) (w .waiting-frames) (omega (arith, length-map new (λ (c : Change). c .0), many, room, ap waitingRoom (v .lengths-are))) in
+        let b : length (over (weightsOf new) (w .waiting-weights)) ≡ length (w .waiting-weights) = length-over (weightsOf new) (w .waiting-weights) (omega (arith, length-map new (λ (c : Change). c .1), many, room, ap waitingRoom (v .lengths-are))) in (
+          w′,
+          ap (λ (c : Changes). program (withChanges (streamOf i z k) c (k .next) (k .estimate .stats .num-frames)) (withWaiting w (overFrames c (w .waiting-frames)) (overWeights c (w .waiting-weights)))) same,
+          record {
+            lengths-are = ap₂ (λ (x y : ℕ). record {
+              frames = length (w .frames);
+              rows = length (w .rows);
+              «waiting_frames» = x;
+              «waiting_weights» = y;
+              «cmvn_stats» = length (w .cmvn);
+              linear = length (w .linear);
+              quadratic = length (w .quadratic);
+              current = length (w .current);
+              scratch = n;
+            }) a b ∙ v .lengths-are;
+            few = v .few;
+            next-is = v .next-is;
+            mark-is = v .mark-is;
+            frames-fit = v .frames-fit;
+            rows-fit = v .rows-fit;
+            waiting-fit = omega (arith, many, room);
+            waiting-is = waiting-over new (w .waiting-frames) (w .waiting-weights);
+            in-order = inserts-rising (k .changes .waiting) given (v .in-order);
+            held-back = inserts-none (λ f. ltb (f - left) (k .mark)) (k .changes .waiting) given (ap (anyOf (λ f. ltb (f - left) (k .mark))) frames-are ∙ back) (v .held-back);
+            estimate-is = v .estimate-is;
+            long = v .long;
+            agrees = v .agrees;
+          },
+        )
+
+    -- ---- push
+
+    push-next : (x : List Float) → length x ≡ dim → accepted k < 1000000000 → accepted k - k .mark < rowsIn (z .frames) dim
+        → accepted k + 1 - (k .mark + 1 - window) < rowsIn (z .rows) dim → Next k w (push x)
+    unfolding leaves after pushedFrames pushedRows
+    push-next x wide few room more =
+        let h = ranges i (made .info-is) in
+        let f : length (w .frames) ≡ z .frames = ap (λ (y : RoomLengths). y .frames) (v .lengths-are) in
+        let r : length (w .rows) ≡ z .rows = ap (λ (y : RoomLengths). y .rows) (v .lengths-are) in
+        let y : List Float = build dim (λ d. ringAt dim (w .rows) (accepted k) d +₆₄ at x d) in
+        let frames′ : List Float = put (place (length (w .frames)) dim (accepted k)) x (w .frames) in
+        let rows′ : List Float = put (place (length (w .rows)) dim (accepted k + 1)) y (w .rows) in
+        let some-frames : 0 < rowsIn (length (w .frames)) dim = rw f (omega arith) in
+        let some-rows : 0 < rowsIn (length (w .rows)) dim = rw r (omega arith) in
+        let a : length frames′ ≡ length (w .frames) = length-put (place (length (w .frames)) dim (accepted k)) x (w .frames) (omega (arith, place-in (length (w .frames)) dim (accepted k) some-frames)) in
+        let b : length rows′ ≡ length (w .rows) = length-put (place (length (w .rows)) dim (accepted k + 1)) y (w .rows) (omega (arith, length-build dim (λ d. ringAt dim (w .rows) (accepted k) d +₆₄ at x d), place-in (length (w .rows)) dim (accepted k + 1) some-rows)) in
+        let len : length (k .history ++ (x ∷ [])) ≡ accepted k + 1 = one-more (k .history) x in (
+          withRings w frames′ rows′,
+          ap (λ (j : ℕ). program (withAccepted (streamOf i z k) j) (withRings w frames′ rows′)) (sym len),
+          record {
+            lengths-are = ap₂ (λ (x y : ℕ). record {
+              frames = x;
+              rows = y;
+              «waiting_frames» = length (w .waiting-frames);
+              «waiting_weights» = length (w .waiting-weights);
+              «cmvn_stats» = length (w .cmvn);
+              linear = length (w .linear);
+              quadratic = length (w .quadratic);
+              current = length (w .current);
+              scratch = n;
+            }) a b ∙ v .lengths-are;
+            few = omega (arith, len);
+            next-is = omega (arith, len, v .next-is);
+            mark-is = v .mark-is;
+            frames-fit = omega (arith, len, room);
+            rows-fit = omega (arith, len, more);
+            waiting-fit = v .waiting-fit;
+            waiting-is = v .waiting-is;
+            in-order = v .in-order;
+            held-back = v .held-back;
+            estimate-is = v .estimate-is;
+            long = v .long;
+            agrees = pushed-agrees (k .history) x dim (k .mark) window (w .frames) (w .rows) (h .some-base) wide (omega (arith, h .some-window, v .mark-is, v .next-is)) (rw f room) (rw r more) (v .agrees) a b;
+          },
+        )
+
+    -- ---- fetch
+
+    -- the rooms with an estimate and changes at their fronts
+    abbrev filled : Estimate → Changes → Rooms
+    filled e c =
+        record {
+          frames = w .frames;
+          rows = w .rows;
+          waiting-frames = overFrames c (w .waiting-frames);
+          waiting-weights = overWeights c (w .waiting-weights);
+          cmvn = over (e .cmvn) (w .cmvn);
+          linear = over (e .stats .linear) (w .linear);
+          quadratic = over (e .stats .quadratic) (w .quadratic);
+          current = over (e .current) (w .current);
+        }
+
+    abbrev moved : ℕ → Changes → Estimate → Machine
+    moved next c e = machine (k .history) next c (k .finished) e (k .mark)
+
+    filled-inv : (next : ℕ) (c : Changes) (e : Estimate) → k .next ≤ next → next ≤ accepted k → length (c .waiting) ≤ waitingRoom z → rising 0 (framesOf (c .waiting)) ≡ true
+        → anyOf (λ f. ltb (f - left) (k .mark)) (framesOf (c .waiting)) ≡ false → Long dim (i .dims .«ivector_dim») e → Inv i z n (moved next c e) (filled e c)
+    filled-inv next c e up low room order back long =
+        let fit = fitting (i .dims) z (made .rooms-fit) in
+        let rooms : waitingRoom (roomLengthsOf w n) ≡ waitingRoom z = ap waitingRoom (v .lengths-are) in
+        let le : (g : RoomLengths → ℕ) (m : ℕ) → m ≤ g z → m ≤ g (roomLengthsOf w n) = λ g m h. subst (λ (x : RoomLengths). m ≤ g x) (sym (v .lengths-are)) h in
+        record {
+          lengths-are = six (λ (a b c d e f : ℕ). record {
+            frames = length (w .frames);
+            rows = length (w .rows);
+            «waiting_frames» = a;
+            «waiting_weights» = b;
+            «cmvn_stats» = c;
+            linear = d;
+            quadratic = e;
+            current = f;
+            scratch = n;
+          })
+              (length-over (framesOf (c .waiting)) (w .waiting-frames) (omega (arith, length-map (c .waiting) (λ (d : Change). d .0), room, rooms)))
+              (length-over (weightsOf (c .waiting)) (w .waiting-weights) (omega (arith, length-map (c .waiting) (λ (d : Change). d .1), room, rooms)))
+              (length-over (e .cmvn) (w .cmvn) (rw (long .cmvn-is) (le (λ x. x .«cmvn_stats») _ (fit .cmvn-fits))))
+              (length-over (e .stats .linear) (w .linear) (rw (long .linear-is) (le (λ x. x .linear) _ (fit .linear-fits))))
+              (length-over (e .stats .quadratic) (w .quadratic) (rw (long .quadratic-is) (le (λ x. x .quadratic) _ (fit .quadratic-fits))))
+              (length-over (e .current) (w .current) (rw (long .current-is) (le (λ x. x .current) _ (fit .current-fits))))
+              ∙ v .lengths-are;
+          few = v .few;
+          next-is = low;
+          mark-is = omega (arith, v .mark-is, up);
+          frames-fit = v .frames-fit;
+          rows-fit = v .rows-fit;
+          waiting-fit = room;
+          waiting-is = waiting-over (c .waiting) (w .waiting-frames) (w .waiting-weights);
+          in-order = order;
+          held-back = back;
+          estimate-is = four (λ (a b c d : List Float). record { cmvn = a; stats = record { num-frames = e .stats .num-frames; linear = b; quadratic = c }; current = d })
+              (take-over (e .cmvn) (w .cmvn) (dim + 1) (long .cmvn-is))
+              (take-over (e .stats .linear) (w .linear) (i .dims .«ivector_dim») (long .linear-is))
+              (take-over (e .stats .quadratic) (w .quadratic) (triangle (i .dims .«ivector_dim»)) (long .quadratic-is))
+              (take-over (e .current) (w .current) (i .dims .«ivector_dim») (long .current-is));
+          long = long;
+          agrees = v .agrees;
+        }
+
+    abbrev s : IvectorStream
+    s = streamOf i z k
+
+    changes-are : changesIn s (w .waiting-frames) (w .waiting-weights) ≡ k .changes
+    changes-are = ap (λ (l : List Change). record { waiting = l; past-highest = k .changes .past-highest; called = k .changes .called }) (v .waiting-is)
+
+    -- what the machine makes of its numbers
+    abbrev up-to : ℕ → Estimate
+    up-to f = updated M (allFrames (k .history)) (batch (i .opts) (k .changes) (k .next) f) (k .estimate)
+
+    fetch-on : (f : ℕ) → f < accepted k → leb (k .next) f ≡ true → (fetchEstimate s t w f ≡ up-to f) × (fetchChanges s w f ≡ reached (k .changes) f)
+    unfolding fetchEstimate fetchChanges
+    fetch-on f l e = (
+      rw e
+          (ap₂ (λ (c : Changes) (x : Estimate). updated M (framesIn s w) (batch (i .opts) c (k .next) f) x) changes-are (v .estimate-is)
+          ∙ updated-ext M (framesIn s w) (allFrames (k .history)) (k .mark) (ranges i (made .info-is) .some-base) (v .agrees) (batch (i .opts) (k .changes) (k .next) f) (k .estimate)
+          (inside-batch (i .opts) (k .mark) (accepted k) (k .changes) (k .next) f (v .mark-is) l (v .held-back))),
+      rw e (ap (λ (c : Changes). reached c f) changes-are),
+    )
+
+    fetch-off : (f : ℕ) → leb (k .next) f ≡ false → (fetchEstimate s t w f ≡ k .estimate) × (fetchChanges s w f ≡ k .changes)
+    unfolding fetchEstimate fetchChanges
+    fetch-off f e = (rw e (v .estimate-is), rw e changes-are)
+
+    -- the state that a fetch leaves, by what it makes of next, the changes and the numbers
+    fetch-leaves : (f next : ℕ) (c : Changes) (e : Estimate) → (if leb (k .next) f then f + 1 else k .next) ≡ next → fetchChanges s w f ≡ c → fetchEstimate s t w f ≡ e
+        → program (fetchStream s t w f) (fetchRooms s t w f) ≡ program (streamOf i z (moved next c e)) (filled e c)
+    unfolding fetchStream fetchRooms
+    fetch-leaves f next c e p q r = rw (p, q, r)
+
+    rest-fits : (f : ℕ) → length (reached (k .changes) f .waiting) ≤ waitingRoom z
+    unfolding reached
+    rest-fits f = omega (arith, length-those (λ (d : Change). ltb f (d .0)) (k .changes .waiting), v .waiting-fit)
+
+    rest-rising : (f : ℕ) → rising 0 (framesOf (reached (k .changes) f .waiting)) ≡ true
+    unfolding reached
+    rest-rising f = those-rising (λ d. ltb f (d .0)) 0 (k .changes .waiting) (v .in-order)
+
+    rest-back : (f : ℕ) → anyOf (λ g. ltb (g - left) (k .mark)) (framesOf (reached (k .changes) f .waiting)) ≡ false
+    unfolding reached
+    rest-back f = those-none (λ g. ltb (g - left) (k .mark)) (λ d. ltb f (d .0)) (k .changes .waiting) (v .held-back)
+
+    -- the numbers after a fetch are the machine's
+    pub fetch-same : (f m : ℕ) → f < accepted k → fetchEstimate s t w f ≡ after M k (K.fetch f m) .estimate
+    unfolding after
+    fetch-same f m l = by-test (leb (k .next) f) (λ e. rw e (fetch-on f l e .0)) (λ e. rw e (fetch-off f e .0))
+
+    fetch-next : (f : ℕ) (out : List ℕ) → f < accepted k → Next k w (fetch f out)
+    unfolding leaves after
+    fetch-next f out l =
+        by-test (leb (k .next) f)
+        (λ e. let h = fetch-on f l e in
+        let e′ : Estimate = up-to f in
+        let c′ : Changes = reached (k .changes) f in
+        rw e (
+          filled e′ c′,
+          fetch-leaves f (f + 1) c′ e′ (rw e) (h .1) (h .0),
+          filled-inv (f + 1) c′ e′ (omega (arith, leb-true (k .next) f e)) (omega arith) (rest-fits f) (rest-rising f) (rest-back f)
+              (updated-long M (allFrames (k .history)) (batch (i .opts) (k .changes) (k .next) f) (k .estimate) (v .long)),
+        ))
+        (λ e. let h = fetch-off f e in
+        rw e (filled (k .estimate) (k .changes), fetch-leaves f (k .next) (k .changes) (k .estimate) (rw e) (h .1) (h .0), filled-inv (k .next) (k .changes) (k .estimate) (omega arith) (v .next-is) (v .waiting-fit) (v .in-order) (v .held-back) (v .long)))
+
+    -- ---- any call that is taken
+
+    ready-below : (f : ℕ) → leb (framesReady (i .opts) (k .finished) (accepted k)) f ≡ false → f < accepted k
+    unfolding framesReady
+    ready-below f e =
+        by-test (k .finished)
+        (λ b. leb-false (accepted k) f (rw b at e))
+        (λ b. omega (arith, leb-false (accepted k - i .opts .«right_context») f (rw b at e)))
+
+    pub fetch-ready : (f m : ℕ) → firstOf (tests M z k (K.fetch f m)) ≡ 0 → (m ≡ i .dims .«ivector_dim») × (f < accepted k)
+    unfolding tests fetchTests
+    fetch-ready f m e = let h = none-first _ tt e in (eqb-true _ _ (not-false _ (h .0)), ready-below f (h .1 .0))
+
+    pub taken-next : (g : Given) → firstOf (tests M z k (callOf g)) ≡ 0 → Next k w g
+    unfolding tests pushTests changeTests framesHeld rowsHeld
+    taken-next (push x) e =
+        let h = none-first _ tt e in
+        let a : accepted k ≡ 1000000000 → ⊥ = eqb-false _ _ (h .1 .1 .0) in
+        let b : accepted k - k .mark ≡ rowsIn (z .frames) dim → ⊥ = eqb-false _ _ (h .1 .1 .1 .0) in
+        let c : accepted k + 1 - (k .mark + 1 - window) ≡ rowsIn (z .rows) dim → ⊥ = eqb-false _ _ (h .1 .1 .1 .1 .0) in
+        push-next x (eqb-true _ _ (not-false _ (h .0))) (omega (arith, v .few)) (less-than _ _ (v .frames-fit) b) (less-than _ _ (v .rows-fit) c)
+    taken-next finish e = finish-next
+    taken-next (change fs ws) e = let h = none-first _ tt e in change-next fs ws (h .1 .1 .0) (ltb-false _ _ (h .1 .1 .1 .0))
+    taken-next (forget f) e = forget-next f
+    taken-next (fetch f out) e = fetch-next f out (fetch-ready f (length out) e .1)

@@ -1,0 +1,148 @@
+-- Waiting changes: what their rooms hold, that they stay in order and above the mark, and which frames a batch has.
+use mathlib.Core.Path.{_≡_, refl, sym, ap, _∙_}
+use Prim.Native.Nat.{ℕ, zero, suc, _+_, _-_, _≤_, _<_, min}
+use native.Mathlib.Nat.{not-suc-le-zero}
+use native.Mathlib.Omega.{arith}
+use mathlib.Core.Bool.{Bool, true, false}
+use mathlib.Core.List.{List, [], _∷_, map, foldl}
+use lib.ListN.{length, take, getD, length-map, List·getD-map}
+use lib.Dec.{leb, ltb, eqb}
+use borrow.Author.Tests.{leb-true, leb-false, le-leb, eqb-true}
+use lib.Ieee.{Float, nan}
+use Rattle.loops.specs.Lists.{if_then_else_, build, those, anyOf, over}
+use Rattle.loops.proofs.Choose.{by-test, and-holds, and-both, or-fails, or-none}
+use Rattle.loops.proofs.Build.{length-build, build-ext, build-take, build-list, map-build}
+use Rattle.loops.proofs.Fill.{over-at}
+use Rattle.floats.specs.Operators.{at, _+₃₂_}
+use Rattle.definition.specs.Changes.{Change, insertChange, mergedFrom, merged}
+use Rattle.definition.specs.Stream.{rising}
+use Rattle.frame_views.specs.Waiting.{waitingIn}
+
+abbrev pub framesOf : List Change → List ℕ
+framesOf w = map (λ c. c .0) w
+
+abbrev pub weightsOf : List Change → List Float
+weightsOf w = map (λ c. c .1) w
+
+-- ---- the rooms
+
+pub frames-in : (n : ℕ) (fs : List ℕ) (ws : List Float) → n ≤ length fs → take n fs ≡ framesOf (waitingIn n fs ws)
+unfolding waitingIn
+frames-in n fs ws h = sym (map-build (λ (c : Change). c .0) n (λ i. (getD fs i 0, at ws i)) ∙ build-take 0 n fs h)
+
+pub length-waiting : (n : ℕ) (fs : List ℕ) (ws : List Float) → length (waitingIn n fs ws) ≡ n
+unfolding waitingIn
+length-waiting n fs ws = length-build n _
+
+pub waiting-over : (w : List Change) (fs : List ℕ) (ws : List Float) → waitingIn (length w) (over (framesOf w) fs) (over (weightsOf w) ws) ≡ w
+unfolding waitingIn
+waiting-over w fs ws = build-ext (length w) _ _ here ∙ build-list (0, nan) w
+  where
+    here : (k : ℕ) → k < length w → _≡_ {A = Change} (getD (over (framesOf w) fs) k 0, at (over (weightsOf w) ws) k) (getD w k (0, nan))
+    here k h =
+        let f : getD (over (framesOf w) fs) k 0 ≡ getD w k (0, nan) .0 = over-at 0 (framesOf w) fs k (rw (length-map w (λ (c : Change). c .0)) h) ∙ List·getD-map (λ (c : Change). c .0) w k (0, nan) in
+        let g : at (over (weightsOf w) ws) k ≡ getD w k (0, nan) .1 = over-at nan (weightsOf w) ws k (rw (length-map w (λ (c : Change). c .1)) h) ∙ List·getD-map (λ (c : Change). c .1) w k (0, nan) in
+        rw (f, g)
+
+-- ---- in order
+
+rising-from : (m n : ℕ) (fs : List ℕ) → m ≤ n → rising n fs ≡ true → rising m fs ≡ true
+unfolding rising
+rising-from m n [] h e = refl
+rising-from m n (f ∷ fs) h e =
+    let a = and-holds (leb n f) (rising f fs) e in
+    and-both (leb m f) (rising f fs) (le-leb m f (omega (arith, leb-true n f (a .0)))) (a .1)
+
+pub insert-rising : (m : ℕ) (ds : List Change) (c : Change) → m ≤ c .0 → rising m (framesOf ds) ≡ true → rising m (framesOf (insertChange ds c)) ≡ true
+unfolding rising insertChange
+insert-rising m [] c h e = rw (le-leb m (c .0) h)
+insert-rising m (d ∷ ds) c h e =
+    let a = and-holds (leb m (d .0)) (rising (d .0) (framesOf ds)) e in
+    by-test (leb (d .0) (c .0))
+    (λ t. rw t (and-both (leb m (d .0)) _ (a .0) (insert-rising (d .0) ds c (leb-true _ _ t) (a .1))))
+    (λ t. rw t (and-both (leb m (c .0)) _ (le-leb m (c .0) h) (and-both (leb (c .0) (d .0)) _ (le-leb (c .0) (d .0) (omega (arith, leb-false (d .0) (c .0) t))) (a .1))))
+
+pub those-rising : (p : Change → Bool) (m : ℕ) (ds : List Change) → rising m (framesOf ds) ≡ true → rising m (framesOf (those p ds)) ≡ true
+unfolding rising those
+those-rising p m [] e = refl
+those-rising p m (d ∷ ds) e =
+    let a = and-holds (leb m (d .0)) (rising (d .0) (framesOf ds)) e in
+    by-test (p d)
+    (λ t. rw t (and-both (leb m (d .0)) _ (a .0) (those-rising p (d .0) ds (a .1))))
+    (λ t. rw t (rising-from m (d .0) (framesOf (those p ds)) (leb-true _ _ (a .0)) (those-rising p (d .0) ds (a .1))))
+
+-- ---- a test that no frame meets
+
+module _ (p : ℕ → Bool) where
+  any-cons : (f : ℕ) (fs : List ℕ) → anyOf p (f ∷ fs) ≡ false → (p f ≡ false) × (anyOf p fs ≡ false)
+  unfolding anyOf
+  any-cons f fs e = or-fails (p f) (anyOf p fs) e
+
+  pub insert-none : (ds : List Change) (c : Change) → p (c .0) ≡ false → anyOf p (framesOf ds) ≡ false → anyOf p (framesOf (insertChange ds c)) ≡ false
+  unfolding anyOf insertChange
+  insert-none [] c h e = or-none (p (c .0)) false h refl
+  insert-none (d ∷ ds) c h e =
+      let a = or-fails (p (d .0)) (anyOf p (framesOf ds)) e in
+      by-test (leb (d .0) (c .0)) (λ t. rw t (or-none (p (d .0)) _ (a .0) (insert-none ds c h (a .1)))) (λ t. rw t (or-none (p (c .0)) _ h e))
+
+  pub inserts-none : (ds cs : List Change) → anyOf p (framesOf cs) ≡ false → anyOf p (framesOf ds) ≡ false → anyOf p (framesOf (foldl insertChange ds cs)) ≡ false
+  inserts-none ds [] h e = e
+  inserts-none ds (c ∷ cs) h e = let a = any-cons (c .0) (framesOf cs) h in inserts-none (insertChange ds c) cs (a .1) (insert-none ds c (a .0) e)
+
+  pub those-none : (q : Change → Bool) (ds : List Change) → anyOf p (framesOf ds) ≡ false → anyOf p (framesOf (those q ds)) ≡ false
+  unfolding anyOf those
+  those-none q [] e = refl
+  those-none q (d ∷ ds) e =
+      let a = or-fails (p (d .0)) (anyOf p (framesOf ds)) e in
+      by-test (q d) (λ t. rw t (or-none (p (d .0)) _ (a .0) (those-none q ds (a .1)))) (λ t. rw t (those-none q ds (a .1)))
+
+-- ---- how many
+
+length-insert : (ds : List Change) (c : Change) → length (insertChange ds c) ≡ suc (length ds)
+unfolding insertChange
+length-insert [] c = refl
+length-insert (d ∷ ds) c = by-test (leb (d .0) (c .0)) (λ t. rw t (ap suc (length-insert ds c))) (λ t. rw t)
+
+pub length-inserts : (ds cs : List Change) → length (foldl insertChange ds cs) ≡ length ds + length cs
+length-inserts ds [] = omega arith
+length-inserts ds (c ∷ cs) = length-inserts (insertChange ds c) cs ∙ omega (arith, length-insert ds c)
+
+pub inserts-rising : (ds cs : List Change) → rising 0 (framesOf ds) ≡ true → rising 0 (framesOf (foldl insertChange ds cs)) ≡ true
+inserts-rising ds [] e = e
+inserts-rising ds (c ∷ cs) e = inserts-rising (insertChange ds c) cs (insert-rising 0 ds c (omega arith) e)
+
+-- ---- the lowest
+
+pub lowest-first : (a : ℕ) (fs : List ℕ) → foldl min a fs ≤ a
+lowest-first a [] = omega arith
+lowest-first a (f ∷ fs) = omega (arith, lowest-first (min a f) fs)
+
+pub lowest-at : (a : ℕ) (fs : List ℕ) (k : ℕ) → k < length fs → foldl min a fs ≤ getD fs k 0
+lowest-at a [] k h = absurd (not-suc-le-zero h)
+lowest-at a (f ∷ fs) zero h = omega (arith, lowest-first (min a f) fs)
+lowest-at a (f ∷ fs) (suc k) h = lowest-at (min a f) fs k (omega arith)
+
+-- ---- merging: no frame but those of the changes
+
+module _ (P : ℕ → Type 0) where
+  abbrev pub Each : List Change → Type 0
+  Each [] = Unit {0}
+  Each (c ∷ cs) = P (c .0) × Each cs
+
+  merged-from : (t : ℕ) (w : Float) (cs : List Change) → P t → Each cs → Each (mergedFrom t w cs)
+  unfolding mergedFrom
+  merged-from t w [] p h = (p, tt)
+  merged-from t w (c ∷ cs) p h =
+      by-test (eqb (c .0) t) (λ e. rw e (merged-from (c .0) _ cs (h .0) (h .1))) (λ e. rw e (p, merged-from (c .0) _ cs (h .0) (h .1)))
+
+  pub merged-each : (cs : List Change) → Each cs → Each (merged cs)
+  unfolding merged
+  merged-each [] h = tt
+  merged-each (c ∷ cs) h = merged-from (c .0) (c .1) cs (h .0) (h .1)
+
+  pub those-each : (q : Change → Bool) (cs : List Change) → ((k : ℕ) → k < length cs → q (getD cs k (0, nan)) ≡ true → P (getD cs k (0, nan) .0)) → Each (those q cs)
+  unfolding those
+  those-each q [] h = tt
+  those-each q (c ∷ cs) h =
+      let rest = those-each q cs (λ k l. h (suc k) (omega arith)) in
+      by-test (q c) (λ e. rw e (h 0 (omega arith) e, rest)) (λ e. rw e rest)

@@ -1,0 +1,2 @@
+-- The claim over every list of calls.
+pub mod Keeping

@@ -1,0 +1,65 @@
+-- A stream's record: what a test of it tells, and what is known of one that is not broken.
+use mathlib.Core.Path.{_≡_, sym, ap, _∙_}
+use mathlib.Core.Bool.{Bool, true, false, not, _||_, or-false}
+use mathlib.Core.List.{List}
+use Prim.Native.Nat.{ℕ, _+_, _-_, _≤_, min}
+use native.Mathlib.Omega.{arith}
+use lib.ListN.{length, take}
+use lib.Seq.{take-all, take-length}
+use native.Mathlib.Nat.{min-eq-left, min-eq-right}
+use native.Mathlib.Decide.{decLe}
+use lib.Dec.{ltb}
+use borrow.Author.Tests.{ltb-false, not-false}
+use Rattle.loops.specs.Lists.{anyOf}
+use Rattle.loops.specs.Ring.{rowsIn}
+use Rattle.loops.proofs.Tests.{none-of}
+use Rattle.definition.specs.declared.IvectorStream.{IvectorStream}
+use Rattle.definition.specs.Machine.{framesHeld, rowsHeld, waitingRoom}
+use Rattle.definition.specs.Stream.{infoSound, roomsFit, rising, breaks, isBroken}
+use Rattle.limits.specs.Steps.{waitingBroken}
+use Rattle.limits.proofs.Listed.{FirstAre, any-rest}
+
+pub record Whole (s : IvectorStream) (waiting : List ℕ) : Type 0 where
+  pub info-is : infoSound (s .info) ≡ true
+  pub rooms-fit : roomsFit (s .info .dims) (s .rooms) ≡ true
+  pub few : s .accepted ≤ 1000000000
+  pub next-is : s .«num_frames_stats» ≤ s .accepted
+  pub mark-is : s .mark ≤ s .«num_frames_stats» - s .info .opts .«left_context»
+  pub frames-fit : s .accepted - s .mark ≤ rowsIn (s .rooms .frames) (s .info .dims .«base_dim»)
+  pub rows-fit : s .accepted + 1 - (s .mark + 1 - s .info .opts .«cmn_window») ≤ rowsIn (s .rooms .rows) (s .info .dims .«base_dim»)
+  pub waiting-fit : s .waiting ≤ waitingRoom (s .rooms)
+  pub in-order : rising 0 (take (s .waiting) waiting) ≡ true
+  pub held-back : anyOf (λ f. ltb (f - s .info .opts .«left_context») (s .mark)) (take (s .waiting) waiting) ≡ false
+
+pub whole : (s : IvectorStream) (waiting : List ℕ) → isBroken s waiting ≡ false → Whole s waiting
+unfolding isBroken breaks framesHeld rowsHeld
+whole s waiting e =
+    let h = none-of (λ t. t) (breaks s waiting) e in
+    record {
+      info-is = not-false _ (h .0);
+      rooms-fit = not-false _ (h .1 .0);
+      few = ltb-false _ _ (h .1 .1 .0);
+      next-is = ltb-false _ _ (h .1 .1 .1 .0);
+      mark-is = ltb-false _ _ (h .1 .1 .1 .1 .0);
+      frames-fit = ltb-false _ _ (h .1 .1 .1 .1 .1 .0);
+      rows-fit = ltb-false _ _ (h .1 .1 .1 .1 .1 .1 .0);
+      waiting-fit = ltb-false _ _ (h .1 .1 .1 .1 .1 .1 .1 .0);
+      in-order = not-false _ (h .1 .1 .1 .1 .1 .1 .1 .1 .0);
+      held-back = h .1 .1 .1 .1 .1 .1 .1 .1 .1 .0;
+    }
+
+take-min : (n : ℕ) (l : List ℕ) → take (min n (length l)) l ≡ take n l
+take-min n l = go (decLe n (length l))
+  where
+    go : Dec (n ≤ length l) → take (min n (length l)) l ≡ take n l
+    go (yes h) = ap (λ (k : ℕ). take k l) (min-eq-left h)
+    go (no h) = let g : length l ≤ n = omega arith in ap (λ (k : ℕ). take k l) (min-eq-right g) ∙ take-length l ∙ sym (take-all n l g)
+
+-- the last two tests are those of the waiting frames
+pub waiting-last : (s : IvectorStream) (waiting : List ℕ) {n : ℕ} → n ≡ min (s .waiting) (length waiting) → FirstAre false 8 (breaks s waiting)
+    → waitingBroken (take n waiting) (s .info .opts .«left_context») (s .mark) ≡ isBroken s waiting
+unfolding isBroken breaks waitingBroken anyOf
+waiting-last s waiting e h =
+    ap (λ (l : List ℕ). waitingBroken l (s .info .opts .«left_context») (s .mark)) (ap (λ (k : ℕ). take k waiting) e ∙ take-min (s .waiting) waiting)
+    ∙ ap (λ (t : Bool). not (rising 0 (take (s .waiting) waiting)) || t) (sym (or-false _))
+    ∙ any-rest 8 (breaks s waiting) h

@@ -1,0 +1,19 @@
+-- `limits::frames_held` meets its contract. Assumes nothing.
+use borrow.Author.Needs.{needs}
+use Rattle.definition.specs.Machine.{framesHeld}
+use Rattle.limits.proofs.frames_held.Statement.{statement}
+use Rattle.limits.proofs.frames_held.Tie as tie
+
+less-requires : tie.Need-less-requires
+less-requires c κs = search needs
+
+returns : tie.Need-returns
+unfolding framesHeld
+returns c = c .less .ensures
+
+pub frames-held-spec : {M : Type 1} → statement M
+frames-held-spec =
+    tie.close
+    (tie.spec
+    less-requires
+    returns)

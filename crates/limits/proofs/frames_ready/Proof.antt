@@ -1,0 +1,26 @@
+-- `limits::frames_ready` meets its contract. Assumes nothing.
+use borrow.Author.Needs.{needs}
+use Rattle.loops.proofs.Choose.{choose-true, choose-false}
+use mathlib.Core.Path.{refl}
+use Rattle.definition.specs.Machine.{framesReady}
+use Rattle.limits.proofs.frames_ready.Statement.{statement}
+use Rattle.limits.proofs.frames_ready.Tie as tie
+
+returns : tie.Need-returns
+unfolding framesReady
+returns c = choose-true _ (c .if1 .taken) refl
+
+less-requires : tie.Need-less-requires
+less-requires c κs = search needs
+
+returns-2 : tie.Need-returns-2
+unfolding framesReady
+returns-2 c = choose-false _ (c .before .if1 .left) (c .less .ensures)
+
+pub frames-ready-spec : {M : Type 1} → statement M
+frames-ready-spec =
+    tie.close
+    (tie.spec
+    returns
+    less-requires
+    returns-2)

@@ -1,0 +1,31 @@
+-- `limits::load_scratch` meets its contract. Assumes nothing.
+use borrow.Author.Needs.{needs}
+use native.Mathlib.Omega.{arith}
+use Rattle.limits.proofs.Ranges.{dim-ranges, dim-products}
+use Rattle.limits.proofs.load_scratch.Statement.{statement}
+use Rattle.limits.proofs.load_scratch.Tie as tie
+
+add-result : tie.Need-add-result
+add-result c = omega (arith, dim-ranges _ ((c .before .pre)), dim-products _ ((c .before .pre)))
+
+mul-result : tie.Need-mul-result
+mul-result c = omega (arith, dim-ranges _ ((c .before .before .pre)), dim-products _ ((c .before .before .pre)))
+
+mul-result-2 : tie.Need-mul-result-2
+mul-result-2 c = omega (arith, dim-ranges _ ((c .before .before .before .pre)), dim-products _ ((c .before .before .before .pre)))
+
+add-result-2 : tie.Need-add-result-2
+add-result-2 c = omega (arith, dim-ranges _ ((c .before .before .before .pre)), dim-products _ ((c .before .before .before .pre)))
+
+returns : tie.Need-returns
+returns c = search needs
+
+pub load-scratch-spec : {M : Type 1} → statement M
+load-scratch-spec =
+    tie.close
+    (tie.spec
+    add-result
+    mul-result
+    mul-result-2
+    add-result-2
+    returns)

@@ -1,0 +1,5 @@
+mod Packing
+mod Rooms
+mod Rows
+mod Cells
+mod Turns

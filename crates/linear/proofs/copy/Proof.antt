@@ -1,0 +1,70 @@
+use borrow.Author.Needs.{needs}
+use native.Mathlib.Omega.{arith}
+use mathlib.Core.Path.{_≡_, _∙_}
+use Prim.Native.Nat.{_≤_, _-_}
+use lib.ListN.{length}
+use Rattle.floats.specs.Operators.{_-₆₄_, zero₆₄, at}
+use Rattle.loops.specs.Steps.{fill}
+use Rattle.loops.proofs.Fill.{fills}
+use Rattle.linear.proofs.Rooms.{filled}
+use mathlib.Core.Path.{sym, ap}
+use Prim.Native.Nat.{ℕ}
+use lib.Ieee.{nan}
+use Rattle.loops.specs.Lists.{build}
+use Rattle.loops.proofs.Build.{build-list}
+use Rattle.linear.proofs.copy.Statement.{statement}
+use Rattle.linear.proofs.copy.Tie as tie
+
+abbrev Inv-loop : tie.InvT-loop
+Inv-loop x n y₀ i₀ y i =
+    (i ≤ n) × (length y ≡ length y₀) × (y ≡ fill i (at x) y₀)
+
+abbrev μ-loop : tie.MeasureT-loop
+μ-loop x n y₀ i₀ y i = n - i
+
+loop-holds : tie.Need-loop-holds Inv-loop μ-loop
+loop-holds c = search fills
+
+mul-y : tie.Need-mul-y Inv-loop μ-loop
+mul-y c = omega arith
+
+shared-slice-read-y : tie.Need-shared-slice-read-y Inv-loop μ-loop
+shared-slice-read-y c = omega arith
+
+mul-y-2 : tie.Need-mul-y-2 Inv-loop μ-loop
+mul-y-2 c = omega arith
+
+slice-write-y : tie.Need-slice-write-y Inv-loop μ-loop
+slice-write-y c = omega arith
+
+add-i : tie.Need-add-i Inv-loop μ-loop
+add-i c = omega arith
+
+loop-less : tie.Need-loop-less Inv-loop μ-loop
+loop-less c = omega arith
+
+loop-again : tie.Need-loop-again Inv-loop μ-loop
+loop-again c = search fills
+
+same-length : tie.Need-same-length Inv-loop μ-loop
+same-length c = search fills
+
+returns : tie.Need-returns Inv-loop μ-loop
+returns c = filled _ _ _ _ ((c .before .loop) .inv .0) ((c .loop-test) .left) ((c .before .before .pre) .1) ((c .before .loop) .inv .2) ∙ ap (λ (m : ℕ). build m (at ((c .before .before .args) .x .now))) (sym ((c .before .before .pre) .0)) ∙ build-list nan _
+
+pub copy-spec : {M : Type 1} → statement M
+copy-spec =
+    tie.close
+    (tie.spec
+    Inv-loop
+    μ-loop
+    loop-holds
+    mul-y
+    shared-slice-read-y
+    mul-y-2
+    slice-write-y
+    add-i
+    loop-less
+    loop-again
+    same-length
+    returns)

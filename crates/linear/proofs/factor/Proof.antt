@@ -1,0 +1,227 @@
+use borrow.Author.Needs.{needs}
+use mathlib.Core.Path.{_≡_, _∙_}
+use Prim.Native.Nat.{_≤_, _<_, _+_, _-_, _*_}
+use native.Mathlib.Omega.{arith}
+use lib.ListN.{length, set}
+use Rattle.floats.specs.Operators.{_+₆₄_, _-₆₄_, _*₆₄_, _/₆₄_, zero₆₄, at, sum₆₄}
+use Rattle.loops.specs.Loop.{iter}
+use Rattle.loops.proofs.Loop.{loops}
+use mathlib.Core.Logic.{⊎-elim}
+use mathlib.Core.Bool.{Bool, true}
+use mathlib.Core.Path.{ap}
+use lib.ListN.{length-set}
+use Rattle.loops.specs.Loop.{on, leave}
+use Rattle.loops.specs.Steps.{done}
+use Rattle.loops.proofs.Leave.{leaves, leave-none, leave-step, leave-end, leave-left}
+use Rattle.loops.proofs.Cells.{row-in}
+use Rattle.definition.specs.Model.{packed}
+use Rattle.definition.specs.Solve.{lessProducts, cell, factor}
+use Rattle.linear.proofs.Packing.{packed-below}
+use Rattle.linear.proofs.Cells.{less-none, less-next, less-end, cell-diagonal, cell-left, cell-beside}
+use Rattle.linear.proofs.factor.Statement.{statement}
+use Rattle.linear.proofs.factor.Tie as tie
+
+abbrev Inv-loop2 : tie.InvT-loop2
+Inv-loop2 a n l ok i row end j other place s₀ k₀ s k =
+    (k ≤ j) × (j * n + n ≤ length l) × (i * n + n ≤ length l) × (s ≡ lessProducts (at a (packed i j)) k (λ k. at l (i * n + k)) (λ k. at l (j * n + k)))
+
+abbrev μ-loop2 : tie.MeasureT-loop2
+μ-loop2 a n l ok i row end j other place s₀ k₀ s k = j - k
+
+abbrev Inv-loop : tie.InvT-loop
+Inv-loop a n l₀ ok₀ i row end j₀ l ok j =
+    (j ≤ i + 1) × (length l ≡ n * n) × (i * n + n ≤ length l) × (ok ≡ true) × (on l ≡ leave j (cell a n i) l₀)
+
+abbrev μ-loop : tie.MeasureT-loop
+μ-loop a n l₀ ok₀ i row end j₀ l ok j = i + 1 - j
+
+abbrev Inv-rows : tie.InvT-rows
+Inv-rows a n l₀ ok₀ i₀ l ok i =
+    (i ≤ n) × (length l ≡ n * n) × (ok ≡ true) × (on l ≡ leave i (λ i. leave (i + 1) (cell a n i)) l₀)
+
+abbrev μ-rows : tie.MeasureT-rows
+μ-rows a n l₀ ok₀ i₀ l ok i = n - i
+
+mul-clear : tie.Need-mul-clear Inv-loop2 μ-loop2 Inv-loop μ-loop Inv-rows μ-rows
+mul-clear c = omega arith
+
+clear-requires : tie.Need-clear-requires Inv-loop2 μ-loop2 Inv-loop μ-loop Inv-rows μ-rows
+clear-requires c κs = search (loops, leaves)
+
+rows-holds : tie.Need-rows-holds Inv-loop2 μ-loop2 Inv-loop μ-loop Inv-rows μ-rows
+rows-holds c = search (loops, leaves)
+
+mul-row : tie.Need-mul-row Inv-loop2 μ-loop2 Inv-loop μ-loop Inv-rows μ-rows
+mul-row c = omega (arith, row-in ((c .before .rows) .i) ((c .before .before .before .before .before .before .before .before .args) .n) ((c .before .before .before .before .before .before .before .before .args) .n) ((c .before .before .before .before .before .before .before .before .args) .n * (c .before .before .before .before .before .before .before .before .args) .n) (omega arith) ((c .rows-test) .taken))
+
+add-end : tie.Need-add-end Inv-loop2 μ-loop2 Inv-loop μ-loop Inv-rows μ-rows
+add-end c = omega arith
+
+loop-holds : tie.Need-loop-holds Inv-loop2 μ-loop2 Inv-loop μ-loop Inv-rows μ-rows
+loop-holds c = (search loops, search loops, omega (arith, row-in ((c .before .rows) .i) ((c .before .before .before .before .before .before .before .before .args) .n) ((c .before .before .before .before .before .before .before .before .args) .n) ((c .before .before .before .before .before .before .before .before .args) .n * (c .before .before .before .before .before .before .before .before .args) .n) (omega arith) ((c .rows-test) .taken)), search loops, leave-none _ _)
+
+mul-other : tie.Need-mul-other Inv-loop2 μ-loop2 Inv-loop μ-loop Inv-rows μ-rows
+mul-other c = omega (arith, row-in ((c .before .loop) .j) ((c .before .before .before .before .before .before .before .before .before .before .args) .n) ((c .before .before .before .before .before .before .before .before .before .before .args) .n) ((c .before .before .before .before .before .before .before .before .before .before .args) .n * (c .before .before .before .before .before .before .before .before .before .before .args) .n) (omega arith) (omega arith))
+
+packed-index-requires : tie.Need-packed-index-requires Inv-loop2 μ-loop2 Inv-loop μ-loop Inv-rows μ-rows
+packed-index-requires c κs = (omega arith, omega arith)
+
+mul-s : tie.Need-mul-s Inv-loop2 μ-loop2 Inv-loop μ-loop Inv-rows μ-rows
+mul-s c = omega (arith, packed-below ((c .before .before .before .before .rows) .i) ((c .before .before .loop) .j) ((c .before .before .before .before .before .before .before .before .before .before .before .args) .n) ((c .before .before .before .rows-test) .taken) (omega arith), (c .packed-index) .ensures)
+
+shared-slice-read-s : tie.Need-shared-slice-read-s Inv-loop2 μ-loop2 Inv-loop μ-loop Inv-rows μ-rows
+shared-slice-read-s c = omega (arith, packed-below ((c .before .before .before .before .before .rows) .i) ((c .before .before .before .loop) .j) ((c .before .before .before .before .before .before .before .before .before .before .before .before .args) .n) ((c .before .before .before .before .rows-test) .taken) (omega arith), (c .before .packed-index) .ensures)
+
+loop2-holds : tie.Need-loop2-holds Inv-loop2 μ-loop2 Inv-loop μ-loop Inv-rows μ-rows
+loop2-holds c = (search loops, omega (arith, row-in ((c .before .before .before .loop) .j) ((c .before .before .before .before .before .before .before .before .before .before .before .before .args) .n) ((c .before .before .before .before .before .before .before .before .before .before .before .before .args) .n) ((c .before .before .before .before .before .before .before .before .before .before .before .before .args) .n * (c .before .before .before .before .before .before .before .before .before .before .before .before .args) .n) (omega arith) (omega arith)), search loops, ap (at ((c .before .before .before .before .before .before .before .before .before .before .before .before .args) .a .now)) ((c .before .packed-index) .ensures) ∙ less-none _ _ _)
+
+add-s : tie.Need-add-s Inv-loop2 μ-loop2 Inv-loop μ-loop Inv-rows μ-rows
+add-s c = omega arith
+
+mul-s-2 : tie.Need-mul-s-2 Inv-loop2 μ-loop2 Inv-loop μ-loop Inv-rows μ-rows
+mul-s-2 c = omega arith
+
+slice-read-s : tie.Need-slice-read-s Inv-loop2 μ-loop2 Inv-loop μ-loop Inv-rows μ-rows
+slice-read-s c = omega arith
+
+add-s-2 : tie.Need-add-s-2 Inv-loop2 μ-loop2 Inv-loop μ-loop Inv-rows μ-rows
+add-s-2 c = omega arith
+
+mul-s-3 : tie.Need-mul-s-3 Inv-loop2 μ-loop2 Inv-loop μ-loop Inv-rows μ-rows
+mul-s-3 c = omega arith
+
+slice-read-s-2 : tie.Need-slice-read-s-2 Inv-loop2 μ-loop2 Inv-loop μ-loop Inv-rows μ-rows
+slice-read-s-2 c = omega arith
+
+add-k : tie.Need-add-k Inv-loop2 μ-loop2 Inv-loop μ-loop Inv-rows μ-rows
+add-k c = omega arith
+
+loop2-less : tie.Need-loop2-less Inv-loop2 μ-loop2 Inv-loop μ-loop Inv-rows μ-rows
+loop2-less c = omega arith
+
+loop2-again : tie.Need-loop2-again Inv-loop2 μ-loop2 Inv-loop μ-loop Inv-rows μ-rows
+loop2-again c = (search loops, search loops, search loops, less-next _ _ _ _ ((c .before .before .before .loop2) .inv .3))
+
+sqrt-requires : tie.Need-sqrt-requires Inv-loop2 μ-loop2 Inv-loop μ-loop Inv-rows μ-rows
+sqrt-requires c κs = search (loops, leaves)
+
+add-l : tie.Need-add-l Inv-loop2 μ-loop2 Inv-loop μ-loop Inv-rows μ-rows
+add-l c = omega arith
+
+mul-l : tie.Need-mul-l Inv-loop2 μ-loop2 Inv-loop μ-loop Inv-rows μ-rows
+mul-l c = omega arith
+
+slice-write-l : tie.Need-slice-write-l Inv-loop2 μ-loop2 Inv-loop μ-loop Inv-rows μ-rows
+slice-write-l c = omega arith
+
+add-l-2 : tie.Need-add-l-2 Inv-loop2 μ-loop2 Inv-loop μ-loop Inv-rows μ-rows
+add-l-2 c = omega arith
+
+mul-l-2 : tie.Need-mul-l-2 Inv-loop2 μ-loop2 Inv-loop μ-loop Inv-rows μ-rows
+mul-l-2 c = omega arith
+
+slice-read-l : tie.Need-slice-read-l Inv-loop2 μ-loop2 Inv-loop μ-loop Inv-rows μ-rows
+slice-read-l c = omega arith
+
+add-l-3 : tie.Need-add-l-3 Inv-loop2 μ-loop2 Inv-loop μ-loop Inv-rows μ-rows
+add-l-3 c = omega arith
+
+mul-l-3 : tie.Need-mul-l-3 Inv-loop2 μ-loop2 Inv-loop μ-loop Inv-rows μ-rows
+mul-l-3 c = omega arith
+
+slice-write-l-2 : tie.Need-slice-write-l-2 Inv-loop2 μ-loop2 Inv-loop μ-loop Inv-rows μ-rows
+slice-write-l-2 c = omega arith
+
+add-j : tie.Need-add-j Inv-loop2 μ-loop2 Inv-loop μ-loop Inv-rows μ-rows
+add-j c = omega arith
+
+loop-less : tie.Need-loop-less Inv-loop2 μ-loop2 Inv-loop μ-loop Inv-rows μ-rows
+loop-less c = omega arith
+
+loop-again : tie.Need-loop-again Inv-loop2 μ-loop2 Inv-loop μ-loop Inv-rows μ-rows
+loop-again c = let h = (c .before .before .before .before .before .before .loop) in
+    let whole = less-end _ _ _ _ _ ((c .before .before .loop2) .inv .0) ((c .before .loop2-test) .left) ((c .before .before .loop2) .inv .3) in
+    let long : length (c .if1 .l) ≡ length (h .l) = ⊎-elim (λ w. rw (w .3) (simp length-set)) (λ w. rw (w .2) (simp length-set)) (c .if1 .came) in (
+      search loops,
+      search loops,
+      search loops,
+      search loops,
+      leave-step _ _ _ (h .inv .4)
+          (⊎-elim (λ w. cell-diagonal _ _ _ _ _ whole (w .0 .taken) (w .1 .left) (w .2 .ensures) (w .3)) (λ w. cell-beside _ _ _ _ _ whole (w .0 .left) (w .2)) (c .if1 .came)),
+    )
+
+add-i : tie.Need-add-i Inv-loop2 μ-loop2 Inv-loop μ-loop Inv-rows μ-rows
+add-i c = omega arith
+
+rows-less : tie.Need-rows-less Inv-loop2 μ-loop2 Inv-loop μ-loop Inv-rows μ-rows
+rows-less c = omega arith
+
+rows-again : tie.Need-rows-again Inv-loop2 μ-loop2 Inv-loop μ-loop Inv-rows μ-rows
+rows-again c = (search loops, search loops, search loops, leave-step _ _ _ ((c .before .before .before .rows) .inv .3) (leave-end _ _ _ _ ((c .before .loop) .inv .0) ((c .loop-test) .left) ((c .before .loop) .inv .4)))
+
+same-length : tie.Need-same-length Inv-loop2 μ-loop2 Inv-loop μ-loop Inv-rows μ-rows
+same-length c = search (loops, leaves)
+
+returns : tie.Need-returns Inv-loop2 μ-loop2 Inv-loop μ-loop Inv-rows μ-rows
+unfolding factor
+returns c = ap (λ (z : Bool). done z ((c .before .rows) .l)) ((c .before .rows) .inv .2) ∙ leave-end _ _ _ _ ((c .before .rows) .inv .0) ((c .rows-test) .left) ((c .before .rows) .inv .3) ∙ ap (leave ((c .before .before .before .before .before .before .before .before .args) .n) (λ i. leave (i + 1) (cell ((c .before .before .before .before .before .before .before .before .args) .a .now) ((c .before .before .before .before .before .before .before .before .args) .n) i))) ((c .before .before .before .before .clear) .ensures)
+
+same-length-2 : tie.Need-same-length-2 Inv-loop2 μ-loop2 Inv-loop μ-loop Inv-rows μ-rows
+same-length-2 c = search (loops, leaves)
+
+returns-2 : tie.Need-returns-2 Inv-loop2 μ-loop2 Inv-loop μ-loop Inv-rows μ-rows
+unfolding factor
+returns-2 c = leave-left _ _ _ _ ((c .before .before .before .before .before .before .before .before .rows-test) .taken) ((c .before .before .before .before .before .before .before .before .before .rows) .inv .3)
+    (leave-left _ _ _ _ ((c .before .before .before .before .before .before .loop-test) .taken) ((c .before .before .before .before .before .before .before .loop) .inv .4) (cell-left _ _ _ _ _ (less-end _ _ _ _ _ ((c .before .before .before .loop2) .inv .0) ((c .before .before .loop2-test) .left) ((c .before .before .before .loop2) .inv .3)) ((c .before .if1) .taken) ((c .if2) .taken)))
+    ∙ ap (leave ((c .before .before .before .before .before .before .before .before .before .before .before .before .before .before .before .before .args) .n) (λ i. leave (i + 1) (cell ((c .before .before .before .before .before .before .before .before .before .before .before .before .before .before .before .before .args) .a .now) ((c .before .before .before .before .before .before .before .before .before .before .before .before .before .before .before .before .args) .n) i))) ((c .before .before .before .before .before .before .before .before .before .before .before .before .clear) .ensures)
+
+pub factor-spec : {M : Type 1} → statement M
+factor-spec =
+    tie.close
+    (tie.spec
+    Inv-loop2
+    μ-loop2
+    Inv-loop
+    μ-loop
+    Inv-rows
+    μ-rows
+    mul-clear
+    clear-requires
+    rows-holds
+    mul-row
+    add-end
+    loop-holds
+    mul-other
+    packed-index-requires
+    mul-s
+    shared-slice-read-s
+    loop2-holds
+    add-s
+    mul-s-2
+    slice-read-s
+    add-s-2
+    mul-s-3
+    slice-read-s-2
+    add-k
+    loop2-less
+    loop2-again
+    sqrt-requires
+    add-l
+    mul-l
+    slice-write-l
+    add-l-2
+    mul-l-2
+    slice-read-l
+    add-l-3
+    mul-l-3
+    slice-write-l-2
+    add-j
+    loop-less
+    loop-again
+    add-i
+    rows-less
+    rows-again
+    same-length
+    returns
+    same-length-2
+    returns-2)

@@ -1,0 +1,432 @@
+// The solver behind `get_ivector`: A x = b by the conjugate gradient, or by Cholesky's factor where that fails. A is packed.
+ghost use mathlib.Core.Path.{_≡_};
+ghost use mathlib.Core.Bool.{Bool, not};
+ghost use Prim.Native.Nat.{ℕ, _+_, _*_, _<_, _≤_, min};
+ghost use lib.Dec.{ltb};
+ghost use lib.Ieee.{neg};
+ghost use lib.ListN.{length, replicate};
+ghost use Rattle.loops.specs.Loop.{leave, final};
+ghost use Rattle.loops.specs.Steps.{done};
+ghost use Rattle.loops.specs.Lists.{build, if_then_else_};
+ghost use Rattle.floats.specs.Operators.{_+₆₄_, _-₆₄_, _*₆₄_, zero₆₄, at};
+ghost use Rattle.definition.specs.Kaldi.{triangle};
+ghost use Rattle.definition.specs.Model.{packed};
+ghost use Rattle.definition.specs.Solve.{dot as dotOf, spMatVec, factor as factorOf, forward as forwardOf, backward as backwardOf, solvedOr, begun, turn, linearCgd};
+ghost use Rattle.linear.specs.Steps.{started, stepped as steppedOf, recomputed as recomputedOf, isFar, isLast, isWorse, rooms, ended, isOn, residual};
+
+// Where element (i, j) of a packed matrix stands.
+pub fn packed_index(i: usize, j: usize) -> usize
+    requires { ⌜ (i < 65536) × (j < 65536) ⌝ }
+    ensures { λ r. ⌜ r ≡ packed i j ⌝ }
+{
+    if i >= j {
+        i * (i + 1) / 2 + j
+    } else {
+        j * (j + 1) / 2 + i
+    }
+}
+
+// y = A x, with A n wide. Row j of the packed matrix serves twice: it begins the sum of row j, and before the diagonal
+// its elements are the next terms of the sums above. So each sum is added from left to right.
+pub fn sp_mat_vec(a: &[f64], n: usize, x: &[f64], y: &mut [f64])
+    requires { ⌜ (triangle n ≤ length (now a)) × (n ≤ length (now x)) × (length (now y) ≡ n) ⌝ }
+    ensures { λ _. ⌜ now (y .exit) ≡ spMatVec (now (a .entry)) n (now (x .entry)) ⌝ }
+{
+    let mut start = 0;
+    for j in 0..n {
+        let xj = x[j];
+        let mut s = 0.0;
+        for k in 0..j {
+            s += a[start + k] * x[k];
+            y[k] += a[start + k] * xj;
+        }
+        y[j] = s + a[start + j] * xj;
+        start += j + 1;
+    }
+}
+
+pub fn dot(a: &[f64], b: &[f64], n: usize) -> f64
+    requires { ⌜ (n ≤ length (now a)) × (n ≤ length (now b)) ⌝ }
+    ensures { λ r. ⌜ r ≡ dotOf n (now (a .entry)) (now (b .entry)) ⌝ }
+{
+    let mut s = -0.0;
+    for i in 0..n {
+        s += a[i] * b[i];
+    }
+    s
+}
+
+fn clear(x: &mut [f64], n: usize)
+    requires { ⌜ length (now x) ≡ n ⌝ }
+    ensures { λ _. ⌜ now (x .exit) ≡ replicate n zero₆₄ ⌝ }
+{
+    for i in 0..n {
+        x[i] = 0.0;
+    }
+}
+
+// The lower factor L of A = L Lᵗ, by rows of n, or false at the first pivot that is at most 0.
+fn factor(a: &[f64], n: usize, l: &mut [f64]) -> bool
+    requires { ⌜ (n ≤ 128) × (triangle n ≤ length (now a)) × (length (now l) ≡ n * n) ⌝ }
+    ensures { λ r. ⌜ done r (now (l .exit)) ≡ factorOf (now (a .entry)) n ⌝ }
+{
+    clear(l, n * n);
+    let mut ok = true;
+    'rows: for i in 0..n {
+        let row = i * n;
+        let end = i + 1;
+        for j in 0..end {
+            let other = j * n;
+            let place = packed_index(i, j);
+            let mut s = a[place];
+            for k in 0..j {
+                s -= l[row + k] * l[other + k];
+            }
+            if i == j {
+                if s <= 0.0 {
+                    ok = false;
+                    break 'rows;
+                }
+                l[row + i] = floats::sqrt(s);
+            } else {
+                l[row + j] = s / l[other + j];
+            }
+        }
+    }
+    ok
+}
+
+// L y = b, from the front.
+fn forward(l: &[f64], n: usize, b: &[f64], y: &mut [f64])
+    requires { ⌜ (n * n ≤ length (now l)) × (n ≤ length (now b)) × (length (now y) ≡ n) ⌝ }
+    ensures { λ _. ⌜ now (y .exit) ≡ forwardOf n (now (l .entry)) (now (b .entry)) ⌝ }
+{
+    clear(y, n);
+    for i in 0..n {
+        let row = i * n;
+        let mut s = b[i];
+        for k in 0..i {
+            s -= l[row + k] * y[k];
+        }
+        y[i] = s / l[row + i];
+    }
+}
+
+// Lᵗ x = y, from the back.
+fn backward(l: &[f64], n: usize, y: &[f64], x: &mut [f64])
+    requires { ⌜ (n * n ≤ length (now l)) × (n ≤ length (now y)) × (length (now x) ≡ n) ⌝ }
+    ensures { λ _. ⌜ now (x .exit) ≡ backwardOf n (now (l .entry)) (now (y .entry)) ⌝ }
+{
+    clear(x, n);
+    for t in 0..n {
+        let i = n - 1 - t;
+        let mut s = y[i];
+        for k in 0..t {
+            let j = i + 1 + k;
+            s -= l[j * n + i] * x[j];
+        }
+        x[i] = s / l[i * n + i];
+    }
+}
+
+// A x = b with L and y in lent rooms. False, and x as it was, where A has no factor.
+pub fn cholesky_solve(
+    a: &[f64],
+    n: usize,
+    b: &[f64],
+    x: &mut [f64],
+    l: &mut [f64],
+    y: &mut [f64],
+) -> bool
+    requires { ⌜ (n ≤ 128) × (triangle n ≤ length (now a)) × (n ≤ length (now b)) × (length (now x) ≡ n) × (length (now l) ≡ n * n) × (length (now y) ≡ n) ⌝ }
+    ensures { λ r. ⌜ (now (x .exit) ≡ solvedOr (now (x .entry)) n (now (b .entry)) (factorOf (now (a .entry)) n)) × (r ≡ isOn (factorOf (now (a .entry)) n)) ⌝ }
+{
+    if factor(a, n, l) {
+        forward(l, n, b, y);
+        backward(l, n, y, x);
+        return true;
+    }
+    false
+}
+
+// x + alpha p
+fn axpy(alpha: f64, p: &[f64], n: usize, x: &mut [f64])
+    requires { ⌜ (n ≤ length (now p)) × (length (now x) ≡ n) ⌝ }
+    ensures { λ _. ⌜ now (x .exit) ≡ build n (λ i. at (now (x .entry)) i +₆₄ alpha *₆₄ at (now (p .entry)) i) ⌝ }
+{
+    for i in 0..n {
+        x[i] += alpha * p[i];
+    }
+}
+
+// u - v
+fn difference(u: &[f64], v: &[f64], n: usize, d: &mut [f64])
+    requires { ⌜ (n ≤ length (now u)) × (n ≤ length (now v)) × (length (now d) ≡ n) ⌝ }
+    ensures { λ _. ⌜ now (d .exit) ≡ build n (λ i. at (now (u .entry)) i -₆₄ at (now (v .entry)) i) ⌝ }
+{
+    for i in 0..n {
+        d[i] = u[i] - v[i];
+    }
+}
+
+// -p
+fn negated(p: &[f64], n: usize, r: &mut [f64])
+    requires { ⌜ (n ≤ length (now p)) × (length (now r) ≡ n) ⌝ }
+    ensures { λ _. ⌜ now (r .exit) ≡ build n (λ i. neg (at (now (p .entry)) i)) ⌝ }
+{
+    for i in 0..n {
+        r[i] = -p[i];
+    }
+}
+
+// beta p - r
+fn turned(beta: f64, r: &[f64], n: usize, p: &mut [f64])
+    requires { ⌜ (n ≤ length (now r)) × (length (now p) ≡ n) ⌝ }
+    ensures { λ _. ⌜ now (p .exit) ≡ build n (λ i. beta *₆₄ at (now (p .entry)) i -₆₄ at (now (r .entry)) i) ⌝ }
+{
+    for i in 0..n {
+        p[i] = beta * p[i] - r[i];
+    }
+}
+
+fn copy(x: &[f64], n: usize, y: &mut [f64])
+    requires { ⌜ (length (now x) ≡ n) × (length (now y) ≡ n) ⌝ }
+    ensures { λ _. ⌜ now (y .exit) ≡ now (x .entry) ⌝ }
+{
+    for i in 0..n {
+        y[i] = x[i];
+    }
+}
+
+// The scalars of `linear_cgd`: the residual squared, now and when it was last recomputed, and the turns taken.
+pub struct CgdState {
+    pub r_cur: f64,
+    pub r_recompute: f64,
+    pub k: usize,
+}
+
+impl CgdState {
+    fn new(r_cur: f64) -> Self
+        ensures { λ s. ⌜ s ≡ started «r_cur» ⌝ }
+    {
+        Self {
+            r_cur,
+            r_recompute: r_cur,
+            k: 0,
+        }
+    }
+
+    // Whether a turn is left.
+    fn goes_on(self, n: usize, max_iters: usize) -> bool
+        requires { ⌜ (n ≤ 128) × (self .k ≤ min (n + 5) «max_iters») ⌝ }
+        ensures { λ r. ⌜ r ≡ ltb (self .k) (min (n + 5) «max_iters») ⌝ }
+    {
+        self.k < n + 5 && self.k != max_iters
+    }
+
+    fn stepped(mut self, r_next: f64) -> Self
+        requires { ⌜ self .k < 200 ⌝ }
+        ensures { λ s. ⌜ s ≡ steppedOf self «r_next» ⌝ }
+    {
+        self.r_cur = r_next;
+        self.k += 1;
+        self
+    }
+
+    // Whether the residual shrank or grew past the factor since it was recomputed.
+    fn is_far(self) -> bool
+        ensures { λ r. ⌜ r ≡ isFar self ⌝ }
+    {
+        let residual_factor = 0.01 * 0.01;
+        let inv_residual_factor = 1.0 / residual_factor;
+        self.r_cur < residual_factor * self.r_recompute
+            || self.r_cur > inv_residual_factor * self.r_recompute
+    }
+
+    fn recomputed(mut self, r_next: f64) -> Self
+        ensures { λ s. ⌜ s ≡ recomputedOf self «r_next» ⌝ }
+    {
+        self.r_cur = r_next;
+        self.r_recompute = r_next;
+        self
+    }
+
+    // Whether the residual is at most MIN_POSITIVE, which ends the turns.
+    fn is_last(self) -> bool
+        ensures { λ r. ⌜ r ≡ isLast self ⌝ }
+    {
+        self.r_cur <= 2.2250738585072014e-308
+    }
+
+    // Whether the residual got worse; bb is b's square.
+    fn is_worse(self, r_initial: f64, bb: f64) -> bool
+        ensures { λ r. ⌜ r ≡ isWorse self «r_initial» bb ⌝ }
+    {
+        self.r_cur > r_initial && self.r_cur > r_initial + 1.0e-10 * bb
+    }
+}
+
+// The first residual, the first direction against it, and the scalars. ap is room for A x.
+fn cgd_begin(
+    a: &[f64],
+    n: usize,
+    b: &[f64],
+    x: &[f64],
+    r: &mut [f64],
+    p: &mut [f64],
+    ap: &mut [f64],
+) -> CgdState
+    requires { ⌜ (triangle n ≤ length (now a)) × (n ≤ length (now b)) × (n ≤ length (now x)) × (length (now r) ≡ n) × (length (now p) ≡ n) × (length (now ap) ≡ n) ⌝ }
+    ensures { λ s. ⌜ (rooms (now (x .entry)) (now (r .exit)) (now (p .exit)) s ≡ begun (now (a .entry)) n (now (b .entry)) (now (x .entry))) × (s .k ≡ 0) ⌝ }
+{
+    sp_mat_vec(a, n, x, ap);
+    difference(b, ap, n, p);
+    negated(p, n, r);
+    CgdState::new(dot(r, r, n))
+}
+
+// The residual anew, where it is far from the last one that was.
+fn recompute(
+    a: &[f64],
+    n: usize,
+    b: &[f64],
+    x: &[f64],
+    r: &mut [f64],
+    ap: &mut [f64],
+    s: CgdState,
+) -> CgdState
+    requires { ⌜ (triangle n ≤ length (now a)) × (n ≤ length (now b)) × (n ≤ length (now x)) × (length (now r) ≡ n) × (length (now ap) ≡ n) ⌝ }
+    ensures { λ t. ⌜ (now (r .exit) ≡ (if isFar s then residual (now (a .entry)) n (now (b .entry)) (now (x .entry)) else now (r .entry))) × (t ≡ (if isFar s then recomputedOf s (dotOf n (now (r .exit)) (now (r .exit))) else s)) ⌝ }
+{
+    if s.is_far() {
+        sp_mat_vec(a, n, x, ap);
+        difference(ap, b, n, r);
+        return s.recomputed(dot(r, r, n));
+    }
+    s
+}
+
+// A turn: along p, then the next direction.
+fn cgd_turn(
+    a: &[f64],
+    n: usize,
+    b: &[f64],
+    x: &mut [f64],
+    r: &mut [f64],
+    p: &mut [f64],
+    ap: &mut [f64],
+    s: CgdState,
+) -> CgdState
+    requires { ⌜ (s .k < 200) × (triangle n ≤ length (now a)) × (n ≤ length (now b)) × (length (now x) ≡ n) × (length (now r) ≡ n) × (length (now p) ≡ n) × (length (now ap) ≡ n) ⌝ }
+    ensures { λ t. ⌜ (ended t (rooms (now (x .exit)) (now (r .exit)) (now (p .exit)) t) ≡ turn (now (a .entry)) n (now (b .entry)) (rooms (now (x .entry)) (now (r .entry)) (now (p .entry)) s)) × (t .k ≡ s .k + 1) ⌝ }
+{
+    sp_mat_vec(a, n, p, ap);
+    let alpha = -dot(p, r, n) / dot(p, ap, n);
+    axpy(alpha, p, n, x);
+    axpy(alpha, ap, n, r);
+    let moved = s.stepped(dot(r, r, n));
+    let t = recompute(a, n, b, x, r, ap, moved);
+    if t.is_last() {
+        return t;
+    }
+    turned(t.r_cur / s.r_cur, r, n, p);
+    t
+}
+
+// At most n + 5 turns and at most max_iters.
+fn cgd_turns(
+    a: &[f64],
+    n: usize,
+    b: &[f64],
+    x: &mut [f64],
+    r: &mut [f64],
+    p: &mut [f64],
+    ap: &mut [f64],
+    max_iters: usize,
+    s: CgdState,
+) -> CgdState
+    requires { ⌜ (s .k ≡ 0) × (n ≤ 128) × (triangle n ≤ length (now a)) × (n ≤ length (now b)) × (length (now x) ≡ n) × (length (now r) ≡ n) × (length (now p) ≡ n) × (length (now ap) ≡ n) ⌝ }
+    ensures { λ t. ⌜ rooms (now (x .exit)) (now (r .exit)) (now (p .exit)) t ≡ final (leave (min (n + 5) «max_iters») (λ k. turn (now (a .entry)) n (now (b .entry))) (rooms (now (x .entry)) (now (r .entry)) (now (p .entry)) s)) ⌝ }
+{
+    let mut t = s;
+    while t.goes_on(n, max_iters) {
+        t = cgd_turn(a, n, b, x, r, p, ap, t);
+        if t.is_last() {
+            break;
+        }
+    }
+    t
+}
+
+// The exact solution, or the start where there is none.
+fn exact_or_start(
+    a: &[f64],
+    n: usize,
+    b: &[f64],
+    x: &mut [f64],
+    x_orig: &[f64],
+    l: &mut [f64],
+    y: &mut [f64],
+)
+    requires { ⌜ (n ≤ 128) × (triangle n ≤ length (now a)) × (n ≤ length (now b)) × (length (now x) ≡ n) × (length (now «x_orig») ≡ n) × (length (now l) ≡ n * n) × (length (now y) ≡ n) ⌝ }
+    ensures { λ _. ⌜ now (x .exit) ≡ solvedOr (now («x_orig» .entry)) n (now (b .entry)) (factorOf (now (a .entry)) n) ⌝ }
+{
+    if !cholesky_solve(a, n, b, x, l, y) {
+        copy(x_orig, n, x);
+    }
+}
+
+// `linear_cgd` in lent rooms, with a copy of the start.
+fn linear_cgd_in(
+    a: &[f64],
+    n: usize,
+    b: &[f64],
+    x: &mut [f64],
+    max_iters: usize,
+    x_orig: &[f64],
+    r: &mut [f64],
+    p: &mut [f64],
+    ap: &mut [f64],
+    l: &mut [f64],
+)
+    requires { ⌜ (now «x_orig» ≡ now x) × (n ≤ 128) × (triangle n ≤ length (now a)) × (n ≤ length (now b)) × (length (now x) ≡ n) × (length (now r) ≡ n) × (length (now p) ≡ n) × (length (now ap) ≡ n) × (length (now l) ≡ n * n) ⌝ }
+    ensures { λ _. ⌜ now (x .exit) ≡ linearCgd (now (a .entry)) n (now (b .entry)) (now (x .entry)) «max_iters» ⌝ }
+{
+    let first = cgd_begin(a, n, b, x, r, p, ap);
+    let last = cgd_turns(a, n, b, x, r, p, ap, max_iters, first);
+    if last.is_worse(first.r_cur, dot(b, b, n)) {
+        exact_or_start(a, n, b, x, x_orig, l, ap);
+    }
+}
+
+// A x = b from the start x. Where the residual gets worse: the exact solution, or the start again. L lies in scratch.
+pub fn linear_cgd(
+    a: &[f64],
+    n: usize,
+    b: &[f64],
+    x: &mut [f64],
+    max_iters: usize,
+    scratch: &mut [f64],
+)
+    requires { ⌜ (n ≤ 128) × (triangle n ≤ length (now a)) × (n ≤ length (now b)) × (length (now x) ≡ n) × (n * n ≤ length (now scratch)) ⌝ }
+    ensures { λ _. ⌜ now (x .exit) ≡ linearCgd (now (a .entry)) n (now (b .entry)) (now (x .entry)) «max_iters» ⌝ }
+{
+    let mut x_orig = [0.0f64; 128];
+    let mut r = [0.0f64; 128];
+    let mut p = [0.0f64; 128];
+    let mut ap = [0.0f64; 128];
+    copy(x, n, &mut x_orig[..n]);
+    let size = n * n;
+    linear_cgd_in(
+        a,
+        n,
+        b,
+        x,
+        max_iters,
+        &x_orig[..n],
+        &mut r[..n],
+        &mut p[..n],
+        &mut ap[..n],
+        &mut scratch[..size],
+    );
+}

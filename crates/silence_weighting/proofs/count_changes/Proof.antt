@@ -1,0 +1,96 @@
+use borrow.Author.Needs.{needs}
+use mathlib.Core.Path.{_≡_, ap, _∙_}
+use native.Mathlib.Omega.{arith}
+use Prim.Native.Nat.{ℕ, _-_, _*_, _≤_}
+use lib.ListN.{length}
+use mathlib.Core.Bool.{not}
+use Rattle.definition.specs.Silence.{tableIn}
+use Rattle.silence_weighting.specs.Steps.{changesTo}
+use Rattle.silence_weighting.proofs.Walk.{Walking, walk-start, walk-frame, walk-turn, walk-difference, walk-end, number-le, count-none, count-turn}
+use Rattle.silence_weighting.proofs.count_changes.Statement.{statement}
+use Rattle.silence_weighting.proofs.count_changes.Tie as tie
+
+abbrev Inv-loop : tie.InvT-loop
+Inv-loop s known is-silence current-weight n b blind weight₀ count₀ out i₀ weight count i =
+    Walking (s .length) known is-silence current-weight (s .«silence_weight») n b out blind weight i × ((first : ℕ) → count ≡ length (changesTo (s .«silence_weight») (s .subsampling) first n (tableIn (s .length) known is-silence current-weight) i)) × (count ≤ 16 * i)
+
+abbrev μ-loop : tie.MeasureT-loop
+μ-loop s known is-silence current-weight n b blind weight₀ count₀ out i₀ weight count i = out - i
+
+walk-begin-requires : tie.Need-walk-begin-requires Inv-loop μ-loop
+walk-begin-requires c κs = search needs
+
+flag-at-requires : tie.Need-flag-at-requires Inv-loop μ-loop
+flag-at-requires c κs = search needs
+
+before-weight-requires : tie.Need-before-weight-requires Inv-loop μ-loop
+before-weight-requires c κs = search needs
+
+less-requires : tie.Need-less-requires Inv-loop μ-loop
+less-requires c κs = search needs
+
+loop-holds : tie.Need-loop-holds Inv-loop μ-loop
+loop-holds c = (walk-start _ _ _ _ _ _ _ _ _ _ (c .before .before .before .walk-begin .ensures) (c .less .ensures) (ap not (c .before .before .flag-at .ensures)) (c .before .before-weight .ensures _ _), λ first. count-none _ _ first _ _, omega arith)
+
+add-frame : tie.Need-add-frame Inv-loop μ-loop
+add-frame c = search needs
+
+next-weight-requires : tie.Need-next-weight-requires Inv-loop μ-loop
+next-weight-requires c κs = search needs
+
+weight-at-requires : tie.Need-weight-at-requires Inv-loop μ-loop
+weight-at-requires c κs = search needs
+
+add-number-of : tie.Need-add-number-of Inv-loop μ-loop
+add-number-of c = search needs
+
+number-of-requires : tie.Need-number-of-requires Inv-loop μ-loop
+number-of-requires c κs = search needs
+
+add-count : tie.Need-add-count Inv-loop μ-loop
+add-count c = omega (arith, number-le _ _ _ _ (c .number-of .ensures), c .before .before .before .before .loop .inv .2)
+
+add-offset : tie.Need-add-offset Inv-loop μ-loop
+add-offset c = search needs
+
+loop-less : tie.Need-loop-less Inv-loop μ-loop
+loop-less c = search needs
+
+loop-again : tie.Need-loop-again Inv-loop μ-loop
+loop-again c =
+    let v = c .before .before .before .before .loop .inv in
+    let q = c .before .before .next-weight .ensures _ in
+    let r = c .number-of .ensures in
+    let d = walk-difference (v .0) q (c .before .weight-at .ensures) in (
+      walk-turn (v .0) q (c .before .before .before .loop-test .taken),
+      λ first. count-turn _ _ first _ _ _ _ _ _ _ (walk-frame (v .0) q) (v .1 first) d r,
+      omega (arith, number-le _ _ _ _ r),
+    )
+
+returns : tie.Need-returns Inv-loop μ-loop
+returns c =
+    let at-loop = c .before in
+    let args = at-loop .before .before .before .before .before .before .before .before .args in
+    λ first. at-loop .loop .inv .1 first ∙ ap length (walk-end (at-loop .loop .inv .0) (args .s .subsampling) first (c .loop-test .left))
+
+pub count-changes-spec : {M : Type 1} → statement M
+count-changes-spec =
+    tie.close
+    (tie.spec
+    Inv-loop
+    μ-loop
+    walk-begin-requires
+    flag-at-requires
+    before-weight-requires
+    less-requires
+    loop-holds
+    add-frame
+    next-weight-requires
+    weight-at-requires
+    add-number-of
+    number-of-requires
+    add-count
+    add-offset
+    loop-less
+    loop-again
+    returns)

@@ -1,0 +1,136 @@
+use borrow.Author.Needs.{needs}
+use mathlib.Core.Path.{sym, _∙_}
+use native.Mathlib.Omega.{arith}
+use lib.ListN.{length}
+use Rattle.silence_weighting.proofs.Refusals.{Sound, sound}
+use Rattle.silence_weighting.proofs.Calls.{refusal-broken, refusal-ready, refusal-first, refusal-wanted, refusal-nothing, refusal-short, refusal-none}
+use Rattle.silence_weighting.proofs.delta_refusal.Statement.{statement}
+use Rattle.silence_weighting.proofs.delta_refusal.Tie as tie
+
+unbroken : (c : tie.Else1) →
+    let args = c .before .before .before .before .before .args in
+    Sound (args .s) (length (args .known .now)) (length (args .is-silence .now)) (length (args .current-weight .now))
+unbroken c = sound _ _ _ _ (sym (c .before .table-broken .ensures) ∙ c .if1 .left)
+
+table-broken-requires : tie.Need-table-broken-requires
+table-broken-requires c κs = search needs
+
+returns : tie.Need-returns
+returns c =
+    let at-table-broken = c .before in
+    let args = at-table-broken .before .before .before .before .args in
+    refusal-broken (args .s) (args .known .now) (args .is-silence .now) (args .current-weight .now) (args .ready .0) (args .first .0) (args .frames) (args .weights) (sym (at-table-broken .table-broken .ensures) ∙ c .if1 .taken)
+
+returns-2 : tie.Need-returns-2
+returns-2 c =
+    let at-if1 = c .before .before in
+    let at-table-broken = at-if1 .before in
+    let args = at-table-broken .before .before .before .before .args in
+    refusal-ready (args .s) (args .known .now) (args .is-silence .now) (args .current-weight .now) (args .ready .0) (args .first .0) (args .frames) (args .weights) (sym (at-table-broken .table-broken .ensures) ∙ at-if1 .if1 .left) (c .if2 .taken)
+
+returns-3 : tie.Need-returns-3
+returns-3 c =
+    let at-if1 = c .before .before .before .before in
+    let at-table-broken = at-if1 .before in
+    let args = at-table-broken .before .before .before .before .args in
+    refusal-first (args .s) (args .known .now) (args .is-silence .now) (args .current-weight .now) (args .ready .0) (args .first .0) (args .frames) (args .weights) (sym (at-table-broken .table-broken .ensures) ∙ at-if1 .if1 .left) (c .if3 .taken)
+
+less-requires : tie.Need-less-requires
+less-requires c κs = search needs
+
+decoder-frames-requires : tie.Need-decoder-frames-requires
+decoder-frames-requires c κs =
+    let b = unbroken (c .before .before .before .before .before) in
+    (omega arith, omega arith, omega arith)
+
+places-requires : tie.Need-places-requires
+places-requires c κs = search needs
+
+returns-4 : tie.Need-returns-4
+returns-4 c =
+    let at-places = c .before .before in
+    let at-decoder-frames = at-places .before in
+    let at-less = at-decoder-frames .before in
+    let at-if3 = at-less .before in
+    let at-if2 = at-if3 .before .before in
+    let at-if1 = at-if2 .before .before in
+    let at-table-broken = at-if1 .before in
+    let args = at-table-broken .before .before .before .before .args in
+    refusal-wanted (args .s) (args .known .now) (args .is-silence .now) (args .current-weight .now) (args .ready .0) (args .first .0) (args .frames) (args .weights) (sym (at-table-broken .table-broken .ensures) ∙ at-if1 .if1 .left) (at-if2 .if2 .left) (at-if3 .if3 .left) _ _ _ (at-places .places .ensures) (at-decoder-frames .decoder-frames .ensures) (at-less .less .ensures) (c .if4 .taken)
+
+returns-5 : tie.Need-returns-5
+returns-5 c =
+    let at-if4 = c .before .before .before in
+    let at-places = at-if4 .before .before in
+    let at-decoder-frames = at-places .before in
+    let at-less = at-decoder-frames .before in
+    let at-if3 = at-less .before in
+    let at-if2 = at-if3 .before .before in
+    let at-if1 = at-if2 .before .before in
+    let at-table-broken = at-if1 .before in
+    let args = at-table-broken .before .before .before .before .args in
+    refusal-nothing (args .s) (args .known .now) (args .is-silence .now) (args .current-weight .now) (args .ready .0) (args .first .0) (args .frames) (args .weights) (sym (at-table-broken .table-broken .ensures) ∙ at-if1 .if1 .left) (at-if2 .if2 .left) (at-if3 .if3 .left) _ _ _ (at-places .places .ensures) (at-decoder-frames .decoder-frames .ensures) (at-less .less .ensures) (at-if4 .if4 .left) (c .if5 .taken)
+
+larger-requires : tie.Need-larger-requires
+larger-requires c κs = search needs
+
+count-changes-requires : tie.Need-count-changes-requires
+count-changes-requires c κs =
+    let b = unbroken (c .before .before .before .before .before .before .before .before .before .before .before .before .before) in
+    (omega arith, omega arith, omega arith, omega arith, omega arith, omega arith)
+
+smaller-requires : tie.Need-smaller-requires
+smaller-requires c κs = search needs
+
+returns-6 : tie.Need-returns-6
+returns-6 c =
+    let at-smaller = c .before in
+    let at-count-changes = at-smaller .before in
+    let at-larger = at-count-changes .before in
+    let at-if5 = at-larger .before in
+    let at-if4 = at-if5 .before .before .before in
+    let at-places = at-if4 .before .before in
+    let at-decoder-frames = at-places .before in
+    let at-less = at-decoder-frames .before in
+    let at-if3 = at-less .before in
+    let at-if2 = at-if3 .before .before in
+    let at-if1 = at-if2 .before .before in
+    let at-table-broken = at-if1 .before in
+    let args = at-table-broken .before .before .before .before .args in
+    refusal-short (args .s) (args .known .now) (args .is-silence .now) (args .current-weight .now) (args .ready .0) (args .first .0) (args .frames) (args .weights) (sym (at-table-broken .table-broken .ensures) ∙ at-if1 .if1 .left) (at-if2 .if2 .left) (at-if3 .if3 .left) _ _ _ (at-places .places .ensures) (at-decoder-frames .decoder-frames .ensures) (at-less .less .ensures) (at-if4 .if4 .left) (at-if5 .if5 .left) _ _ _ (at-larger .larger .ensures) (at-count-changes .count-changes .ensures (args .first .0)) (at-smaller .smaller .ensures) (c .if6 .taken)
+
+returns-7 : tie.Need-returns-7
+returns-7 c =
+    let at-smaller = c .before in
+    let at-count-changes = at-smaller .before in
+    let at-larger = at-count-changes .before in
+    let at-if5 = at-larger .before in
+    let at-if4 = at-if5 .before .before .before in
+    let at-places = at-if4 .before .before in
+    let at-decoder-frames = at-places .before in
+    let at-less = at-decoder-frames .before in
+    let at-if3 = at-less .before in
+    let at-if2 = at-if3 .before .before in
+    let at-if1 = at-if2 .before .before in
+    let at-table-broken = at-if1 .before in
+    let args = at-table-broken .before .before .before .before .args in
+    refusal-none (args .s) (args .known .now) (args .is-silence .now) (args .current-weight .now) (args .ready .0) (args .first .0) (args .frames) (args .weights) (sym (at-table-broken .table-broken .ensures) ∙ at-if1 .if1 .left) (at-if2 .if2 .left) (at-if3 .if3 .left) _ _ _ (at-places .places .ensures) (at-decoder-frames .decoder-frames .ensures) (at-less .less .ensures) (at-if4 .if4 .left) (at-if5 .if5 .left) _ _ _ (at-larger .larger .ensures) (at-count-changes .count-changes .ensures (args .first .0)) (at-smaller .smaller .ensures) (c .if6 .left)
+
+pub delta-refusal-spec : {M : Type 1} → statement M
+delta-refusal-spec =
+    tie.close
+    (tie.spec
+    table-broken-requires
+    returns
+    returns-2
+    returns-3
+    less-requires
+    decoder-frames-requires
+    places-requires
+    returns-4
+    returns-5
+    larger-requires
+    count-changes-requires
+    smaller-requires
+    returns-6
+    returns-7)

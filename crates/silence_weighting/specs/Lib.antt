@@ -1,0 +1,2 @@
+-- what the contracts of inner functions cite: not for readers
+pub mod Steps
