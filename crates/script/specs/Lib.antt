@@ -1,0 +1,2 @@
+-- how the numbers of a script are read
+pub mod Scan

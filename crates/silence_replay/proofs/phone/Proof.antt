@@ -1,0 +1,25 @@
+use borrow.Author.Needs.{needs}
+use Rattle.silence_replay.proofs.Phones.{phone-fits}
+use Rattle.silence_replay.proofs.phone.Statement.{statement}
+use Rattle.silence_replay.proofs.phone.Tie as tie
+
+cast-m : tie.Need-cast-m
+cast-m c = search needs
+
+sub-result : tie.Need-sub-result
+sub-result c = phone-fits ((c .before .args) .n)
+
+returns : tie.Need-returns
+returns c = tt
+
+returns-2 : tie.Need-returns-2
+returns-2 c = tt
+
+pub phone-spec : {M : Type 1} → statement M
+phone-spec =
+    tie.close
+    (tie.spec
+    cast-m
+    sub-result
+    returns
+    returns-2)
