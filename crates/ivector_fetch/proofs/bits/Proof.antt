@@ -1,0 +1,28 @@
+use borrow.Author.Needs.{needs}
+use mathlib.Core.Path.{_≡_, refl, sym, ap, _∙_}
+use mathlib.Core.Bool.{not}
+use Prim.Native.Nat.{ℕ, _+_, _-_, _≤_, _<_}
+use native.Mathlib.Omega.{arith}
+use lib.ListN.{length, length-set}
+use lib.Ieee.{binary32, toBits, isNan}
+use Rattle.floats.proofs.Patterns.{no-nan, false-not}
+use Rattle.ivector_fetch.proofs.Vector.{nan-bits}
+use Rattle.ivector_fetch.proofs.bits.Statement.{statement}
+use Rattle.ivector_fetch.proofs.bits.Tie as tie
+
+returns : tie.Need-returns
+returns c = nan-bits ((c .before .args) .x) ((c .if1) .taken)
+
+float-to-bits-result : tie.Need-float-to-bits-result
+float-to-bits-result c = false-not (isNan ((c .before .args) .x)) (no-nan ((c .before .args) .x) ((c .if1) .left))
+
+returns-2 : tie.Need-returns-2
+returns-2 c = search needs
+
+pub bits-spec : {M : Type 1} → statement M
+bits-spec =
+    tie.close
+    (tie.spec
+    returns
+    float-to-bits-result
+    returns-2)

@@ -1,0 +1,30 @@
+use borrow.Author.Needs.{needs}
+use mathlib.Core.Path.{_≡_, refl, sym, ap, _∙_}
+use mathlib.Core.Bool.{not}
+use Prim.Native.Nat.{ℕ, _+_, _-_, _≤_, _<_}
+use native.Mathlib.Omega.{arith}
+use lib.ListN.{length, length-set}
+use Rattle.ivector_fetch.proofs.Vector.{first-element, later-element}
+use Rattle.ivector_fetch.proofs.fetched_at.Statement.{statement}
+use Rattle.ivector_fetch.proofs.fetched_at.Tie as tie
+
+narrow-requires : tie.Need-narrow-requires
+narrow-requires c κs = search needs
+
+narrow-requires-2 : tie.Need-narrow-requires-2
+narrow-requires-2 c κs = search needs
+
+returns : tie.Need-returns
+returns c = first-element _ _ _ ((c .before .if1) .taken) ((c .before .before .narrow) .ensures) ((c .narrow2) .ensures)
+
+returns-2 : tie.Need-returns-2
+returns-2 c = later-element _ _ _ ((c .if1) .left) ((c .before .narrow) .ensures)
+
+pub fetched-at-spec : {M : Type 1} → statement M
+fetched-at-spec =
+    tie.close
+    (tie.spec
+    narrow-requires
+    narrow-requires-2
+    returns
+    returns-2)

@@ -1,0 +1,2 @@
+-- What inner functions leave. Not for readers.
+pub mod Steps

@@ -1,0 +1,4 @@
+pub mod Turns
+pub mod Changed
+pub mod Updated
+pub mod Rooms

@@ -1,0 +1,91 @@
+-- A batch's sums in the statistics, and the estimate after it.
+use mathlib.Core.Path.{_≡_, refl, sym, ap, subst, _∙_}
+use Prim.Native.Nat.{ℕ, zero, suc, _+_, _≤_, _<_}
+use native.Mathlib.Nat.{not-suc-le-zero, suc-ne-zero}
+use native.Mathlib.Omega.{arith}
+use mathlib.Core.Bool.{Bool, true, false}
+use mathlib.Core.List.{List, [], _∷_, _++_, map}
+use lib.ListN.{length}
+use lib.Ieee.{Float}
+use lib.Dec.{eqb}
+use Rattle.loops.specs.Lists.{if_then_else_, build}
+use Rattle.loops.proofs.Choose.{by-test, choose-true, choose-false}
+use Rattle.floats.specs.Operators.{_+₃₂_}
+use Rattle.definition.specs.declared.IvectorInfo.{IvectorInfo}
+use Rattle.definition.specs.declared.IvectorOptions.{IvectorOptions}
+use Rattle.definition.specs.declared.FrameWeight.{FrameWeight}
+use Rattle.definition.specs.Model.{Model}
+use Rattle.definition.specs.Views.{Frames, normalisedRow, rawRow, ldaFrame}
+use Rattle.definition.specs.Posteriors.{loglikes, posteriors, weighed}
+use Rattle.definition.specs.Statistics.{Entry, Stats, acc}
+use Rattle.definition.specs.Changes.{Change, merged, mergedFrom, Batch}
+use Rattle.definition.specs.Solve.{getIvector}
+use Rattle.definition.specs.Estimate.{Estimate, entries, accumulated, updated}
+use Rattle.ivector_update.specs.Steps.{viewModel, run, changesBatch, estimate}
+
+module _ (M : Model) where
+  abbrev viewOf : Model
+  viewOf = viewModel (M .info) (M .gconsts) (M .means-invvars-t) (M .inv-vars-t) (M .lda-t) (M .lda-offset) (M .global-mean-stats)
+
+  -- a batch's entries depend on no other table
+  pub entries-view : (F : Frames) (bs : Batch) (c : List Float) → entries viewOf F bs c ≡ entries M F bs c
+  unfolding entries
+  entries-view F [] c = refl
+  entries-view F (b ∷ bs) c = rw (entries-view F bs (normalisedRow (M .info .opts) (M .info .dims .«base_dim») (M .global-mean-stats) F (b .0) c .0))
+
+  module _ (es : List Entry) (st : Stats) where
+    abbrev taken-in : Stats
+    taken-in = acc (M .info .dims .«feat_dim») (M .info .dims .«ivector_dim») (M .sigma-inv-m) (M .u) (M .info .«prior_offset») (M .info .opts .«max_count») es st
+
+    pub run-taken : (first : ℕ) (w : FrameWeight) (n : ℕ) → 0 < n → taken-in ≡ accumulated M (run first w n) es st
+    unfolding accumulated build
+    run-taken first w zero p = absurd (not-suc-le-zero p)
+    run-taken first w (suc n) p = refl
+
+    group-taken : (o : IvectorOptions) (t : ℕ) (w : Float) (cs : List Change) → taken-in ≡ accumulated M (map (λ d. (d .0, weighed o (d .1))) (mergedFrom t w cs)) es st
+    unfolding accumulated mergedFrom
+    group-taken o t w [] = refl
+    group-taken o t w (c ∷ cs) =
+        by-test (eqb (c .0) t)
+        (λ h. rw h (group-taken o (c .0) (w +₃₂ c .1) cs))
+        (λ h. rw h refl)
+
+    pub changes-taken : (o : IvectorOptions) (cs : List Change) → 0 < length cs → taken-in ≡ accumulated M (changesBatch o cs) es st
+    unfolding merged
+    changes-taken o [] p = absurd (not-suc-le-zero p)
+    changes-taken o (c ∷ cs) p = group-taken o (c .0) (c .1) cs
+
+    pub none-taken : (o : IvectorOptions) (cs : List Change) → length cs ≡ 0 → st ≡ accumulated M (changesBatch o cs) es st
+    unfolding merged accumulated
+    none-taken o [] p = refl
+    none-taken o (c ∷ cs) p = absurd (suc-ne-zero _ p)
+
+  module _ (F : Frames) (c : List Float) {bs bs′ : Batch} (e : bs ≡ bs′) where
+    as-model : entries viewOf F bs c ≡ entries M F bs′ c
+    as-model = entries-view F bs c ∙ ap (λ (b : Batch). entries M F b c) e
+
+    pub state-as : {x : List Float} → x ≡ entries viewOf F bs c .0 → x ≡ entries M F bs′ c .0
+    state-as h = h ∙ ap (λ (p : List Float × List Entry). p .0) as-model
+
+    pub stats-as : (st : Stats) {x : Stats} → x ≡ taken-in (entries viewOf F bs c .1) st
+        → taken-in (entries M F bs′ c .1) st ≡ accumulated M bs′ (entries M F bs′ c .1) st → x ≡ accumulated M bs′ (entries M F bs′ c .1) st
+    stats-as st h g = h ∙ ap (λ (p : List Float × List Entry). taken-in (p .1) st) as-model ∙ g
+
+  -- no change, no frame
+  pub state-none : (F : Frames) (o : IvectorOptions) (cs : List Change) (c : List Float) → length cs ≡ 0 → c ≡ entries M F (changesBatch o cs) c .0
+  unfolding merged entries
+  state-none F o [] c p = refl
+  state-none F o (x ∷ cs) c p = absurd (suc-ne-zero _ p)
+
+  -- the estimate, by its parts
+  pub estimated : (F : Frames) (bs : Batch) (e : Estimate) {c v : List Float} {st : Stats} → c ≡ entries M F bs (e .cmvn) .0
+      → st ≡ accumulated M bs (entries M F bs (e .cmvn) .1) (e .stats)
+      → v ≡ getIvector (M .info .dims .«ivector_dim») (M .info .«prior_offset») (M .info .opts .«num_cg_iters») st (e .current)
+      → estimate c st v ≡ updated M F bs e
+  unfolding updated
+  estimated F bs e h g k = rw (k, g, h)
+
+  -- the same batch
+  pub same-batch : (F : Frames) (c : List Float) (st : Stats) {c′ : List Float} {st′ : Stats} {bs bs′ : Batch} → bs ≡ bs′
+      → (c′ ≡ entries M F bs c .0) × (st′ ≡ accumulated M bs (entries M F bs c .1) st) → (c′ ≡ entries M F bs′ c .0) × (st′ ≡ accumulated M bs′ (entries M F bs′ c .1) st)
+  same-batch F c st {c′} {st′} e h = subst (λ (b : Batch). (c′ ≡ entries M F b c .0) × (st′ ≡ accumulated M b (entries M F b c .1) st)) e h
