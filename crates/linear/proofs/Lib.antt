@@ -1,4 +1,4 @@
-mod Packing
+pub mod Packing
 mod Rooms
 mod Rows
 mod Cells

@@ -56,7 +56,7 @@ pub fn dot(a: &[f64], b: &[f64], n: usize) -> f64
     s
 }
 
-fn clear(x: &mut [f64], n: usize)
+pub fn clear(x: &mut [f64], n: usize)
     requires { ⌜ length (now x) ≡ n ⌝ }
     ensures { λ _. ⌜ now (x .exit) ≡ replicate n zero₆₄ ⌝ }
 {

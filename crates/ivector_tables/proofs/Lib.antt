@@ -1,0 +1,4 @@
+-- Laws of the tables.
+mod Gmm
+mod Rows
+mod Again

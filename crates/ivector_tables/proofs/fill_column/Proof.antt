@@ -1,0 +1,97 @@
+use borrow.Author.Needs.{needs}
+use mathlib.Core.Path.{_≡_, refl, _∙_}
+use Prim.Native.Nat.{_+_, _-_, _*_, _≤_}
+use native.Mathlib.Omega.{arith}
+use lib.ListN.{length, drop, length-set}
+use lib.Ieee.{binary32}
+use Rattle.loops.specs.Steps.{fill}
+use Rattle.loops.proofs.Fill.{fill-none, fill-turn, fill-end, fill-whole}
+use Rattle.loops.proofs.Cells.{row-in, cell-below}
+use Rattle.floats.specs.Operators.{at}
+use Rattle.definition.specs.Reader.{numbers}
+use Rattle.ivector_tables.proofs.Gmm.{few}
+use Rattle.ivector_tables.proofs.fill_column.Statement.{statement}
+use Rattle.ivector_tables.proofs.fill_column.Tie as tie
+
+abbrev Inv-loop : tie.InvT-loop
+Inv-loop s from rows cols c out₀ n r₀ out r =
+    (r ≤ rows) × (length out ≡ length out₀) × (out ≡ fill r (λ r. at (numbers binary32 (rows * cols) (drop from s)) (r * cols + c)) out₀)
+
+abbrev μ-loop : tie.MeasureT-loop
+μ-loop s from rows cols c out₀ n r₀ out r = rows - r
+
+mul-n : tie.Need-mul-n Inv-loop μ-loop
+mul-n c =
+    let args = c .before .before .args in
+    let pre = c .before .before .pre in
+    omega (arith, few (args .rows) (args .cols) (pre .1 .0) (pre .1 .1))
+
+loop-holds : tie.Need-loop-holds Inv-loop μ-loop
+loop-holds c = (omega arith, refl, fill-none _ _)
+
+mul-f32-at : tie.Need-mul-f32-at Inv-loop μ-loop
+mul-f32-at c =
+    let args = c .before .before .before .before .args in
+    let pre = c .before .before .before .before .pre in
+    omega (arith, few (args .rows) (args .cols) (pre .1 .0) (pre .1 .1), row-in ((c .before .loop) .r) (args .rows) (args .cols) ((args .rows) * (args .cols)) (omega arith) ((c .loop-test) .taken))
+
+add-f32-at : tie.Need-add-f32-at Inv-loop μ-loop
+add-f32-at c =
+    let args = c .before .before .before .before .args in
+    let pre = c .before .before .before .before .pre in
+    omega (arith, few (args .rows) (args .cols) (pre .1 .0) (pre .1 .1), cell-below ((c .before .loop) .r) (args .c) (args .rows) (args .cols) ((c .loop-test) .taken) (pre .1 .2))
+
+f32-at-requires : tie.Need-f32-at-requires Inv-loop μ-loop
+f32-at-requires c κs =
+    let pre = c .before .before .before .before .pre in
+    let args = c .before .before .before .before .args in
+    ((pre .0), cell-below ((c .before .loop) .r) (args .c) (args .rows) (args .cols) ((c .loop-test) .taken) (pre .1 .2))
+
+mul-out : tie.Need-mul-out Inv-loop μ-loop
+mul-out c = search needs
+
+slice-write-out : tie.Need-slice-write-out Inv-loop μ-loop
+slice-write-out c =
+    let pre = c .before .before .before .before .before .pre in
+    omega (arith, (pre .1 .3), ((c .before .loop-test) .taken), ((c .before .before .loop) .inv .1))
+
+add-r : tie.Need-add-r Inv-loop μ-loop
+add-r c = search needs
+
+loop-less : tie.Need-loop-less Inv-loop μ-loop
+loop-less c = search needs
+
+loop-again : tie.Need-loop-again Inv-loop μ-loop
+loop-again c =
+    let loop-test = c .before .loop-test in
+    let loop = c .before .before .loop in
+    let pre = c .before .before .before .before .before .pre in
+    (omega (arith, (loop-test .taken)), simp length-set (loop .inv .1), fill-turn _ _ _ (omega (arith, (pre .1 .3), (loop-test .taken))) (loop .inv .2) ((c .f32-at) .ensures))
+
+same-length : tie.Need-same-length Inv-loop μ-loop
+same-length c = search needs
+
+returns : tie.Need-returns Inv-loop μ-loop
+returns c =
+    let loop = c .before .loop in
+    let pre = c .before .before .before .before .pre in
+    fill-end _ _ _ _ (loop .inv .0) ((c .loop-test) .left) (loop .inv .2) ∙ fill-whole _ _ _ (pre .1 .3)
+
+pub fill-column-spec : {M : Type 1} → statement M
+fill-column-spec =
+    tie.close
+    (tie.spec
+    Inv-loop
+    μ-loop
+    mul-n
+    loop-holds
+    mul-f32-at
+    add-f32-at
+    f32-at-requires
+    mul-out
+    slice-write-out
+    add-r
+    loop-less
+    loop-again
+    same-length
+    returns)

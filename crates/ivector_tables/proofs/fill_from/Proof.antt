@@ -1,0 +1,43 @@
+use borrow.Author.Needs.{needs}
+use native.Mathlib.Omega.{arith}
+use Rattle.ivector_tables.proofs.Rows.{sigma-by, quadratic-by}
+use Rattle.ivector_tables.proofs.fill_from.Statement.{statement}
+use Rattle.ivector_tables.proofs.fill_from.Tie as tie
+
+read-gaussian-requires : tie.Need-read-gaussian-requires
+read-gaussian-requires c κs =
+    let pre = c .before .before .before .before .before .pre in
+    ((pre .0), ((pre .1 .0), ((pre .1 .1 .0), (pre .1 .1 .1), (pre .1 .1 .2))))
+
+fill-tables-requires : tie.Need-fill-tables-requires
+fill-tables-requires c κs =
+    let pre = c .before .before .before .before .before .before .before .before .before .before .before .pre in
+    let read-gaussian = c .before .before .before .before .before .read-gaussian in
+    ((pre .1 .1 .0), (pre .1 .1 .1), omega (arith, (read-gaussian .kept .1 .1 .1 .1 .1 .0), (pre .1 .1 .2)), (pre .1 .1 .3), (pre .1 .1 .4))
+
+same-length : tie.Need-same-length
+same-length c = search needs
+
+same-length-2 : tie.Need-same-length-2
+same-length-2 c = search needs
+
+same-length-3 : tie.Need-same-length-3
+same-length-3 c = search needs
+
+returns : tie.Need-returns
+returns c =
+    let args = c .before .before .before .before .before .before .before .before .before .before .before .before .before .before .before .before .args in
+    let fill-tables = c .before .before .before .before .fill-tables in
+    let read-gaussian = c .before .before .before .before .before .before .before .before .before .before .read-gaussian in
+    (sigma-by (args .d) (args .n) (fill-tables .ensures .0) (read-gaussian .ensures .0) (read-gaussian .ensures .1), quadratic-by (args .d) (args .n) (fill-tables .ensures .1) (read-gaussian .ensures .0) (read-gaussian .ensures .1))
+
+pub fill-from-spec : {M : Type 1} → statement M
+fill-from-spec =
+    tie.close
+    (tie.spec
+    read-gaussian-requires
+    fill-tables-requires
+    same-length
+    same-length-2
+    same-length-3
+    returns)

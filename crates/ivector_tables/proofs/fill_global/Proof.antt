@@ -1,0 +1,49 @@
+use mathlib.Core.Path.{sym, ap, _∙_, subst}
+use mathlib.Core.List.{List}
+use Prim.Native.Nat.{ℕ}
+use lib.Seq.{length-take-le}
+use lib.Ieee.{Float}
+use Rattle.loops.specs.Lists.{over}
+use Rattle.loops.proofs.Fill.{over-back}
+use Rattle.kaldi_text.specs.Answers.{RowIn}
+use Rattle.ivector_tables.proofs.Rows.{front-length}
+use Rattle.ivector_tables.proofs.fill_global.Statement.{statement}
+use Rattle.ivector_tables.proofs.fill_global.Tie as tie
+
+slice-relend-prefix-fill-row : tie.Need-slice-relend-prefix-fill-row
+slice-relend-prefix-fill-row c = ((c .before .before .pre) .1)
+
+slice-aggregate-fill-row : tie.Need-slice-aggregate-fill-row
+slice-aggregate-fill-row c =
+    let pre = c .before .before .before .pre in
+    sym (length-take-le _ _ (pre .1))
+
+fill-row-requires : tie.Need-fill-row-requires
+fill-row-requires c κs =
+    let args = c .before .before .before .args in
+    let pre = c .before .before .before .pre in
+    subst (λ (n : ℕ). RowIn (args .s .now) n (args .from)) (sym (length-take-le _ _ (pre .1))) (pre .0)
+
+same-length : tie.Need-same-length
+same-length c =
+    let args = c .before .before .before .before .before .before .args in
+    let fill-row = c .before .before .fill-row in
+    let pre = c .before .before .before .before .before .before .pre in
+    front-length (args .len) (args .out .now) (fill-row .last .1 .1 .0) ((fill-row .kept .1 .1 .0) ∙ length-take-le _ _ (pre .1)) (pre .1)
+
+returns : tie.Need-returns
+returns c =
+    let fill-row = c .before .before .fill-row in
+    let pre = c .before .before .before .before .before .before .pre in
+    let args = c .before .before .before .before .before .before .args in
+    over-back _ _ _ ((fill-row .kept .1 .1 .0) ∙ length-take-le _ _ (pre .1)) ∙ ap (λ (l : List Float). over l (args .out .now)) (fill-row .ensures)
+
+pub fill-global-spec : {M : Type 1} → statement M
+fill-global-spec =
+    tie.close
+    (tie.spec
+    slice-relend-prefix-fill-row
+    slice-aggregate-fill-row
+    fill-row-requires
+    same-length
+    returns)

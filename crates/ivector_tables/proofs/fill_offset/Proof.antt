@@ -1,0 +1,70 @@
+use borrow.Author.Needs.{needs}
+use mathlib.Core.Path.{_≡_, refl, _∙_}
+use Prim.Native.Nat.{_-_, _≤_}
+use native.Mathlib.Omega.{arith}
+use lib.ListN.{length, length-set}
+use Rattle.loops.specs.Steps.{fill}
+use Rattle.loops.proofs.Fill.{fill-none, fill-turn, fill-end, fill-over}
+use Rattle.ivector_tables.specs.Steps.{floatMatrix, ldaOffset}
+use Rattle.ivector_tables.proofs.fill_offset.Statement.{statement}
+use Rattle.ivector_tables.proofs.fill_offset.Tie as tie
+
+abbrev Inv-loop : tie.InvT-loop
+Inv-loop s from rows cols spliced out₀ r₀ out r =
+    (r ≤ rows) × (length out ≡ length out₀) × (out ≡ fill r (ldaOffset spliced (floatMatrix s rows cols from)) out₀)
+
+abbrev μ-loop : tie.MeasureT-loop
+μ-loop s from rows cols spliced out₀ r₀ out r = rows - r
+
+loop-holds : tie.Need-loop-holds Inv-loop μ-loop
+loop-holds c = (omega arith, refl, fill-none _ _)
+
+offset-at-requires : tie.Need-offset-at-requires Inv-loop μ-loop
+offset-at-requires c κs =
+    let pre = c .before .before .before .before .pre in
+    ((pre .0), ((pre .1 .0), (pre .1 .1), ((c .loop-test) .taken)))
+
+mul-out : tie.Need-mul-out Inv-loop μ-loop
+mul-out c = search needs
+
+slice-write-out : tie.Need-slice-write-out Inv-loop μ-loop
+slice-write-out c =
+    let pre = c .before .before .before .before .before .pre in
+    omega (arith, (pre .1 .2), ((c .before .loop-test) .taken), ((c .before .before .loop) .inv .1))
+
+add-r : tie.Need-add-r Inv-loop μ-loop
+add-r c = search needs
+
+loop-less : tie.Need-loop-less Inv-loop μ-loop
+loop-less c = search needs
+
+loop-again : tie.Need-loop-again Inv-loop μ-loop
+loop-again c =
+    let loop-test = c .before .loop-test in
+    let loop = c .before .before .loop in
+    let pre = c .before .before .before .before .before .pre in
+    (omega (arith, (loop-test .taken)), simp length-set (loop .inv .1), fill-turn _ _ _ (omega (arith, (pre .1 .2), (loop-test .taken))) (loop .inv .2) ((c .offset-at) .ensures))
+
+same-length : tie.Need-same-length Inv-loop μ-loop
+same-length c = search needs
+
+returns : tie.Need-returns Inv-loop μ-loop
+returns c =
+    let loop = c .before .loop in
+    fill-end _ _ _ _ (loop .inv .0) ((c .loop-test) .left) (loop .inv .2) ∙ fill-over _ _ _
+
+pub fill-offset-spec : {M : Type 1} → statement M
+fill-offset-spec =
+    tie.close
+    (tie.spec
+    Inv-loop
+    μ-loop
+    loop-holds
+    offset-at-requires
+    mul-out
+    slice-write-out
+    add-r
+    loop-less
+    loop-again
+    same-length
+    returns)

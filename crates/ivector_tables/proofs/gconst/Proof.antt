@@ -1,0 +1,121 @@
+use borrow.Author.Needs.{needs}
+use mathlib.Core.Path.{_≡_, refl, ap, _∙_}
+use Prim.Native.Nat.{_-_, _*_, _≤_}
+use native.Mathlib.Omega.{arith}
+use lib.Ieee.{Float}
+use Rattle.loops.proofs.Loop.{iter-step, iter-end, iter-none}
+use Rattle.loops.proofs.Cells.{row-in, cell-below}
+use Rattle.floats.specs.Operators.{_+₆₄_, sum₆₄}
+use Rattle.floats.specs.Ln.{lnOf}
+use Rattle.ivector_tables.specs.Steps.{gmmAt}
+use Rattle.ivector_tables.proofs.Gmm.{term, term-is, gconst-is, few}
+use Rattle.ivector_tables.proofs.gconst.Statement.{statement}
+use Rattle.ivector_tables.proofs.gconst.Tie as tie
+
+abbrev Inv-loop : tie.InvT-loop
+Inv-loop s gauss d weights means vars offset g n start w gc₀ k₀ gc k =
+    (k ≤ d) × (gc ≡ sum₆₄ gc₀ k (term (gmmAt s gauss d weights means vars) g))
+
+abbrev μ-loop : tie.MeasureT-loop
+μ-loop s gauss d weights means vars offset g n start w gc₀ k₀ gc k = d - k
+
+mul-n : tie.Need-mul-n Inv-loop μ-loop
+mul-n c =
+    let args = c .before .args in
+    let pre = c .before .pre in
+    omega (arith, few (args .num-gauss) (args .d) ((pre .0) .gauss-high) (omega (arith, (pre .0) .dim-high)))
+
+mul-start : tie.Need-mul-start Inv-loop μ-loop
+mul-start c =
+    let args = c .before .args in
+    let pre = c .before .pre in
+    omega (arith, few (args .num-gauss) (args .d) ((pre .0) .gauss-high) (omega (arith, (pre .0) .dim-high)), row-in (args .g) (args .num-gauss) (args .d) ((args .num-gauss) * (args .d)) (omega arith) (pre .1 .1))
+
+f32-at-requires : tie.Need-f32-at-requires Inv-loop μ-loop
+f32-at-requires c κs =
+    let pre = c .before .pre in
+    ((pre .0) .weights-ready, (pre .1 .1))
+
+f32-to-f64-with-nan-requires : tie.Need-f32-to-f64-with-nan-requires Inv-loop μ-loop
+f32-to-f64-with-nan-requires c κs = search needs
+
+ln-requires : tie.Need-ln-requires Inv-loop μ-loop
+ln-requires c κs = search needs
+
+loop-holds : tie.Need-loop-holds Inv-loop μ-loop
+loop-holds c = (omega arith, iter-none _ _)
+
+add-f32-at : tie.Need-add-f32-at Inv-loop μ-loop
+add-f32-at c =
+    let args = c .before .before .before .before .before .before .args in
+    let pre = c .before .before .before .before .before .before .pre in
+    omega (arith, few (args .num-gauss) (args .d) ((pre .0) .gauss-high) (omega (arith, (pre .0) .dim-high)), cell-below (args .g) ((c .before .loop) .k) (args .num-gauss) (args .d) (pre .1 .1) ((c .loop-test) .taken))
+
+f32-at-requires-2 : tie.Need-f32-at-requires-2 Inv-loop μ-loop
+f32-at-requires-2 c κs =
+    let pre = c .before .before .before .before .before .before .pre in
+    let args = c .before .before .before .before .before .before .args in
+    ((pre .0) .means-ready, cell-below (args .g) ((c .before .loop) .k) (args .num-gauss) (args .d) (pre .1 .1) ((c .loop-test) .taken))
+
+add-f32-at-2 : tie.Need-add-f32-at-2 Inv-loop μ-loop
+add-f32-at-2 c =
+    let args = c .before .before .before .before .before .before .before .args in
+    let pre = c .before .before .before .before .before .before .before .pre in
+    omega (arith, few (args .num-gauss) (args .d) ((pre .0) .gauss-high) (omega (arith, (pre .0) .dim-high)), cell-below (args .g) ((c .before .before .loop) .k) (args .num-gauss) (args .d) (pre .1 .1) ((c .before .loop-test) .taken))
+
+f32-at-requires-3 : tie.Need-f32-at-requires-3 Inv-loop μ-loop
+f32-at-requires-3 c κs =
+    let pre = c .before .before .before .before .before .before .before .pre in
+    let args = c .before .before .before .before .before .before .before .args in
+    ((pre .0) .vars-ready, cell-below (args .g) ((c .before .before .loop) .k) (args .num-gauss) (args .d) (pre .1 .1) ((c .before .loop-test) .taken))
+
+gconst-term-requires : tie.Need-gconst-term-requires Inv-loop μ-loop
+gconst-term-requires c κs = search needs
+
+add-k : tie.Need-add-k Inv-loop μ-loop
+add-k c = search needs
+
+loop-less : tie.Need-loop-less Inv-loop μ-loop
+loop-less c = search needs
+
+loop-again : tie.Need-loop-again Inv-loop μ-loop
+loop-again c =
+    let loop-test = c .before .before .before .loop-test in
+    let loop = c .before .before .before .before .loop in
+    (omega (arith, (loop-test .taken)), iter-step _ _ _ (loop .inv .1) (ap (λ (x : Float). (loop .gc) +₆₄ x) (((c .gconst-term) .ensures) ∙ term-is refl ((c .before .before .f32-at2) .ensures) ((c .before .f32-at3) .ensures))))
+
+narrow-requires : tie.Need-narrow-requires Inv-loop μ-loop
+narrow-requires c κs = search needs
+
+returns : tie.Need-returns Inv-loop μ-loop
+returns c =
+    let args = c .before .before .before .before .before .before .before .args in
+    let ln = c .before .before .before .ln in
+    let f32-to-f64-with-nan = c .before .before .before .before .f32-to-f64-with-nan in
+    let f32-at = c .before .before .before .before .before .f32-at in
+    let pre = c .before .before .before .before .before .before .before .pre in
+    let loop = c .before .before .loop in
+    gconst-is (gmmAt (args .s .now) (args .num-gauss) (args .d) (args .weights) (args .means-invvars) (args .inv-vars)) (args .g) ((ln .ensures) ∙ ap lnOf ((f32-to-f64-with-nan .ensures) ∙ (f32-at .ensures))) (pre .1 .0) (iter-end _ _ _ _ (loop .inv .0) ((c .before .loop-test) .left) (loop .inv .1)) ((c .narrow) .ensures)
+
+pub gconst-spec : {M : Type 1} → statement M
+gconst-spec =
+    tie.close
+    (tie.spec
+    Inv-loop
+    μ-loop
+    mul-n
+    mul-start
+    f32-at-requires
+    f32-to-f64-with-nan-requires
+    ln-requires
+    loop-holds
+    add-f32-at
+    f32-at-requires-2
+    add-f32-at-2
+    f32-at-requires-3
+    gconst-term-requires
+    add-k
+    loop-less
+    loop-again
+    narrow-requires
+    returns)

@@ -1,0 +1,139 @@
+use borrow.Author.Needs.{needs}
+use mathlib.Core.Path.{_≡_, refl, ap, _∙_}
+use Prim.Native.Nat.{_+_, _-_, _*_, _≤_}
+use native.Mathlib.Omega.{arith}
+use lib.ListN.{length}
+use Rattle.loops.specs.Lists.{build}
+use Rattle.loops.proofs.Cells.{row-in}
+use Rattle.loops.proofs.Parts.{length-lent}
+use Rattle.floats.specs.Operators.{_*₆₄_, zero₆₄, at, sum₆₄}
+use Rattle.definition.specs.Model.{packed}
+use Rattle.linear.proofs.Packing.{packed-below}
+use Rattle.ivector_tables.proofs.Rows.{scaled-none, scaled-turn, scaled-end}
+use Rattle.ivector_tables.proofs.sigma_inv_m_row.Statement.{statement}
+use Rattle.ivector_tables.proofs.sigma_inv_m_row.Tie as tie
+
+abbrev Inv-loop : tie.InvT-loop
+Inv-loop si m d s a out₀ b₀ out b =
+    (b ≤ d) × (length out ≡ length out₀) × (out ≡ build s (λ c. sum₆₄ zero₆₄ b (λ b. at si (packed a b) *₆₄ at m (b * s + c))))
+
+abbrev μ-loop : tie.MeasureT-loop
+μ-loop si m d s a out₀ b₀ out b = d - b
+
+clear-requires : tie.Need-clear-requires Inv-loop μ-loop
+clear-requires c κs =
+    let pre = c .before .before .before .before .pre in
+    (pre .4)
+
+loop-holds : tie.Need-loop-holds Inv-loop μ-loop
+loop-holds c =
+    let args = c .before .before .before .before .before .before .before .args in
+    (omega arith, refl, scaled-none (args .s) (args .s) (args .m .now) (λ b. at (args .sigma-inv .now) (packed (args .a) b)) ((c .before .before .clear) .ensures))
+
+mul-start : tie.Need-mul-start Inv-loop μ-loop
+mul-start c =
+    let args = c .before .before .before .before .before .before .before .before .before .args in
+    let pre = c .before .before .before .before .before .before .before .before .before .pre in
+    omega (arith, row-in ((c .before .loop) .b) (args .d) (args .s) (length (args .m .now)) (pre .3) ((c .loop-test) .taken))
+
+add-end : tie.Need-add-end Inv-loop μ-loop
+add-end c =
+    let args = c .before .before .before .before .before .before .before .before .before .args in
+    let pre = c .before .before .before .before .before .before .before .before .before .pre in
+    omega (arith, row-in ((c .before .loop) .b) (args .d) (args .s) (length (args .m .now)) (pre .3) ((c .loop-test) .taken))
+
+packed-index-requires : tie.Need-packed-index-requires Inv-loop μ-loop
+packed-index-requires c κs =
+    let pre = c .before .before .before .before .before .before .before .before .before .pre in
+    (omega (arith, (pre .0), (pre .1)), omega (arith, (pre .0), ((c .loop-test) .taken)))
+
+mul-add-scaled : tie.Need-mul-add-scaled Inv-loop μ-loop
+mul-add-scaled c =
+    let args = c .before .before .before .before .before .before .before .before .before .before .args in
+    let pre = c .before .before .before .before .before .before .before .before .before .before .pre in
+    omega (arith, packed-below (args .a) ((c .before .before .loop) .b) (args .d) (pre .1) ((c .before .loop-test) .taken), (pre .2), ((c .packed-index) .ensures))
+
+shared-slice-read-add-scaled : tie.Need-shared-slice-read-add-scaled Inv-loop μ-loop
+shared-slice-read-add-scaled c =
+    let args = c .before .before .before .before .before .before .before .before .before .before .before .args in
+    let loop = c .before .before .before .loop in
+    let pre = c .before .before .before .before .before .before .before .before .before .before .before .pre in
+    omega (arith, packed-below (args .a) (loop .b) (args .d) (pre .1) ((c .before .before .loop-test) .taken), (pre .2), ((c .before .packed-index) .ensures))
+
+mul-add-scaled-2 : tie.Need-mul-add-scaled-2 Inv-loop μ-loop
+mul-add-scaled-2 c =
+    let loop = c .before .before .before .loop in
+    let args = c .before .before .before .before .before .before .before .before .before .before .before .args in
+    let pre = c .before .before .before .before .before .before .before .before .before .before .before .pre in
+    let fits = c .before .before .before .before .before .before .before .before .before .before .before .fits in
+    omega (arith, row-in (loop .b) (args .d) (args .s) (length (args .m .now)) (pre .3) ((c .before .before .loop-test) .taken), (fits))
+
+sub-add-scaled : tie.Need-sub-add-scaled Inv-loop μ-loop
+sub-add-scaled c = search needs
+
+part-add-scaled-start : tie.Need-part-add-scaled-start Inv-loop μ-loop
+part-add-scaled-start c = search needs
+
+part-add-scaled-end : tie.Need-part-add-scaled-end Inv-loop μ-loop
+part-add-scaled-end c =
+    let loop = c .before .before .before .loop in
+    let args = c .before .before .before .before .before .before .before .before .before .before .before .args in
+    let pre = c .before .before .before .before .before .before .before .before .before .before .before .pre in
+    row-in (loop .b) (args .d) (args .s) (length (args .m .now)) (pre .3) ((c .before .before .loop-test) .taken)
+
+add-scaled-requires : tie.Need-add-scaled-requires Inv-loop μ-loop
+add-scaled-requires c κs =
+    let loop = c .before .before .before .before .before .loop in
+    let args = c .before .before .before .before .before .before .before .before .before .before .before .before .before .args in
+    let pre = c .before .before .before .before .before .before .before .before .before .before .before .before .before .pre in
+    let loop-test = c .before .before .before .before .loop-test in
+    let clear = c .before .before .before .before .before .before .before .before .clear in
+    length-lent ((loop .b) * (args .s)) (args .s) _ (args .m .now) refl (row-in (loop .b) (args .d) (args .s) (length (args .m .now)) (pre .3) (loop-test .taken)) ∙ omega (arith, (loop .inv .1), (clear .kept .0), (pre .4))
+
+add-b : tie.Need-add-b Inv-loop μ-loop
+add-b c = search needs
+
+loop-less : tie.Need-loop-less Inv-loop μ-loop
+loop-less c = search needs
+
+loop-again : tie.Need-loop-again Inv-loop μ-loop
+loop-again c =
+    let loop-test = c .before .before .before .before .before .before .before .loop-test in
+    let add-scaled = c .before .before .add-scaled in
+    let loop = c .before .before .before .before .before .before .before .before .loop in
+    let args = c .before .before .before .before .before .before .before .before .before .before .before .before .before .before .before .before .args in
+    let packed-index = c .before .before .before .before .before .before .packed-index in
+    (omega (arith, (loop-test .taken)), (add-scaled .kept .1 .1 .0) ∙ (loop .inv .1), scaled-turn (args .s) (args .s) (args .m .now) (λ b. at (args .sigma-inv .now) (packed (args .a) b)) (loop .b) refl (ap (at (args .sigma-inv .now)) (packed-index .ensures)) (loop .inv .2) (add-scaled .ensures))
+
+same-length : tie.Need-same-length Inv-loop μ-loop
+same-length c = search needs
+
+returns : tie.Need-returns Inv-loop μ-loop
+returns c =
+    let args = c .before .before .before .before .before .before .before .before .before .args in
+    let loop = c .before .loop in
+    scaled-end (args .s) (args .s) (args .m .now) (λ b. at (args .sigma-inv .now) (packed (args .a) b)) (loop .b) (args .d) (loop .inv .0) ((c .loop-test) .left) (loop .inv .2)
+
+pub sigma-inv-m-row-spec : {M : Type 1} → statement M
+sigma-inv-m-row-spec =
+    tie.close
+    (tie.spec
+    Inv-loop
+    μ-loop
+    clear-requires
+    loop-holds
+    mul-start
+    add-end
+    packed-index-requires
+    mul-add-scaled
+    shared-slice-read-add-scaled
+    mul-add-scaled-2
+    sub-add-scaled
+    part-add-scaled-start
+    part-add-scaled-end
+    add-scaled-requires
+    add-b
+    loop-less
+    loop-again
+    same-length
+    returns)
