@@ -1,0 +1,128 @@
+-- Each way out of the judgement, and what it says of the load.
+use mathlib.Core.Path.{_≡_, refl, sym, ap, _∙_}
+use mathlib.Core.Bool.{Bool, true, false, _&&_}
+use mathlib.Core.List.{List, []}
+use mathlib.Core.Logic.{⊎-elim}
+use Prim.Native.Nat.{ℕ, _+_, _≤_, _<_}
+use native.Mathlib.Omega.{arith}
+use lib.Dec.{leb, eqb}
+use lib.Ieee.{Float}
+use borrow.Author.Tests.{eq-eqb, ne-eqb, le-leb, lt-leb}
+use Rattle.loops.specs.Lists.{allOf}
+use Rattle.definition.specs.declared.IvectorOptions.{IvectorOptions}
+use Rattle.definition.specs.declared.Dimensions.{Dimensions}
+use Rattle.definition.specs.declared.TableLengths.{TableLengths}
+use Rattle.definition.specs.Options.{optionsInRange, dimsAgree, spliced}
+use Rattle.definition.specs.Reader.{Got, read, refused, Parser, after, _>>=_, give, need}
+use Rattle.definition.specs.Kaldi.{Gmm, Extractor, Matrix, gmm, extractor, lda}
+use Rattle.definition.specs.Text.{cmvn}
+use Rattle.definition.specs.Model.{Files, Contents, Model, file, dimsOf, contentsAgree, modelOf, tablesFit, loadScratch, judged, loading, load}
+use Rattle.kaldi_io.proofs.Chain.{goes, stops, met, unmet}
+use Rattle.limits.proofs.Ranges.{agreeing}
+use Rattle.ivector_info.specs.declared.Places.{Places}
+use Rattle.ivector_info.specs.Steps.{contents, contentsAt, CheckedIn, JudgedIn}
+use Rattle.ivector_info.proofs.Files.{dims-are}
+
+module _ (o : IvectorOptions) (z : TableLengths) (n : ℕ) (f : Files) where
+  -- ---- the files first, then the judgement
+
+  fourth : (g : Gmm) (x : Extractor) (l : Matrix) (r : Got (List Float))
+      → after (after (after r (λ a _ _. read a 0) (f .cmvn)) (λ r. give {A = Contents} (record { gmm = g; extractor = x; lda = l; global-row = r })) []) (judged o z n) []
+      ≡ after (after r (λ a _ _. read a 0) (f .cmvn)) (λ r. judged o z n (record { gmm = g; extractor = x; lda = l; global-row = r })) []
+  fourth g x l (refused k) = refl
+  fourth g x l (read r p) = refl
+
+  third : (g : Gmm) (x : Extractor) (l : Got Matrix)
+      → after (after (after l (λ a _ _. read a 0) (f .lda)) (λ l. file cmvn (f .cmvn) >>= (λ r. give {A = Contents} (record { gmm = g; extractor = x; lda = l; global-row = r }))) []) (judged o z n) []
+      ≡ after (after l (λ a _ _. read a 0) (f .lda)) (λ l. file cmvn (f .cmvn) >>= (λ r. judged o z n (record { gmm = g; extractor = x; lda = l; global-row = r }))) []
+  third g x (refused k) = refl
+  third g x (read l p) = fourth g x l (cmvn (f .cmvn) 0)
+
+  second : (g : Gmm) (x : Got Extractor)
+      → after (after (after x (λ a _ _. read a 0) (f .extractor)) (λ x. file lda (f .lda) >>= (λ l. file cmvn (f .cmvn) >>= (λ r. give {A = Contents} (record { gmm = g; extractor = x; lda = l; global-row = r })))) []) (judged o z n) []
+      ≡ after (after x (λ a _ _. read a 0) (f .extractor)) (λ x. file lda (f .lda) >>= (λ l. file cmvn (f .cmvn) >>= (λ r. judged o z n (record { gmm = g; extractor = x; lda = l; global-row = r })))) []
+  second g (refused k) = refl
+  second g (read x p) = third g x (lda (f .lda) 0)
+
+  first : (g : Got Gmm)
+      → after
+      (after (after g (λ a _ _. read a 0) (f .gmm)) (λ g. file extractor (f .extractor) >>= (λ x. file lda (f .lda) >>= (λ l. file cmvn (f .cmvn) >>= (λ r. give {A = Contents} (record { gmm = g; extractor = x; lda = l; global-row = r }))))) [])
+      (judged o z n) []
+      ≡ after (after g (λ a _ _. read a 0) (f .gmm)) (λ g. file extractor (f .extractor) >>= (λ x. file lda (f .lda) >>= (λ l. file cmvn (f .cmvn) >>= (λ r. judged o z n (record { gmm = g; extractor = x; lda = l; global-row = r }))))) []
+  first (refused k) = refl
+  first (read g p) = second g (extractor (f .extractor) 0)
+
+  -- ---- each way out
+
+  pub options-out : optionsInRange o ≡ false → refused 1 ≡ load o f z n
+  unfolding load loading
+  options-out e = stops _ [] (sym (unmet 1 [] 0 e)) refl
+
+  module _ (options-in : optionsInRange o ≡ true) where
+    past-files : {x : Got Model} → x ≡ after (contents f) (judged o z n) [] → x ≡ load o f z n
+    unfolding load loading contents
+    past-files t = goes _ [] (sym (met 1 [] 0 options-in)) (t ∙ first (gmm (f .gmm) 0))
+
+    pub files-out : {k : ℕ} → refused k ≡ contents f → refused k ≡ load o f z n
+    files-out e = past-files (stops (judged o z n) [] (sym e) refl)
+
+    module _ {c : Contents} (h : read c 0 ≡ contents f) where
+      pub apart : contentsAgree o c ≡ false → refused 5 ≡ load o f z n
+      unfolding judged
+      apart e = past-files (goes (judged o z n) [] (sym h) (stops _ [] (sym (unmet 5 [] 0 e)) refl))
+
+      module _ (a : contentsAgree o c ≡ true) where
+        pub short : (tablesFit o (dimsOf c) z && leb (loadScratch (dimsOf c)) n) ≡ false → refused 8 ≡ load o f z n
+        unfolding judged
+        short e = past-files (goes (judged o z n) [] (sym h) (goes _ [] (sym (met 5 [] 0 a)) (stops _ [] (sym (unmet 8 [] 0 e)) refl)))
+
+        pub taken : (tablesFit o (dimsOf c) z && leb (loadScratch (dimsOf c)) n) ≡ true → read (modelOf o c z) 0 ≡ load o f z n
+        unfolding judged
+        taken e = past-files (goes (judged o z n) [] (sym h) (goes _ [] (sym (met 5 [] 0 a)) (goes _ [] (sym (met 8 [] 0 e)) refl)))
+
+  -- ---- the tests, as code makes them
+
+  module _ (options-in : optionsInRange o ≡ true) (d : Dimensions) (dim rows : ℕ) (prior : Float) (at : Places) (x : CheckedIn f d dim rows at)
+      (h : read (contentsAt f d dim rows prior at) 0 ≡ contents f) where
+    agreed : {a : Bool} → dimsAgree o d ≡ a → contentsAgree o (contentsAt f d dim rows prior at) ≡ (a && (eqb rows (d .«feat_dim») && (eqb dim (d .«feat_dim») && true)))
+    unfolding contentsAgree allOf
+    agreed e = rw (dims-are f d dim rows prior at x, e)
+
+    pub dims-apart : dimsAgree o d ≡ false → refused 5 ≡ load o f z n
+    dims-apart e = apart options-in h (agreed e)
+
+    module _ (a : dimsAgree o d ≡ true) where
+      pub rows-apart : (rows ≡ d .«feat_dim» → ⊥) → refused 5 ≡ load o f z n
+      rows-apart e = apart options-in h (agreed a ∙ rw (ne-eqb _ _ e))
+
+      module _ (r : rows ≡ d .«feat_dim») where
+        pub dim-apart : (dim ≡ d .«feat_dim» → ⊥) → refused 5 ≡ load o f z n
+        dim-apart e = apart options-in h (agreed a ∙ rw (eq-eqb _ _ r, ne-eqb _ _ e))
+
+        module _ (g : dim ≡ d .«feat_dim») where
+          all-agree : contentsAgree o (contentsAt f d dim rows prior at) ≡ true
+          all-agree = agreed a ∙ rw (eq-eqb _ _ r, eq-eqb _ _ g)
+
+          pub tables-short : tablesFit o d z ≡ false → refused 8 ≡ load o f z n
+          tables-short e = short options-in h all-agree (rw (dims-are f d dim rows prior at x, e))
+
+          module _ (t : tablesFit o d z ≡ true) where
+            pub scratch-short : n < loadScratch d → refused 8 ≡ load o f z n
+            scratch-short e = short options-in h all-agree (rw (dims-are f d dim rows prior at x, t, lt-leb _ _ e))
+
+            module _ (s : loadScratch d ≤ n) where
+              pub all-taken : read (modelOf o (contentsAt f d (d .«feat_dim») (d .«feat_dim») prior at) z) 0 ≡ load o f z n
+              all-taken =
+                  ap (λ (k : ℕ). read (modelOf o (contentsAt f d k (d .«feat_dim») prior at) z) 0) (sym g)
+                  ∙ ap (λ (k : ℕ). read (modelOf o (contentsAt f d dim k prior at) z) 0) (sym r)
+                  ∙ taken options-in h all-agree (rw (dims-are f d dim rows prior at x, t, le-leb _ _ s))
+
+              pub judged-in : JudgedIn o z n f d at
+              judged-in =
+                  record {
+                    files-in = rw (r, g) at x;
+                    options-in = options-in;
+                    spliced-in = ⊎-elim (λ (e : d .«lda_cols» ≡ spliced o d). omega arith) (λ (e : d .«lda_cols» ≡ spliced o d + 1). omega arith) (agreeing o d a .columns-are);
+                    tables-fit = t;
+                    scratch-fits = s;
+                  }

@@ -1,0 +1,4 @@
+-- Laws of the load.
+mod Files
+mod Judging
+mod Tables
