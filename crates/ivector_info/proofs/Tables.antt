@@ -18,7 +18,7 @@ use Rattle.definition.specs.Text.{line}
 use Rattle.definition.specs.Model.{Files, Model, modelOf, gconst, transposed, loadedOf, tableOf}
 use Rattle.kaldi_text.specs.Answers.{cells}
 use Rattle.ivector_tables.specs.Steps.{floatMatrix, gmmAt, ldaOffset, sigmaInvMs, quadraticTerms}
-use Rattle.ivector_info.specs.Load.{kept}
+use Rattle.ivector_info.specs.Load.{scratchKept}
 use Rattle.ivector_info.specs.declared.Places.{Places}
 use Rattle.ivector_info.specs.Steps.{contentsAt, CheckedIn, JudgedIn, GmmFits, LdaFits}
 use Rattle.ivector_info.proofs.Files.{dims-are}
@@ -33,7 +33,7 @@ module _ {g : Got Model} {n : ℕ} (e : g ≡ refused n) where
   pub table-same : (t : Model → List Float) (room : List Float) → room ≡ tableOf g t room
   table-same t room = rw e
 
-  pub scratch-same : (room : List Float) → kept g room room
+  pub scratch-same : (room : List Float) → scratchKept g room room
   scratch-same room = rw e refl
 
 -- ---- a load
@@ -48,7 +48,7 @@ module _ (o : IvectorOptions) (z : TableLengths) (f : Files) (d : Dimensions) (p
   unfolding modelOf
   loaded-is = rw e (ap (λ (k : Dimensions). L.Model (record { opts = o; dims = k; «prior_offset» = prior; tables = z })) (sym (dims-are f d (d .«feat_dim») (d .«feat_dim») prior at x)))
 
-  pub scratch-free : (before after : List Float) → kept g before after
+  pub scratch-free : (before after : List Float) → scratchKept g before after
   scratch-free before after = rw e tt
 
   module _ {y : List Float} (room : List Float) where

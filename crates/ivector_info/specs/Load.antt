@@ -24,6 +24,6 @@ lengthsOf gconsts means-invvars-t inv-vars-t sigma-inv-m u lda-t lda-offset glob
     }
 
 -- a refusal leaves scratch as it was; after a load it is free
-abbrev pub kept : Got Model → List Float → List Float → Type 0
-kept (refused n) before after = after ≡ before
-kept (read M at) before after = Unit {0}
+abbrev pub scratchKept : Got Model → List Float → List Float → Type 0
+scratchKept (refused n) before after = after ≡ before
+scratchKept (read M at) before after = Unit {0}

@@ -31,7 +31,7 @@ ghost use Rattle.definition.specs.Text.{line};
 ghost use Rattle.definition.specs.Model.{gconst, transposed, load as loadOf, loadedOf, tableOf};
 ghost use Rattle.kaldi_text.specs.Answers.{cells};
 ghost use Rattle.ivector_tables.specs.Steps.{floatMatrix, gmmAt, ldaOffset};
-ghost use Rattle.ivector_info.specs.Load.{filesOf, lengthsOf, kept};
+ghost use Rattle.ivector_info.specs.Load.{filesOf, lengthsOf, scratchKept};
 ghost use Rattle.ivector_info.specs.Steps.{contents, checkedOf, checkedIn, judgedOf, judgedIn, GmmFits, LdaFits};
 
 // Where the numbers stand in their files, and where the text's first row is looked for.
@@ -257,16 +257,19 @@ pub fn load(
     global_mean_stats: &mut [f64],
     scratch: &mut [f64],
 ) -> Loaded
-    ensures { λ r. ⌜ r ≡ loadedOf (loadOf opts (filesOf (now (gmm .entry)) (now (extractor .entry)) (now (lda .entry)) (now (cmvn .entry))) (lengthsOf (length (now (gconsts .entry))) (length (now («means_invvars_t» .entry))) (length (now («inv_vars_t» .entry))) (length (now («sigma_inv_m» .entry))) (length (now (u .entry))) (length (now («lda_t» .entry))) (length (now («lda_offset» .entry))) (length (now («global_mean_stats» .entry)))) (length (now (scratch .entry)))) ⌝ }
-    ensures { λ _. ⌜ now (gconsts .exit) ≡ tableOf (loadOf opts (filesOf (now (gmm .entry)) (now (extractor .entry)) (now (lda .entry)) (now (cmvn .entry))) (lengthsOf (length (now (gconsts .entry))) (length (now («means_invvars_t» .entry))) (length (now («inv_vars_t» .entry))) (length (now («sigma_inv_m» .entry))) (length (now (u .entry))) (length (now («lda_t» .entry))) (length (now («lda_offset» .entry))) (length (now («global_mean_stats» .entry)))) (length (now (scratch .entry)))) (λ M. M .gconsts) (now (gconsts .entry)) ⌝ }
-    ensures { λ _. ⌜ now («means_invvars_t» .exit) ≡ tableOf (loadOf opts (filesOf (now (gmm .entry)) (now (extractor .entry)) (now (lda .entry)) (now (cmvn .entry))) (lengthsOf (length (now (gconsts .entry))) (length (now («means_invvars_t» .entry))) (length (now («inv_vars_t» .entry))) (length (now («sigma_inv_m» .entry))) (length (now (u .entry))) (length (now («lda_t» .entry))) (length (now («lda_offset» .entry))) (length (now («global_mean_stats» .entry)))) (length (now (scratch .entry)))) (λ M. M .means-invvars-t) (now («means_invvars_t» .entry)) ⌝ }
-    ensures { λ _. ⌜ now («inv_vars_t» .exit) ≡ tableOf (loadOf opts (filesOf (now (gmm .entry)) (now (extractor .entry)) (now (lda .entry)) (now (cmvn .entry))) (lengthsOf (length (now (gconsts .entry))) (length (now («means_invvars_t» .entry))) (length (now («inv_vars_t» .entry))) (length (now («sigma_inv_m» .entry))) (length (now (u .entry))) (length (now («lda_t» .entry))) (length (now («lda_offset» .entry))) (length (now («global_mean_stats» .entry)))) (length (now (scratch .entry)))) (λ M. M .inv-vars-t) (now («inv_vars_t» .entry)) ⌝ }
-    ensures { λ _. ⌜ now («sigma_inv_m» .exit) ≡ tableOf (loadOf opts (filesOf (now (gmm .entry)) (now (extractor .entry)) (now (lda .entry)) (now (cmvn .entry))) (lengthsOf (length (now (gconsts .entry))) (length (now («means_invvars_t» .entry))) (length (now («inv_vars_t» .entry))) (length (now («sigma_inv_m» .entry))) (length (now (u .entry))) (length (now («lda_t» .entry))) (length (now («lda_offset» .entry))) (length (now («global_mean_stats» .entry)))) (length (now (scratch .entry)))) (λ M. M .sigma-inv-m) (now («sigma_inv_m» .entry)) ⌝ }
-    ensures { λ _. ⌜ now (u .exit) ≡ tableOf (loadOf opts (filesOf (now (gmm .entry)) (now (extractor .entry)) (now (lda .entry)) (now (cmvn .entry))) (lengthsOf (length (now (gconsts .entry))) (length (now («means_invvars_t» .entry))) (length (now («inv_vars_t» .entry))) (length (now («sigma_inv_m» .entry))) (length (now (u .entry))) (length (now («lda_t» .entry))) (length (now («lda_offset» .entry))) (length (now («global_mean_stats» .entry)))) (length (now (scratch .entry)))) (λ M. M .u) (now (u .entry)) ⌝ }
-    ensures { λ _. ⌜ now («lda_t» .exit) ≡ tableOf (loadOf opts (filesOf (now (gmm .entry)) (now (extractor .entry)) (now (lda .entry)) (now (cmvn .entry))) (lengthsOf (length (now (gconsts .entry))) (length (now («means_invvars_t» .entry))) (length (now («inv_vars_t» .entry))) (length (now («sigma_inv_m» .entry))) (length (now (u .entry))) (length (now («lda_t» .entry))) (length (now («lda_offset» .entry))) (length (now («global_mean_stats» .entry)))) (length (now (scratch .entry)))) (λ M. M .lda-t) (now («lda_t» .entry)) ⌝ }
-    ensures { λ _. ⌜ now («lda_offset» .exit) ≡ tableOf (loadOf opts (filesOf (now (gmm .entry)) (now (extractor .entry)) (now (lda .entry)) (now (cmvn .entry))) (lengthsOf (length (now (gconsts .entry))) (length (now («means_invvars_t» .entry))) (length (now («inv_vars_t» .entry))) (length (now («sigma_inv_m» .entry))) (length (now (u .entry))) (length (now («lda_t» .entry))) (length (now («lda_offset» .entry))) (length (now («global_mean_stats» .entry)))) (length (now (scratch .entry)))) (λ M. M .lda-offset) (now («lda_offset» .entry)) ⌝ }
-    ensures { λ _. ⌜ now («global_mean_stats» .exit) ≡ tableOf (loadOf opts (filesOf (now (gmm .entry)) (now (extractor .entry)) (now (lda .entry)) (now (cmvn .entry))) (lengthsOf (length (now (gconsts .entry))) (length (now («means_invvars_t» .entry))) (length (now («inv_vars_t» .entry))) (length (now («sigma_inv_m» .entry))) (length (now (u .entry))) (length (now («lda_t» .entry))) (length (now («lda_offset» .entry))) (length (now («global_mean_stats» .entry)))) (length (now (scratch .entry)))) (λ M. M .global-mean-stats) (now («global_mean_stats» .entry)) ⌝ }
-    ensures { λ _. ⌜ kept (loadOf opts (filesOf (now (gmm .entry)) (now (extractor .entry)) (now (lda .entry)) (now (cmvn .entry))) (lengthsOf (length (now (gconsts .entry))) (length (now («means_invvars_t» .entry))) (length (now («inv_vars_t» .entry))) (length (now («sigma_inv_m» .entry))) (length (now (u .entry))) (length (now («lda_t» .entry))) (length (now («lda_offset» .entry))) (length (now («global_mean_stats» .entry)))) (length (now (scratch .entry)))) (now (scratch .entry)) (now (scratch .exit)) ⌝ }
+    ensures { λ r. ⌜ (let got = loadOf opts (filesOf (now (gmm .entry)) (now (extractor .entry)) (now (lda .entry)) (now (cmvn .entry)))
+        (lengthsOf (length (now (gconsts .entry))) (length (now («means_invvars_t» .entry))) (length (now («inv_vars_t» .entry))) (length (now («sigma_inv_m» .entry)))
+        (length (now (u .entry))) (length (now («lda_t» .entry))) (length (now («lda_offset» .entry))) (length (now («global_mean_stats» .entry)))) (length (now (scratch .entry))) in
+        (r ≡ loadedOf got)
+        × (now (gconsts .exit) ≡ tableOf got (λ M. M .gconsts) (now (gconsts .entry)))
+        × (now («means_invvars_t» .exit) ≡ tableOf got (λ M. M .means-invvars-t) (now («means_invvars_t» .entry)))
+        × (now («inv_vars_t» .exit) ≡ tableOf got (λ M. M .inv-vars-t) (now («inv_vars_t» .entry)))
+        × (now («sigma_inv_m» .exit) ≡ tableOf got (λ M. M .sigma-inv-m) (now («sigma_inv_m» .entry)))
+        × (now (u .exit) ≡ tableOf got (λ M. M .u) (now (u .entry)))
+        × (now («lda_t» .exit) ≡ tableOf got (λ M. M .lda-t) (now («lda_t» .entry)))
+        × (now («lda_offset» .exit) ≡ tableOf got (λ M. M .lda-offset) (now («lda_offset» .entry)))
+        × (now («global_mean_stats» .exit) ≡ tableOf got (λ M. M .global-mean-stats) (now («global_mean_stats» .entry)))
+        × scratchKept got (now (scratch .entry)) (now (scratch .exit))) ⌝ }
 {
     let tables = TableLengths {
         gconsts: gconsts.len(),
