@@ -75,8 +75,10 @@ returns-3 c =
     let num-gauss = c .before .before .before .before .before .before .before .before .before .num-gauss in
     let check-extractor = c .before .before .before .before .before .before .before .check-extractor in
     let ext-gauss = c .before .before .before .before .before .ext-gauss in
-    let check-lda = c .before .before .before .check-lda in
-    (no-lda (filesOf (args .gmm .now) (args .extractor .now) (args .lda .now) (args .cmvn .now)) (told (gmmOf (args .gmm .now)) (check-gmm .ensures .0) (num-gauss .given .1)) (told (extractorOf (args .extractor .now)) (check-extractor .ensures .0) (ext-gauss .given .1)) (told (matrixOf binary32 (args .lda .now)) (check-lda .ensures .0) ((c .before .e3) .given .1)), tt)
+    let check-lda = c .before .before .before .check-lda in (
+      no-lda (filesOf (args .gmm .now) (args .extractor .now) (args .lda .now) (args .cmvn .now)) (told (gmmOf (args .gmm .now)) (check-gmm .ensures .0) (num-gauss .given .1)) (told (extractorOf (args .extractor .now)) (check-extractor .ensures .0) (ext-gauss .given .1)) (told (matrixOf binary32 (args .lda .now)) (check-lda .ensures .0) ((c .before .e3) .given .1)),
+      tt,
+    )
 
 returns-4 : tie.Need-returns-4
 returns-4 c =
@@ -87,21 +89,26 @@ returns-4 c =
     let ext-gauss = c .before .before .before .before .before .before .before .before .before .ext-gauss in
     let check-lda = c .before .before .before .before .before .before .before .check-lda in
     let lda-rows = c .before .before .before .before .before .lda-rows in
-    let check-cmvn = c .before .before .before .check-cmvn in
-    (no-cmvn (filesOf (args .gmm .now) (args .extractor .now) (args .lda .now) (args .cmvn .now)) (told (gmmOf (args .gmm .now)) (check-gmm .ensures .0) (num-gauss .given .1)) (told (extractorOf (args .extractor .now)) (check-extractor .ensures .0) (ext-gauss .given .1)) (told (matrixOf binary32 (args .lda .now)) (check-lda .ensures .0) (lda-rows .given .1)) (told (cmvnOf (args .cmvn .now)) (check-cmvn .ensures .0) ((c .before .e4) .given .1)), tt)
+    let check-cmvn = c .before .before .before .check-cmvn in (
+      no-cmvn (filesOf (args .gmm .now) (args .extractor .now) (args .lda .now) (args .cmvn .now)) (told (gmmOf (args .gmm .now)) (check-gmm .ensures .0) (num-gauss .given .1)) (told (extractorOf (args .extractor .now)) (check-extractor .ensures .0) (ext-gauss .given .1)) (told (matrixOf binary32 (args .lda .now)) (check-lda .ensures .0) (lda-rows .given .1)) (told (cmvnOf (args .cmvn .now)) (check-cmvn .ensures .0) ((c .before .e4) .given .1)),
+      tt,
+    )
 
 returns-5 : tie.Need-returns-5
 returns-5 c =
     let args = c .before .before .before .before .before .before .before .before .before .before .before .before .before .before .before .before .before .before .before .before .args in
+    let len = c .before .len in
+    let check-cmvn = c .before .before .before .check-cmvn in
     let check-gmm = c .before .before .before .before .before .before .before .before .before .before .before .before .before .before .before .check-gmm in
     let num-gauss = c .before .before .before .before .before .before .before .before .before .before .before .before .before .num-gauss in
     let check-extractor = c .before .before .before .before .before .before .before .before .before .before .before .check-extractor in
     let ext-gauss = c .before .before .before .before .before .before .before .before .before .ext-gauss in
     let check-lda = c .before .before .before .before .before .before .before .check-lda in
     let lda-rows = c .before .before .before .before .before .lda-rows in
-    let check-cmvn = c .before .before .before .check-cmvn in
-    let len = c .before .len in
-    (all-read (filesOf (args .gmm .now) (args .extractor .now) (args .lda .now) (args .cmvn .now)) (told (gmmOf (args .gmm .now)) (check-gmm .ensures .0) (num-gauss .given .1)) (told (extractorOf (args .extractor .now)) (check-extractor .ensures .0) (ext-gauss .given .1)) (told (matrixOf binary32 (args .lda .now)) (check-lda .ensures .0) (lda-rows .given .1)) (told (cmvnOf (args .cmvn .now)) (check-cmvn .ensures .0) (len .given .1)), record { gmm-in = subst (gmmIn (args .gmm .now)) (num-gauss .given .1) (check-gmm .ensures .1); extractor-in = subst (extractorIn (args .extractor .now)) (ext-gauss .given .1) (check-extractor .ensures .1); lda-in = subst (matrixIn binary32 maxFeat maxColumns (args .lda .now)) (lda-rows .given .1) (check-lda .ensures .1); row-in = row-counted _ _ _ (subst (cmvnIn (args .cmvn .now)) (len .given .1) (check-cmvn .ensures .1)) })
+    let row = subst (cmvnIn (args .cmvn .now)) (len .given .1) (check-cmvn .ensures .1) in (
+      all-read (filesOf (args .gmm .now) (args .extractor .now) (args .lda .now) (args .cmvn .now)) (told (gmmOf (args .gmm .now)) (check-gmm .ensures .0) (num-gauss .given .1)) (told (extractorOf (args .extractor .now)) (check-extractor .ensures .0) (ext-gauss .given .1)) (told (matrixOf binary32 (args .lda .now)) (check-lda .ensures .0) (lda-rows .given .1)) (told (cmvnOf (args .cmvn .now)) (check-cmvn .ensures .0) (len .given .1)),
+      record { gmm-in = subst (gmmIn (args .gmm .now)) (num-gauss .given .1) (check-gmm .ensures .1); extractor-in = subst (extractorIn (args .extractor .now)) (ext-gauss .given .1) (check-extractor .ensures .1); lda-in = subst (matrixIn binary32 maxFeat maxColumns (args .lda .now)) (lda-rows .given .1) (check-lda .ensures .1); row-in = row-counted _ _ _ row },
+    )
 
 pub check-files-spec : {M : Type 1} → statement M
 check-files-spec =

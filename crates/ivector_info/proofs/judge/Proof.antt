@@ -35,8 +35,10 @@ dims-agree-requires c κs =
     let if1 = c .before .before .before .before .if1 in
     let args = c .before .before .before .before .before .before .before .before .before .before .args in
     let dims = c .before .dims in
-    let check-files = c .before .before .before .check-files in
-    ((sym (options-in-range .ensures) ∙ not-false _ (if1 .left)), dims-in (filesOf (args .gmm .now) (args .extractor .now) (args .lda .now) (args .cmvn .now)) (dims .given .0 .0) (dims .given .0 .1 .0) (dims .given .0 .1 .1 .0) (dims .given .0 .1 .1 .1 .0) (dims .given .0 .1 .1 .1 .1 .0) (subst (checkedIn (filesOf (args .gmm .now) (args .extractor .now) (args .lda .now) (args .cmvn .now))) (dims .given .1) (check-files .ensures .1)))
+    let check-files = c .before .before .before .check-files in (
+      (sym (options-in-range .ensures) ∙ not-false _ (if1 .left)),
+      dims-in (filesOf (args .gmm .now) (args .extractor .now) (args .lda .now) (args .cmvn .now)) (dims .given .0 .0) (dims .given .0 .1 .0) (dims .given .0 .1 .1 .0) (dims .given .0 .1 .1 .1 .0) (dims .given .0 .1 .1 .1 .1 .0) (subst (checkedIn (filesOf (args .gmm .now) (args .extractor .now) (args .lda .now) (args .cmvn .now))) (dims .given .1) (check-files .ensures .1)),
+    )
 
 returns-2 : tie.Need-returns-2
 returns-2 c =
@@ -88,8 +90,10 @@ tables-fit-requires c κs =
     let if1 = c .before .before .before .before .before .before .before .before .before .before .if1 in
     let args = c .before .before .before .before .before .before .before .before .before .before .before .before .before .before .before .before .args in
     let dims = c .before .before .before .before .before .before .before .dims in
-    let check-files = c .before .before .before .before .before .before .before .before .before .check-files in
-    ((sym (options-in-range .ensures) ∙ not-false _ (if1 .left)), dims-in (filesOf (args .gmm .now) (args .extractor .now) (args .lda .now) (args .cmvn .now)) (dims .given .0 .0) (dims .given .0 .1 .0) (dims .given .0 .1 .1 .0) (dims .given .0 .1 .1 .1 .0) (dims .given .0 .1 .1 .1 .1 .0) (subst (checkedIn (filesOf (args .gmm .now) (args .extractor .now) (args .lda .now) (args .cmvn .now))) (dims .given .1) (check-files .ensures .1)))
+    let check-files = c .before .before .before .before .before .before .before .before .before .check-files in (
+      (sym (options-in-range .ensures) ∙ not-false _ (if1 .left)),
+      dims-in (filesOf (args .gmm .now) (args .extractor .now) (args .lda .now) (args .cmvn .now)) (dims .given .0 .0) (dims .given .0 .1 .0) (dims .given .0 .1 .1 .0) (dims .given .0 .1 .1 .1 .0) (dims .given .0 .1 .1 .1 .1 .0) (subst (checkedIn (filesOf (args .gmm .now) (args .extractor .now) (args .lda .now) (args .cmvn .now))) (dims .given .1) (check-files .ensures .1)),
+    )
 
 returns-5 : tie.Need-returns-5
 returns-5 c =
@@ -105,8 +109,10 @@ returns-5 c =
     let options = sym (options-in-range .ensures) ∙ not-false _ (if1 .left) in
     let inside = subst (checkedIn f) (dims .given .1) (check-files .ensures .1) in
     let there = sym (told (checkedOf f) (check-files .ensures .0) (dims .given .1)) in
-    let agree = sym (dims-agree .ensures) ∙ not-false _ (if2 .left) in
-    (tables-short (args .opts) (args .z) (args .scratch) f options (dims .given .0 .0) (dims .given .0 .1 .0) (dims .given .0 .1 .1 .0) (dims .given .0 .1 .1 .1 .0) (dims .given .0 .1 .1 .1 .1 .0) inside there agree (if3 .left) ((c .before .before .if4) .left) (sym ((c .before .tables-fit) .ensures) ∙ not-true _ ((c .if5) .taken)), tt)
+    let agree = sym (dims-agree .ensures) ∙ not-false _ (if2 .left) in (
+      tables-short (args .opts) (args .z) (args .scratch) f options (dims .given .0 .0) (dims .given .0 .1 .0) (dims .given .0 .1 .1 .0) (dims .given .0 .1 .1 .1 .0) (dims .given .0 .1 .1 .1 .1 .0) inside there agree (if3 .left) ((c .before .before .if4) .left) (sym ((c .before .tables-fit) .ensures) ∙ not-true _ ((c .if5) .taken)),
+      tt,
+    )
 
 load-scratch-requires : tie.Need-load-scratch-requires
 load-scratch-requires c κs =
@@ -132,16 +138,20 @@ returns-6 c =
     let inside = subst (checkedIn f) (dims .given .1) (check-files .ensures .1) in
     let there = sym (told (checkedOf f) (check-files .ensures .0) (dims .given .1)) in
     let agree = sym (dims-agree .ensures) ∙ not-false _ (if2 .left) in
-    let fit = sym (tables-fit .ensures) ∙ not-false _ ((c .before .before .if5) .left) in
-    (scratch-short (args .opts) (args .z) (args .scratch) f options (dims .given .0 .0) (dims .given .0 .1 .0) (dims .given .0 .1 .1 .0) (dims .given .0 .1 .1 .1 .0) (dims .given .0 .1 .1 .1 .1 .0) inside there agree (if3 .left) (if4 .left) fit (omega (arith, ((c .if6) .taken), ((c .before .load-scratch) .ensures))), tt)
+    let fit = sym (tables-fit .ensures) ∙ not-false _ ((c .before .before .if5) .left) in (
+      scratch-short (args .opts) (args .z) (args .scratch) f options (dims .given .0 .0) (dims .given .0 .1 .0) (dims .given .0 .1 .1 .0) (dims .given .0 .1 .1 .1 .0) (dims .given .0 .1 .1 .1 .1 .0) inside there agree (if3 .left) (if4 .left) fit (omega (arith, ((c .if6) .taken), ((c .before .load-scratch) .ensures))),
+      tt,
+    )
 
 returns-7 : tie.Need-returns-7
 returns-7 c =
     let args = c .before .before .before .before .before .before .before .before .before .before .args in
     let options-in-range = c .before .before .before .before .before .options-in-range in
     let if1 = c .before .before .before .before .if1 in
-    let check-files = c .before .before .before .check-files in
-    (files-out (args .opts) (args .z) (args .scratch) (filesOf (args .gmm .now) (args .extractor .now) (args .lda .now) (args .cmvn .now)) (sym (options-in-range .ensures) ∙ not-false _ (if1 .left)) (sym (told (checkedOf (filesOf (args .gmm .now) (args .extractor .now) (args .lda .now) (args .cmvn .now))) (check-files .ensures .0) ((c .before .e) .given .1))), tt)
+    let check-files = c .before .before .before .check-files in (
+      files-out (args .opts) (args .z) (args .scratch) (filesOf (args .gmm .now) (args .extractor .now) (args .lda .now) (args .cmvn .now)) (sym (options-in-range .ensures) ∙ not-false _ (if1 .left)) (sym (told (checkedOf (filesOf (args .gmm .now) (args .extractor .now) (args .lda .now) (args .cmvn .now))) (check-files .ensures .0) ((c .before .e) .given .1))),
+      tt,
+    )
 
 returns-8 : tie.Need-returns-8
 returns-8 c =
@@ -161,8 +171,10 @@ returns-8 c =
     let there = sym (told (checkedOf f) (check-files .ensures .0) (dims .given .1)) in
     let agree = sym (dims-agree .ensures) ∙ not-false _ (if2 .left) in
     let fit = sym (tables-fit .ensures) ∙ not-false _ ((c .before .before .if5) .left) in
-    let enough : loadScratch (dims .given .0 .0) ≤ (args .scratch) = omega (arith, ((c .if6) .left), ((c .before .load-scratch) .ensures)) in
-    (all-taken (args .opts) (args .z) (args .scratch) f options (dims .given .0 .0) (dims .given .0 .1 .0) (dims .given .0 .1 .1 .0) (dims .given .0 .1 .1 .1 .0) (dims .given .0 .1 .1 .1 .1 .0) inside there agree (if3 .left) (if4 .left) fit enough, judged-in (args .opts) (args .z) (args .scratch) f options (dims .given .0 .0) (dims .given .0 .1 .0) (dims .given .0 .1 .1 .0) (dims .given .0 .1 .1 .1 .0) (dims .given .0 .1 .1 .1 .1 .0) inside there agree (if3 .left) (if4 .left) fit enough)
+    let enough : loadScratch (dims .given .0 .0) ≤ (args .scratch) = omega (arith, ((c .if6) .left), ((c .before .load-scratch) .ensures)) in (
+      all-taken (args .opts) (args .z) (args .scratch) f options (dims .given .0 .0) (dims .given .0 .1 .0) (dims .given .0 .1 .1 .0) (dims .given .0 .1 .1 .1 .0) (dims .given .0 .1 .1 .1 .1 .0) inside there agree (if3 .left) (if4 .left) fit enough,
+      judged-in (args .opts) (args .z) (args .scratch) f options (dims .given .0 .0) (dims .given .0 .1 .0) (dims .given .0 .1 .1 .0) (dims .given .0 .1 .1 .1 .0) (dims .given .0 .1 .1 .1 .1 .0) inside there agree (if3 .left) (if4 .left) fit enough,
+    )
 
 pub judge-spec : {M : Type 1} → statement M
 judge-spec =

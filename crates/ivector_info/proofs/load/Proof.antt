@@ -45,8 +45,18 @@ returns c =
     let args = c .before .before .before .before .before .before .before .before .before .before .before .before .before .before .before .before .before .args in
     let judge = c .before .before .before .judge in
     let z = (lengthsOf (length (args .gconsts .now)) (length (args .means-invvars-t .now)) (length (args .inv-vars-t .now)) (length (args .sigma-inv-m .now)) (length (args .u .now)) (length (args .lda-t .now)) (length (args .lda-offset .now)) (length (args .global-mean-stats .now))) in
-    let no = told (judgedOf (args .opts) z (filesOf (args .gmm .now) (args .extractor .now) (args .lda .now) (args .cmvn .now))) (judge .ensures .0) ((c .before .e) .given .1) in
-    (loaded-no no, table-same no (λ M. M .gconsts) (args .gconsts .now), table-same no (λ M. M .means-invvars-t) (args .means-invvars-t .now), table-same no (λ M. M .inv-vars-t) (args .inv-vars-t .now), table-same no (λ M. M .sigma-inv-m) (args .sigma-inv-m .now), table-same no (λ M. M .u) (args .u .now), table-same no (λ M. M .lda-t) (args .lda-t .now), table-same no (λ M. M .lda-offset) (args .lda-offset .now), table-same no (λ M. M .global-mean-stats) (args .global-mean-stats .now), scratch-same no (args .scratch .now))
+    let no = told (judgedOf (args .opts) z (filesOf (args .gmm .now) (args .extractor .now) (args .lda .now) (args .cmvn .now))) (judge .ensures .0) ((c .before .e) .given .1) in (
+      loaded-no no,
+      table-same no (λ M. M .gconsts) (args .gconsts .now),
+      table-same no (λ M. M .means-invvars-t) (args .means-invvars-t .now),
+      table-same no (λ M. M .inv-vars-t) (args .inv-vars-t .now),
+      table-same no (λ M. M .sigma-inv-m) (args .sigma-inv-m .now),
+      table-same no (λ M. M .u) (args .u .now),
+      table-same no (λ M. M .lda-t) (args .lda-t .now),
+      table-same no (λ M. M .lda-offset) (args .lda-offset .now),
+      table-same no (λ M. M .global-mean-stats) (args .global-mean-stats .now),
+      scratch-same no (args .scratch .now),
+    )
 
 same-length : tie.Need-same-length
 same-length c = search needs
@@ -86,8 +96,18 @@ returns-2 c =
     let z = (lengthsOf (length (args .gconsts .now)) (length (args .means-invvars-t .now)) (length (args .inv-vars-t .now)) (length (args .sigma-inv-m .now)) (length (args .u .now)) (length (args .lda-t .now)) (length (args .lda-offset .now)) (length (args .global-mean-stats .now))) in
     let f = (filesOf (args .gmm .now) (args .extractor .now) (args .lda .now) (args .cmvn .now)) in
     let judged = subst (judgedIn (args .opts) z (length (args .scratch .now)) f) (dims .given .1) (judge .ensures .1) in
-    let model = told (judgedOf (args .opts) z f) (judge .ensures .0) (dims .given .1) in
-    (loaded-is (args .opts) z f (dims .given .0 .0) (dims .given .0 .1 .0) (dims .given .0 .1 .1 .0) (judged .files-in) model, gconsts-are (args .opts) z f (dims .given .0 .0) (dims .given .0 .1 .0) (dims .given .0 .1 .1 .0) (judged .files-in) model (args .gconsts .now) (fill-gmm .ensures .0), means-are (args .opts) z f (dims .given .0 .0) (dims .given .0 .1 .0) (dims .given .0 .1 .1 .0) (judged .files-in) model (args .means-invvars-t .now) (fill-gmm .ensures .1 .0), vars-are (args .opts) z f (dims .given .0 .0) (dims .given .0 .1 .0) (dims .given .0 .1 .1 .0) (judged .files-in) model (args .inv-vars-t .now) (fill-gmm .ensures .1 .1), sims-are (args .opts) z f (dims .given .0 .0) (dims .given .0 .1 .0) (dims .given .0 .1 .1 .0) (judged .files-in) model (args .sigma-inv-m .now) (fill-gaussians .ensures .0), us-are (args .opts) z f (dims .given .0 .0) (dims .given .0 .1 .0) (dims .given .0 .1 .1 .0) (judged .files-in) model (args .u .now) (fill-gaussians .ensures .1), lda-is (args .opts) z f (dims .given .0 .0) (dims .given .0 .1 .0) (dims .given .0 .1 .1 .0) (judged .files-in) model (args .lda-t .now) (fill-lda .ensures .0), offset-is (args .opts) z f (dims .given .0 .0) (dims .given .0 .1 .0) (dims .given .0 .1 .1 .0) (judged .files-in) model (args .lda-offset .now) (fill-lda .ensures .1 .0), global-is (args .opts) z f (dims .given .0 .0) (dims .given .0 .1 .0) (dims .given .0 .1 .1 .0) (judged .files-in) model (args .global-mean-stats .now) (fill-lda .ensures .1 .1), scratch-free (args .opts) z f (dims .given .0 .0) (dims .given .0 .1 .0) (dims .given .0 .1 .1 .0) (judged .files-in) model _ _)
+    let model = told (judgedOf (args .opts) z f) (judge .ensures .0) (dims .given .1) in (
+      loaded-is (args .opts) z f (dims .given .0 .0) (dims .given .0 .1 .0) (dims .given .0 .1 .1 .0) (judged .files-in) model,
+      gconsts-are (args .opts) z f (dims .given .0 .0) (dims .given .0 .1 .0) (dims .given .0 .1 .1 .0) (judged .files-in) model (args .gconsts .now) (fill-gmm .ensures .0),
+      means-are (args .opts) z f (dims .given .0 .0) (dims .given .0 .1 .0) (dims .given .0 .1 .1 .0) (judged .files-in) model (args .means-invvars-t .now) (fill-gmm .ensures .1 .0),
+      vars-are (args .opts) z f (dims .given .0 .0) (dims .given .0 .1 .0) (dims .given .0 .1 .1 .0) (judged .files-in) model (args .inv-vars-t .now) (fill-gmm .ensures .1 .1),
+      sims-are (args .opts) z f (dims .given .0 .0) (dims .given .0 .1 .0) (dims .given .0 .1 .1 .0) (judged .files-in) model (args .sigma-inv-m .now) (fill-gaussians .ensures .0),
+      us-are (args .opts) z f (dims .given .0 .0) (dims .given .0 .1 .0) (dims .given .0 .1 .1 .0) (judged .files-in) model (args .u .now) (fill-gaussians .ensures .1),
+      lda-is (args .opts) z f (dims .given .0 .0) (dims .given .0 .1 .0) (dims .given .0 .1 .1 .0) (judged .files-in) model (args .lda-t .now) (fill-lda .ensures .0),
+      offset-is (args .opts) z f (dims .given .0 .0) (dims .given .0 .1 .0) (dims .given .0 .1 .1 .0) (judged .files-in) model (args .lda-offset .now) (fill-lda .ensures .1 .0),
+      global-is (args .opts) z f (dims .given .0 .0) (dims .given .0 .1 .0) (dims .given .0 .1 .1 .0) (judged .files-in) model (args .global-mean-stats .now) (fill-lda .ensures .1 .1),
+      scratch-free (args .opts) z f (dims .given .0 .0) (dims .given .0 .1 .0) (dims .given .0 .1 .1 .0) (judged .files-in) model _ _,
+    )
 
 pub load-spec : {M : Type 1} → statement M
 load-spec =

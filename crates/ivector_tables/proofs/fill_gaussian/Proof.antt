@@ -36,8 +36,10 @@ fill-from-requires c κs =
     let b = c .before .before .before .before .b in
     let pre = c .before .before .before .before .before .before .before .before .before .before .before .before .before .before .before .pre in
     let m = (told (matrixOf binary64 (args .s .now)) (check-double-matrix .ensures .0) (a .given .1)) in
-    let v = (told (packedOf (args .s .now)) (check-packed-double .ensures .0) (b .given .1)) in
-    (m-ready (pre .0) (a .given .0 .0) (a .given .0 .1 .0) (a .given .0 .1 .1 .0) (a .given .0 .1 .1 .1 .0) m (subst (matrixIn binary64 maxFeat maxIvector (args .s .now)) (a .given .1) (check-double-matrix .ensures .1)), (sigma-ready (pre .1 .0) (b .given .0 .0) (b .given .0 .1 .0) (b .given .0 .1 .1 .0) v (subst (packedIn (args .s .now)) (b .given .1) (check-packed-double .ensures .1)), (pre .1 .1)))
+    let v = (told (packedOf (args .s .now)) (check-packed-double .ensures .0) (b .given .1)) in (
+      m-ready (pre .0) (a .given .0 .0) (a .given .0 .1 .0) (a .given .0 .1 .1 .0) (a .given .0 .1 .1 .1 .0) m (subst (matrixIn binary64 maxFeat maxIvector (args .s .now)) (a .given .1) (check-double-matrix .ensures .1)),
+      (sigma-ready (pre .1 .0) (b .given .0 .0) (b .given .0 .1 .0) (b .given .0 .1 .1 .0) v (subst (packedIn (args .s .now)) (b .given .1) (check-packed-double .ensures .1)), (pre .1 .1)),
+    )
 
 returns : tie.Need-returns
 returns c =
@@ -70,8 +72,10 @@ returns-3 c =
     let pre = c .before .before .before .before .before .before .before .before .before .before .before .before .before .before .before .before .before .before .before .before .before .before .pre in
     let fill-from = c .before .before .before .before .before .before .fill-from in
     let m = (told (matrixOf binary64 (args .s .now)) (check-double-matrix .ensures .0) (a .given .1)) in
-    let v = (told (packedOf (args .s .now)) (check-packed-double .ensures .0) (b .given .1)) in
-    ((m-after (pre .0) (a .given .0 .0) (a .given .0 .1 .0) (a .given .0 .1 .1 .0) (a .given .0 .1 .1 .1 .0) m, sigma-after (pre .1 .0) (b .given .0 .0) (b .given .0 .1 .0) (b .given .0 .1 .1 .0) (told (packedOf (args .s .now)) (check-packed-double .ensures .0) (b .given .1))), (sigma-by (args .d) (args .n) (fill-from .ensures .0) (sigma-nums (pre .1 .0) (b .given .0 .0) (b .given .0 .1 .0) (b .given .0 .1 .1 .0) (told (packedOf (args .s .now)) (check-packed-double .ensures .0) (b .given .1))) (m-nums (pre .0) (a .given .0 .0) (a .given .0 .1 .0) (a .given .0 .1 .1 .0) (a .given .0 .1 .1 .1 .0) (told (matrixOf binary64 (args .s .now)) (check-double-matrix .ensures .0) (a .given .1))), quadratic-by (args .d) (args .n) (fill-from .ensures .1) (sigma-nums (pre .1 .0) (b .given .0 .0) (b .given .0 .1 .0) (b .given .0 .1 .1 .0) (told (packedOf (args .s .now)) (check-packed-double .ensures .0) (b .given .1))) (m-nums (pre .0) (a .given .0 .0) (a .given .0 .1 .0) (a .given .0 .1 .1 .0) (a .given .0 .1 .1 .1 .0) (told (matrixOf binary64 (args .s .now)) (check-double-matrix .ensures .0) (a .given .1)))))
+    let v = (told (packedOf (args .s .now)) (check-packed-double .ensures .0) (b .given .1)) in (
+      (m-after (pre .0) (a .given .0 .0) (a .given .0 .1 .0) (a .given .0 .1 .1 .0) (a .given .0 .1 .1 .1 .0) m, sigma-after (pre .1 .0) (b .given .0 .0) (b .given .0 .1 .0) (b .given .0 .1 .1 .0) (told (packedOf (args .s .now)) (check-packed-double .ensures .0) (b .given .1))),
+      (sigma-by (args .d) (args .n) (fill-from .ensures .0) (sigma-nums (pre .1 .0) (b .given .0 .0) (b .given .0 .1 .0) (b .given .0 .1 .1 .0) (told (packedOf (args .s .now)) (check-packed-double .ensures .0) (b .given .1))) (m-nums (pre .0) (a .given .0 .0) (a .given .0 .1 .0) (a .given .0 .1 .1 .0) (a .given .0 .1 .1 .1 .0) (told (matrixOf binary64 (args .s .now)) (check-double-matrix .ensures .0) (a .given .1))), quadratic-by (args .d) (args .n) (fill-from .ensures .1) (sigma-nums (pre .1 .0) (b .given .0 .0) (b .given .0 .1 .0) (b .given .0 .1 .1 .0) (told (packedOf (args .s .now)) (check-packed-double .ensures .0) (b .given .1))) (m-nums (pre .0) (a .given .0 .0) (a .given .0 .1 .0) (a .given .0 .1 .1 .0) (a .given .0 .1 .1 .1 .0) (told (matrixOf binary64 (args .s .now)) (check-double-matrix .ensures .0) (a .given .1)))),
+    )
 
 pub fill-gaussian-spec : {M : Type 1} → statement M
 fill-gaussian-spec =

@@ -46,8 +46,16 @@ mul-half c =
 loop-holds : tie.Need-loop-holds Inv-loop μ-loop
 loop-holds c =
     let pre = c .before .before .before .before .pre in
-    let args = c .before .before .before .before .args in
-    (omega arith, refl, refl, refl, m-start (pre .0), sigma-start (pre .0), rows-none (sigmaInvMAt (args .s .now) (args .num-gauss) (args .d) (args .n) (args .m) (args .sigma-inv)) _, rows-none (λ i. quadraticTerm (args .d) (args .n) (mAt (args .s .now) (args .num-gauss) (args .m) i) (sigmaInvMAt (args .s .now) (args .num-gauss) (args .d) (args .n) (args .m) (args .sigma-inv) i)) _)
+    let args = c .before .before .before .before .args in (
+      omega arith,
+      refl,
+      refl,
+      refl,
+      m-start (pre .0),
+      sigma-start (pre .0),
+      rows-none (sigmaInvMAt (args .s .now) (args .num-gauss) (args .d) (args .n) (args .m) (args .sigma-inv)) _,
+      rows-none (λ i. quadraticTerm (args .d) (args .n) (mAt (args .s .now) (args .num-gauss) (args .m) i) (sigmaInvMAt (args .s .now) (args .num-gauss) (args .d) (args .n) (args .m) (args .sigma-inv) i)) _,
+    )
 
 mul-from : tie.Need-mul-from Inv-loop μ-loop
 mul-from c =
@@ -120,8 +128,10 @@ fill-gaussian-requires c κs =
     let pre = c .before .before .before .before .before .before .before .before .before .pre in
     let loop-test = c .before .before .before .loop-test in
     let here = row-in (loop .i) (args .num-gauss) ((args .d) * (args .n)) (length (args .sim .now)) (pre .1 .0) (loop-test .taken) in
-    let there = row-in (loop .i) (args .num-gauss) ((args .n) * ((args .n) + 1) / 2) (length (args .u .now)) (pre .1 .1) (loop-test .taken) in
-    (m-at (pre .0) (loop .i) (loop-test .taken) (loop .at .m) (loop .inv .4), (sigma-at (pre .0) (loop .i) (loop-test .taken) (loop .at .«sigma_inv») (loop .inv .5), ((pre .0) .feat-high, (pre .0) .ivec-high, omega (arith, (loop .inv .3), (pre .1 .2)), (length-lent ((loop .i) * ((args .d) * (args .n))) ((args .d) * (args .n)) _ (loop .sim) refl (omega (arith, row-in (loop .i) (args .num-gauss) ((args .d) * (args .n)) (length (args .sim .now)) (pre .1 .0) (loop-test .taken), (loop .inv .1)))), (length-lent ((loop .i) * ((args .n) * ((args .n) + 1) / 2)) ((args .n) * ((args .n) + 1) / 2) _ (loop .u) refl (omega (arith, row-in (loop .i) (args .num-gauss) ((args .n) * ((args .n) + 1) / 2) (length (args .u .now)) (pre .1 .1) (loop-test .taken), (loop .inv .2)))))))
+    let there = row-in (loop .i) (args .num-gauss) ((args .n) * ((args .n) + 1) / 2) (length (args .u .now)) (pre .1 .1) (loop-test .taken) in (
+      m-at (pre .0) (loop .i) (loop-test .taken) (loop .at .m) (loop .inv .4),
+      (sigma-at (pre .0) (loop .i) (loop-test .taken) (loop .at .«sigma_inv») (loop .inv .5), ((pre .0) .feat-high, (pre .0) .ivec-high, omega (arith, (loop .inv .3), (pre .1 .2)), (length-lent ((loop .i) * ((args .d) * (args .n))) ((args .d) * (args .n)) _ (loop .sim) refl (omega (arith, row-in (loop .i) (args .num-gauss) ((args .d) * (args .n)) (length (args .sim .now)) (pre .1 .0) (loop-test .taken), (loop .inv .1)))), (length-lent ((loop .i) * ((args .n) * ((args .n) + 1) / 2)) ((args .n) * ((args .n) + 1) / 2) _ (loop .u) refl (omega (arith, row-in (loop .i) (args .num-gauss) ((args .n) * ((args .n) + 1) / 2) (length (args .u .now)) (pre .1 .1) (loop-test .taken), (loop .inv .2)))))),
+    )
 
 add-i : tie.Need-add-i Inv-loop μ-loop
 add-i c = search needs
@@ -141,8 +151,16 @@ loop-again c =
     let sized = (length-lent ((loop .i) * ((args .d) * (args .n))) ((args .d) * (args .n)) _ (loop .sim) refl (omega (arith, row-in (loop .i) (args .num-gauss) ((args .d) * (args .n)) (length (args .sim .now)) (pre .1 .0) (loop-test .taken), (loop .inv .1)))) in
     let packed = (length-lent ((loop .i) * ((args .n) * ((args .n) + 1) / 2)) ((args .n) * ((args .n) + 1) / 2) _ (loop .u) refl (omega (arith, row-in (loop .i) (args .num-gauss) ((args .n) * ((args .n) + 1) / 2) (length (args .u .now)) (pre .1 .1) (loop-test .taken), (loop .inv .2)))) in
     let ms = m-is (pre .0) (loop .i) (loop-test .taken) (loop .at .m) (loop .inv .4) in
-    let vs = sigma-is (pre .0) (loop .i) (loop-test .taken) (loop .at .«sigma_inv») (loop .inv .5) in
-    (omega (arith, (loop-test .taken)), same-len-mid ((loop .i) * ((args .d) * (args .n))) (((loop .i) * ((args .d) * (args .n))) + ((args .d) * (args .n)) - ((loop .i) * ((args .d) * (args .n)))) (loop .sim) (fill-gaussian .last .1 .1 .1 .1 .1 .0) (fill-gaussian .kept .1 .1 .1 .1 .1 .0) ∙ (loop .inv .1), same-len-mid ((loop .i) * ((args .n) * ((args .n) + 1) / 2)) (((loop .i) * ((args .n) * ((args .n) + 1) / 2)) + ((args .n) * ((args .n) + 1) / 2) - ((loop .i) * ((args .n) * ((args .n) + 1) / 2))) (loop .u) (fill-gaussian .last .1 .1 .1 .1 .1 .1 .0) (fill-gaussian .kept .1 .1 .1 .1 .1 .1 .0) ∙ (loop .inv .2), (fill-gaussian .kept .1 .1 .1 .1 .0) ∙ (loop .inv .3), m-next (pre .0) (loop .i) (loop-test .taken) (loop .at .m) (loop .inv .4) (fill-gaussian .ensures .0 .0), sigma-next (pre .0) (loop .i) (loop-test .taken) (loop .at .«sigma_inv») (loop .inv .5) (fill-gaussian .ensures .0 .1), rows-turn f (loop .i) _ {k = ((loop .i) * ((args .d) * (args .n))) + ((args .d) * (args .n)) - ((loop .i) * ((args .d) * (args .n)))} (length-flat ((args .d) * (args .n)) (loop .i) f (λ k l. length-sigma (args .d) (args .n) _ _)) (loop .inv .6) (sigma-by (args .d) (args .n) (fill-gaussian .ensures .1 .0) vs ms) ((fill-gaussian .kept .1 .1 .1 .1 .1 .0) ∙ sized ∙ omega arith), rows-turn g (loop .i) _ {k = ((loop .i) * ((args .n) * ((args .n) + 1) / 2)) + ((args .n) * ((args .n) + 1) / 2) - ((loop .i) * ((args .n) * ((args .n) + 1) / 2))} (length-flat ((args .n) * ((args .n) + 1) / 2) (loop .i) g (λ k l. length-quadratic (args .d) (args .n) _ _)) (loop .inv .7) (quadratic-by (args .d) (args .n) (fill-gaussian .ensures .1 .1) vs ms) ((fill-gaussian .kept .1 .1 .1 .1 .1 .1 .0) ∙ packed ∙ omega arith))
+    let vs = sigma-is (pre .0) (loop .i) (loop-test .taken) (loop .at .«sigma_inv») (loop .inv .5) in (
+      omega (arith, (loop-test .taken)),
+      same-len-mid ((loop .i) * ((args .d) * (args .n))) (((loop .i) * ((args .d) * (args .n))) + ((args .d) * (args .n)) - ((loop .i) * ((args .d) * (args .n)))) (loop .sim) (fill-gaussian .last .1 .1 .1 .1 .1 .0) (fill-gaussian .kept .1 .1 .1 .1 .1 .0) ∙ (loop .inv .1),
+      same-len-mid ((loop .i) * ((args .n) * ((args .n) + 1) / 2)) (((loop .i) * ((args .n) * ((args .n) + 1) / 2)) + ((args .n) * ((args .n) + 1) / 2) - ((loop .i) * ((args .n) * ((args .n) + 1) / 2))) (loop .u) (fill-gaussian .last .1 .1 .1 .1 .1 .1 .0) (fill-gaussian .kept .1 .1 .1 .1 .1 .1 .0) ∙ (loop .inv .2),
+      (fill-gaussian .kept .1 .1 .1 .1 .0) ∙ (loop .inv .3),
+      m-next (pre .0) (loop .i) (loop-test .taken) (loop .at .m) (loop .inv .4) (fill-gaussian .ensures .0 .0),
+      sigma-next (pre .0) (loop .i) (loop-test .taken) (loop .at .«sigma_inv») (loop .inv .5) (fill-gaussian .ensures .0 .1),
+      rows-turn f (loop .i) _ {k = ((loop .i) * ((args .d) * (args .n))) + ((args .d) * (args .n)) - ((loop .i) * ((args .d) * (args .n)))} (length-flat ((args .d) * (args .n)) (loop .i) f (λ k l. length-sigma (args .d) (args .n) _ _)) (loop .inv .6) (sigma-by (args .d) (args .n) (fill-gaussian .ensures .1 .0) vs ms) ((fill-gaussian .kept .1 .1 .1 .1 .1 .0) ∙ sized ∙ omega arith),
+      rows-turn g (loop .i) _ {k = ((loop .i) * ((args .n) * ((args .n) + 1) / 2)) + ((args .n) * ((args .n) + 1) / 2) - ((loop .i) * ((args .n) * ((args .n) + 1) / 2))} (length-flat ((args .n) * ((args .n) + 1) / 2) (loop .i) g (λ k l. length-quadratic (args .d) (args .n) _ _)) (loop .inv .7) (quadratic-by (args .d) (args .n) (fill-gaussian .ensures .1 .1) vs ms) ((fill-gaussian .kept .1 .1 .1 .1 .1 .1 .0) ∙ packed ∙ omega arith),
+    )
 
 same-length : tie.Need-same-length Inv-loop μ-loop
 same-length c = search needs
@@ -157,8 +175,10 @@ returns : tie.Need-returns Inv-loop μ-loop
 returns c =
     let args = c .before .before .before .before .before .before .args in
     let loop = c .before .loop in
-    let loop-test = c .loop-test in
-    (sims-whole (args .s .now) (args .num-gauss) (args .d) (args .n) (args .m) (args .sigma-inv) _ (rows-end (sigmaInvMAt (args .s .now) (args .num-gauss) (args .d) (args .n) (args .m) (args .sigma-inv)) (loop .i) _ _ (loop .inv .0) (loop-test .left) (loop .inv .6)), quadratics-whole (args .s .now) (args .num-gauss) (args .d) (args .n) (args .m) (args .sigma-inv) _ (rows-end (λ i. quadraticTerm (args .d) (args .n) (mAt (args .s .now) (args .num-gauss) (args .m) i) (sigmaInvMAt (args .s .now) (args .num-gauss) (args .d) (args .n) (args .m) (args .sigma-inv) i)) (loop .i) _ _ (loop .inv .0) (loop-test .left) (loop .inv .7)))
+    let loop-test = c .loop-test in (
+      sims-whole (args .s .now) (args .num-gauss) (args .d) (args .n) (args .m) (args .sigma-inv) _ (rows-end (sigmaInvMAt (args .s .now) (args .num-gauss) (args .d) (args .n) (args .m) (args .sigma-inv)) (loop .i) _ _ (loop .inv .0) (loop-test .left) (loop .inv .6)),
+      quadratics-whole (args .s .now) (args .num-gauss) (args .d) (args .n) (args .m) (args .sigma-inv) _ (rows-end (λ i. quadraticTerm (args .d) (args .n) (mAt (args .s .now) (args .num-gauss) (args .m) i) (sigmaInvMAt (args .s .now) (args .num-gauss) (args .d) (args .n) (args .m) (args .sigma-inv) i)) (loop .i) _ _ (loop .inv .0) (loop-test .left) (loop .inv .7)),
+    )
 
 pub fill-gaussians-spec : {M : Type 1} → statement M
 fill-gaussians-spec =

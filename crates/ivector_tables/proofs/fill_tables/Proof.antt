@@ -90,8 +90,10 @@ same-length-2 c = search needs
 returns : tie.Need-returns
 returns c =
     let args = c .before .before .before .before .before .before .before .before .before .before .before .before .before .before .before .args in
-    let sigma-inv-m = c .before .before .before .before .before .before .before .before .sigma-inv-m in
-    (sigma-by (args .d) (args .n) (sigma-inv-m .ensures) refl (lent-is (triangle (args .d)) ((args .d) * (args .n)) ((triangle (args .d)) + (args .d) * (args .n)) (args .numbers .now) refl), quadratic-by (args .d) (args .n) (((c .before .before .quadratic-term) .ensures) ∙ ap (quadraticTerm (args .d) (args .n) _) (sigma-inv-m .ensures)) refl (lent-is (triangle (args .d)) ((args .d) * (args .n)) ((triangle (args .d)) + (args .d) * (args .n)) (args .numbers .now) refl))
+    let sigma-inv-m = c .before .before .before .before .before .before .before .before .sigma-inv-m in (
+      sigma-by (args .d) (args .n) (sigma-inv-m .ensures) refl (lent-is (triangle (args .d)) ((args .d) * (args .n)) ((triangle (args .d)) + (args .d) * (args .n)) (args .numbers .now) refl),
+      quadratic-by (args .d) (args .n) (((c .before .before .quadratic-term) .ensures) ∙ ap (quadraticTerm (args .d) (args .n) _) (sigma-inv-m .ensures)) refl (lent-is (triangle (args .d)) ((args .d) * (args .n)) ((triangle (args .d)) + (args .d) * (args .n)) (args .numbers .now) refl),
+    )
 
 pub fill-tables-spec : {M : Type 1} → statement M
 fill-tables-spec =

@@ -78,8 +78,11 @@ loop-again c =
     let loop = c .before .before .before .before .before .loop in
     let args = c .before .before .before .before .before .before .before .before .args in
     let fill-column = c .before .before .fill-column in
-    let pre = c .before .before .before .before .before .before .before .before .pre in
-    (omega (arith, (loop-test .taken)), same-len-mid ((loop .c) * (args .rows)) (((loop .c) * (args .rows)) + (args .rows) - ((loop .c) * (args .rows))) (loop .out) (fill-column .last .1 .1 .1 .1 .1 .0) (fill-column .kept .1 .1 .1 .1 .1 .0) ∙ (loop .inv .1), rows-turn (λ k. build (args .rows) (λ r. at (numbers binary32 ((args .rows) * (args .cols)) (drop (args .from) (args .s .now))) (r * (args .cols) + k))) (loop .c) _ {k = ((loop .c) * (args .rows)) + (args .rows) - ((loop .c) * (args .rows))} (length-cells (loop .c) (args .rows) _) (loop .inv .2) (fill-column .ensures) ((fill-column .kept .1 .1 .1 .1 .1 .0) ∙ length-lent ((loop .c) * (args .rows)) (args .rows) _ (loop .out) refl (omega (arith, row-in (loop .c) (args .kept) (args .rows) (length (args .out .now)) (pre .1 .3) (loop-test .taken), (loop .inv .1))) ∙ omega arith))
+    let pre = c .before .before .before .before .before .before .before .before .pre in (
+      omega (arith, (loop-test .taken)),
+      same-len-mid ((loop .c) * (args .rows)) (((loop .c) * (args .rows)) + (args .rows) - ((loop .c) * (args .rows))) (loop .out) (fill-column .last .1 .1 .1 .1 .1 .0) (fill-column .kept .1 .1 .1 .1 .1 .0) ∙ (loop .inv .1),
+      rows-turn (λ k. build (args .rows) (λ r. at (numbers binary32 ((args .rows) * (args .cols)) (drop (args .from) (args .s .now))) (r * (args .cols) + k))) (loop .c) _ {k = ((loop .c) * (args .rows)) + (args .rows) - ((loop .c) * (args .rows))} (length-cells (loop .c) (args .rows) _) (loop .inv .2) (fill-column .ensures) ((fill-column .kept .1 .1 .1 .1 .1 .0) ∙ length-lent ((loop .c) * (args .rows)) (args .rows) _ (loop .out) refl (omega (arith, row-in (loop .c) (args .kept) (args .rows) (length (args .out .now)) (pre .1 .3) (loop-test .taken), (loop .inv .1))) ∙ omega arith),
+    )
 
 same-length : tie.Need-same-length Inv-loop μ-loop
 same-length c = search needs

@@ -78,8 +78,12 @@ loop-again c =
     let loop = c .before .before .before .before .before .loop in
     let quadratic-row = c .before .before .quadratic-row in
     let args = c .before .before .before .before .before .before .before .before .before .args in
-    let pre = c .before .before .before .before .before .before .before .before .before .pre in
-    (omega (arith, (loop-test .taken)), omega (arith, (loop .inv .1), triangle-next (loop .p)), same-len-mid (loop .start) (((loop .start) + (loop .p) + 1) - (loop .start)) (loop .out) (quadratic-row .last .1 .1 .1 .1 .1 .0) (quadratic-row .kept .1 .1 .1 .1 .1 .0) ∙ (loop .inv .2), rows-turn (λ p. build (p + 1) (quadraticRow (args .d) (args .s) (args .m .now) (args .sigma-inv-m .now) p)) (loop .p) _ {k = ((loop .start) + (loop .p) + 1) - (loop .start)} (length-triangle (quadraticRow (args .d) (args .s) (args .m .now) (args .sigma-inv-m .now)) (loop .p) ∙ sym (loop .inv .1)) (loop .inv .3) (quadratic-row .ensures) ((quadratic-row .kept .1 .1 .1 .1 .1 .0) ∙ length-lent (loop .start) ((loop .p) + 1) ((loop .start) + (loop .p) + 1) (loop .out) (omega arith) (omega (arith, triangle-below (loop .p) (loop .p) (args .s) (omega arith) (loop-test .taken), (loop .inv .1), (pre .3), (loop .inv .2))) ∙ omega arith))
+    let pre = c .before .before .before .before .before .before .before .before .before .pre in (
+      omega (arith, (loop-test .taken)),
+      omega (arith, (loop .inv .1), triangle-next (loop .p)),
+      same-len-mid (loop .start) (((loop .start) + (loop .p) + 1) - (loop .start)) (loop .out) (quadratic-row .last .1 .1 .1 .1 .1 .0) (quadratic-row .kept .1 .1 .1 .1 .1 .0) ∙ (loop .inv .2),
+      rows-turn (λ p. build (p + 1) (quadraticRow (args .d) (args .s) (args .m .now) (args .sigma-inv-m .now) p)) (loop .p) _ {k = ((loop .start) + (loop .p) + 1) - (loop .start)} (length-triangle (quadraticRow (args .d) (args .s) (args .m .now) (args .sigma-inv-m .now)) (loop .p) ∙ sym (loop .inv .1)) (loop .inv .3) (quadratic-row .ensures) ((quadratic-row .kept .1 .1 .1 .1 .1 .0) ∙ length-lent (loop .start) ((loop .p) + 1) ((loop .start) + (loop .p) + 1) (loop .out) (omega arith) (omega (arith, triangle-below (loop .p) (loop .p) (args .s) (omega arith) (loop-test .taken), (loop .inv .1), (pre .3), (loop .inv .2))) ∙ omega arith),
+    )
 
 same-length : tie.Need-same-length Inv-loop μ-loop
 same-length c = search needs

@@ -99,8 +99,10 @@ returns c =
     let long = (fill-f64s .kept .1 .1 .0) ∙ one in
     let two = length-lent t ((args .d) * (args .n)) e (xs ++ drop t (args .scratch .now)) refl (omega (arith, front-length t (args .scratch .now) xs long (omega (arith, (pre .1 .1 .2))), (pre .1 .1 .2))) in
     let ys = (fill-f64s2 .last .1 .1 .0) in
-    let there : length ys ≡ e - t = (fill-f64s2 .kept .1 .1 .0) ∙ two ∙ omega arith in
-    (first-part t ((args .d) * (args .n)) e (args .scratch .now) xs ys refl long there ∙ (fill-f64s .ensures) ∙ ap (λ (k : ℕ). numbers binary64 k (drop (args .sigma-inv) (args .s .now))) one, second-part t ((args .d) * (args .n)) e (args .scratch .now) xs ys refl long there ∙ (fill-f64s2 .ensures) ∙ ap (λ (k : ℕ). numbers binary64 k (drop (args .m) (args .s .now))) two)
+    let there : length ys ≡ e - t = (fill-f64s2 .kept .1 .1 .0) ∙ two ∙ omega arith in (
+      first-part t ((args .d) * (args .n)) e (args .scratch .now) xs ys refl long there ∙ (fill-f64s .ensures) ∙ ap (λ (k : ℕ). numbers binary64 k (drop (args .sigma-inv) (args .s .now))) one,
+      second-part t ((args .d) * (args .n)) e (args .scratch .now) xs ys refl long there ∙ (fill-f64s2 .ensures) ∙ ap (λ (k : ℕ). numbers binary64 k (drop (args .m) (args .s .now))) two,
+    )
 
 pub read-gaussian-spec : {M : Type 1} → statement M
 read-gaussian-spec =

@@ -76,8 +76,11 @@ loop-again c =
     let loop = c .before .before .before .before .before .loop in
     let args = c .before .before .before .before .before .before .before .before .before .args in
     let sigma-inv-m-row = c .before .before .sigma-inv-m-row in
-    let pre = c .before .before .before .before .before .before .before .before .before .pre in
-    (omega (arith, (loop-test .taken)), same-len-mid ((loop .a) * (args .s)) (((loop .a) * (args .s)) + (args .s) - ((loop .a) * (args .s))) (loop .out) (sigma-inv-m-row .last .1 .1 .1 .1 .1 .0) (sigma-inv-m-row .kept .1 .1 .1 .1 .1 .0) ∙ (loop .inv .1), rows-turn (λ a. build (args .s) (sigmaRow (args .d) (args .s) (args .sigma-inv .now) (args .m .now) a)) (loop .a) _ {k = ((loop .a) * (args .s)) + (args .s) - ((loop .a) * (args .s))} (length-cells (loop .a) (args .s) _) (loop .inv .2) (sigma-inv-m-row .ensures) ((sigma-inv-m-row .kept .1 .1 .1 .1 .1 .0) ∙ length-lent ((loop .a) * (args .s)) (args .s) _ (loop .out) refl (omega (arith, row-in (loop .a) (args .d) (args .s) (length (args .out .now)) (omega (arith, (pre .3))) (loop-test .taken), (loop .inv .1))) ∙ omega arith))
+    let pre = c .before .before .before .before .before .before .before .before .before .pre in (
+      omega (arith, (loop-test .taken)),
+      same-len-mid ((loop .a) * (args .s)) (((loop .a) * (args .s)) + (args .s) - ((loop .a) * (args .s))) (loop .out) (sigma-inv-m-row .last .1 .1 .1 .1 .1 .0) (sigma-inv-m-row .kept .1 .1 .1 .1 .1 .0) ∙ (loop .inv .1),
+      rows-turn (λ a. build (args .s) (sigmaRow (args .d) (args .s) (args .sigma-inv .now) (args .m .now) a)) (loop .a) _ {k = ((loop .a) * (args .s)) + (args .s) - ((loop .a) * (args .s))} (length-cells (loop .a) (args .s) _) (loop .inv .2) (sigma-inv-m-row .ensures) ((sigma-inv-m-row .kept .1 .1 .1 .1 .1 .0) ∙ length-lent ((loop .a) * (args .s)) (args .s) _ (loop .out) refl (omega (arith, row-in (loop .a) (args .d) (args .s) (length (args .out .now)) (omega (arith, (pre .3))) (loop-test .taken), (loop .inv .1))) ∙ omega arith),
+    )
 
 same-length : tie.Need-same-length Inv-loop μ-loop
 same-length c = search needs
