@@ -2,20 +2,18 @@
 use mathlib.Core.Path.{_≡_, refl, sym, ap, _∙_, subst}
 use mathlib.Core.Bool.{true}
 use mathlib.Core.List.{List, []}
-use Prim.Native.Nat.{ℕ, _+_, _-_, _≤_}
+use Prim.Native.Nat.{ℕ, _+_, _-_}
 use native.Mathlib.Omega.{arith}
-use lib.Ieee.{Float, binary32}
+use lib.Ieee.{Float}
 use lib.ListN.{length}
 use Rattle.loops.proofs.Tests.{of-each}
 use Rattle.definition.specs.declared.Dimensions.{Dimensions}
-use Rattle.definition.specs.Options.{maxFeat, maxColumns, dimsInRange}
+use Rattle.definition.specs.Options.{dimsInRange}
 use Rattle.definition.specs.Reader.{Got, read, refused, Parser, after}
 use Rattle.definition.specs.Kaldi.{Gmm, Extractor, Matrix, gmm, extractor, lda}
 use Rattle.definition.specs.Text.{cmvn, line}
-use Rattle.definition.specs.Model.{Files, Contents, file, dimsOf}
-use Rattle.kaldi_io.specs.Answers.{MatrixIn}
+use Rattle.definition.specs.Model.{Files, file, dimsOf}
 use Rattle.kaldi_io.proofs.Bytes.{in-range}
-use Rattle.kaldi_files.specs.Answers.{GmmIn, ExtractorIn}
 use Rattle.kaldi_text.specs.Answers.{cells, RowIn}
 use Rattle.ivector_info.specs.declared.Places.{Places}
 use Rattle.ivector_info.specs.Steps.{contents, contentsAt, CheckedIn}

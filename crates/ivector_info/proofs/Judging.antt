@@ -13,7 +13,7 @@ use Rattle.definition.specs.declared.IvectorOptions.{IvectorOptions}
 use Rattle.definition.specs.declared.Dimensions.{Dimensions}
 use Rattle.definition.specs.declared.TableLengths.{TableLengths}
 use Rattle.definition.specs.Options.{optionsInRange, dimsAgree, spliced}
-use Rattle.definition.specs.Reader.{Got, read, refused, Parser, after, _>>=_, give, need}
+use Rattle.definition.specs.Reader.{Got, read, refused, after, _>>=_, give}
 use Rattle.definition.specs.Kaldi.{Gmm, Extractor, Matrix, gmm, extractor, lda}
 use Rattle.definition.specs.Text.{cmvn}
 use Rattle.definition.specs.Model.{Files, Contents, Model, file, dimsOf, contentsAgree, modelOf, tablesFit, loadScratch, judged, loading, load}

@@ -3,14 +3,11 @@ use mathlib.Core.Path.{_≡_, refl, sym, ap, _∙_}
 use mathlib.Core.List.{List}
 use Prim.Native.Nat.{ℕ, _*_, _≤_}
 use native.Mathlib.Nat.{mul-comm, mul-assoc}
-use native.Mathlib.Omega.{arith}
 use lib.Ieee.{Float}
 use Rattle.loops.specs.Lists.{build, over}
 use Rattle.definition.specs.declared.IvectorOptions.{IvectorOptions}
 use Rattle.definition.specs.declared.Dimensions.{Dimensions}
 use Rattle.definition.specs.declared.TableLengths.{TableLengths}
-use Rattle.definition.specs.declared.IvectorInfo.{IvectorInfo}
-use Rattle.definition.specs.declared.Loaded.{Loaded}
 use Rattle.definition.specs.declared.Loaded.the-variants as L
 use Rattle.definition.specs.Options.{spliced}
 use Rattle.definition.specs.Reader.{Got, read, refused}

@@ -1,8 +1,8 @@
 -- The extractor's blocks, read again.
-use mathlib.Core.Path.{_≡_, refl, sym, ap, _∙_, subst}
-use mathlib.Core.Bool.{true, false}
+use mathlib.Core.Path.{_≡_, sym, ap, _∙_, subst}
+use mathlib.Core.Bool.{false}
 use mathlib.Core.List.{List, []}
-use Prim.Native.Nat.{ℕ, _+_, _-_, _*_, _≤_, _<_}
+use Prim.Native.Nat.{ℕ, _+_, _-_, _*_, _<_}
 use native.Mathlib.Omega.{arith}
 use borrow.Author.Tests.{eqb-true}
 use lib.ListN.{length, drop, getD}
@@ -10,9 +10,9 @@ use lib.Ieee.{Float, binary64}
 use Rattle.loops.specs.Lists.{flat, over}
 use Rattle.loops.proofs.Tests.{each-at}
 use Rattle.definition.specs.Options.{maxFeat, maxIvector}
-use Rattle.definition.specs.Reader.{Got, read, refused, numbers, times, Parser}
+use Rattle.definition.specs.Reader.{read, refused, numbers, times, Parser}
 use Rattle.definition.specs.Kaldi.{Matrix, Packed, matrix, packedMatrix, matrixAt, triangle}
-use Rattle.definition.specs.Model.{sigmaInvM, quadraticTerm}
+use Rattle.definition.specs.Model.{quadraticTerm}
 use Rattle.kaldi_io.specs.Answers.{Ready, MatrixIn, PackedIn}
 use Rattle.kaldi_io.proofs.Chain.{not-read, same-value, placeOf}
 use Rattle.kaldi_files.specs.Answers.{means, inverses, items, sizedAs, squareAs, ExtractorIn}

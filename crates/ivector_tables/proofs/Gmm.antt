@@ -1,13 +1,10 @@
 -- The GMM's constants, and places of its numbers.
 use mathlib.Core.Path.{_≡_, sym, ap, _∙_}
-use mathlib.Core.Bool.{Bool, true, false}
+use mathlib.Core.Bool.{Bool}
 use Prim.Native.Nat.{ℕ, _+_, _*_, _≤_, _<_}
 use native.Mathlib.Nat.{mul-le-mul}
-use native.Mathlib.Omega.{arith}
-use mathlib.Core.List.{List}
 use lib.Ieee.{Float, neg}
 use borrow.Author.Tests.{lt-ltb, le-ltb}
-use Rattle.loops.specs.Loop.{iter}
 use Rattle.loops.specs.Lists.{if_then_else_}
 use Rattle.floats.specs.Operators.{_+₆₄_, _-₆₄_, _*₆₄_, _/₆₄_, f64, zero₃₂, half₆₄, count, at, sum₆₄}
 use Rattle.floats.specs.Narrow.{narrowed}

@@ -1,10 +1,10 @@
 -- Rows of a table, each times a number, added up in a room row after row; and rows that make a table.
 use mathlib.Core.Path.{_≡_, refl, sym, ap, _∙_}
 use mathlib.Core.List.{List, _++_}
-use Prim.Native.Nat.{ℕ, _+_, _-_, _*_, _/_, _≤_, _<_}
+use Prim.Native.Nat.{ℕ, _+_, _-_, _*_, _/_, _≤_}
 use native.Mathlib.Omega.{arith}
-use lib.ListN.{length, getD, take, drop, replicate, length-append, length-drop}
-use lib.Seq.{take-at, drop-at, length-take-le}
+use lib.ListN.{length, take, drop, replicate, length-append, length-drop}
+use lib.Seq.{take-at, drop-at}
 use lib.Ieee.{Float, nan}
 use Rattle.loops.specs.Loop.{iter}
 use Rattle.loops.specs.Lists.{build, flat, over}
