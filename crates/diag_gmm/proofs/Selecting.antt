@@ -9,9 +9,7 @@ use lib.ListN.{length}
 use Rattle.loops.specs.Steps.{fill}
 use Rattle.loops.proofs.Fill.{length-fill}
 use Rattle.floats.specs.Operators.{_+₃₂_, _*₃₂_, _/₃₂_, zero₃₂, one₃₂, at, sum₃₂}
-use Rattle.definition.specs.declared.FrameWeight.{FrameWeight}
-use Rattle.definition.specs.Posteriors.{pruned, selectPosteriors, posteriors}
-use Rattle.definition.specs.declared.FrameWeight.the-variants.{Skipped, Weighed}
+use Rattle.definition.specs.Posteriors.{pruned, selectPosteriors}
 use Rattle.diag_gmm.specs.Steps.{ranked, held, Fair, bestOf, finished}
 use Rattle.diag_gmm.proofs.Rooms.{held-none, length-held, held-scaled, held-take, held-total}
 use Rattle.diag_gmm.proofs.Apart.{Apart, best-apart, finished-apart, held-fair}
@@ -43,14 +41,3 @@ selection-is ls k min-post n chosen posts {m = m} {q = q} h l g b e f o r =
     let z = select-is ls k min-post n chosen posts (omega arith) (omega arith) b e (f chosen (omega arith)) o r in
     let i : length q ≡ length posts = ap length r ∙ length-fill _ m posts (omega arith) in
     (z, omega arith, held-fair (length ls) m chosen q (omega arith) (omega arith) z (selected-apart ls k min-post))
-
--- as `posteriors` has it
-pub skipped-is : (ls : List Float) (k : ℕ) (chosen : List ℕ) (posts : List Float) {w : FrameWeight} → w ≡ Skipped → (held 0 chosen posts ≡ posteriors k w ls) × (0 ≤ k) × Fair (length ls) 0 chosen
-unfolding posteriors
-skipped-is ls k chosen posts e =
-    (rw e (held-none chosen posts), omega arith, record { below = λ i g. absurd (not-suc-le-zero g); once = λ i j g f. absurd (not-suc-le-zero f) })
-
-pub scaled-is : (ls : List Float) (k n : ℕ) (chosen : List ℕ) (posts : List Float) {floor scale : Float} {w : FrameWeight} {q : List Float} → w ≡ Weighed floor scale
-    → n ≤ length chosen → n ≤ length posts → held n chosen posts ≡ selectPosteriors ls k floor → q ≡ fill n (λ i. at posts i *₃₂ scale) posts → held n chosen q ≡ posteriors k w ls
-unfolding posteriors
-scaled-is ls k n chosen posts {scale = scale} e h l f r = rw e (held-scaled scale n chosen posts h l r ∙ ap (map (λ p. (p .0, p .1 *₃₂ scale))) f)

@@ -11,7 +11,7 @@ ghost use Rattle.loops.specs.Lists.{if_then_else_, those};
 ghost use Rattle.loops.specs.Steps.{fill};
 ghost use Rattle.floats.specs.Operators.{_+₃₂_, _-₃₂_, _*₃₂_, f32, zero₃₂, at, sum₃₂};
 ghost use Rattle.floats.specs.Exp.{expOf};
-ghost use Rattle.definition.specs.Posteriors.{loglikes as loglikesOf, ahead as isAhead, insert as insertOf, pruned, selectPosteriors, minPostFor, weighed as weighedOf, unweighted as unweightedOf, posteriors as posteriorsOf};
+ghost use Rattle.definition.specs.Posteriors.{loglikes as loglikesOf, ahead as isAhead, insert as insertOf, pruned, selectPosteriors, minPostFor, weighed as weighedOf, unweighted as unweightedOf};
 ghost use Rattle.diag_gmm.specs.Steps.{held, Fair, slid, every, maxLike, ranked, bestOf};
 
 fn clear(sum: &mut [f32])
@@ -320,25 +320,4 @@ pub fn unweighted(o: IvectorOptions) -> FrameWeight
     ensures { λ r. ⌜ r ≡ unweightedOf o ⌝ }
 {
     FrameWeight::Weighed(o.min_post, o.posterior_scale)
-}
-
-// The scaled posteriors of a frame; a skipped one has none.
-pub fn posteriors(
-    num_gselect: usize,
-    w: FrameWeight,
-    loglikes: &[f32],
-    chosen: &mut [usize],
-    posts: &mut [f32],
-) -> usize
-    requires { ⌜ («num_gselect» ≤ length (now chosen)) × («num_gselect» ≤ length (now posts)) ⌝ }
-    ensures { λ r. ⌜ (held r (now (chosen .exit)) (now (posts .exit)) ≡ posteriorsOf «num_gselect» w (now (loglikes .entry))) × (r ≤ «num_gselect») × Fair (length (now (loglikes .entry))) r (now (chosen .exit)) ⌝ }
-{
-    match w {
-        FrameWeight::Skipped => 0,
-        FrameWeight::Weighed(floor, by) => {
-            let n = select_posteriors(loglikes, num_gselect, floor, chosen, posts);
-            scale(by, n, posts);
-            n
-        }
-    }
 }

@@ -37,7 +37,8 @@ use Rattle.frame_views.specs.Waiting.{waitingIn}
 use Rattle.ivector_stream.specs.Rooms.{Tables, tableLengthsOf, modelIn, Rooms, roomLengthsOf}
 use Rattle.ivector_stream.specs.Calls.{answerOf, fetchVector, bitsOf, notFinite, newRefusal, newAnswer, freshStream, freshRooms}
 use Rattle.keeping.specs.Keeping.{Given, push, finish, change, forget, fetch, callOf, Program, program, refusalOf, leaves, outputOf, badOf, replyOf, programAnswers, Keeps}
-use Rattle.keeping.proofs.Facts.{Ranges, ranges, Fitting, fitting}
+use Rattle.limits.proofs.Ranges.{Fitting, fitting}
+use Rattle.keeping.proofs.Facts.{Ranges, ranges}
 use Rattle.keeping.proofs.Sound.{streamOf, Made, Inv, refusal-same}
 use Rattle.keeping.proofs.Steps.{four, Next, taken-next, fetch-same, fetch-ready}
 

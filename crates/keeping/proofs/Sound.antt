@@ -25,11 +25,11 @@ use Rattle.definition.specs.Machine.{Machine, accepted, allFrames, framesHeld, 
 use Rattle.definition.specs.Stream.{infoSound, roomsFit, rising, breaks, isBroken, sameTables, sameRings, sameRooms, ringLengths, fixedLengths}
 use Rattle.definition.proofs.Agree.{Agree}
 use Rattle.definition.proofs.Lengths.{Long}
-use Rattle.frame_views.specs.Waiting.{waitingIn}
+use Rattle.frame_views.specs.Waiting.{waitingIn, framesOf}
+use Rattle.frame_views.proofs.WaitingRooms.{frames-waiting}
 use Rattle.ivector_stream.specs.Rooms.{Tables, tableLengthsOf, modelIn, Rooms, roomLengthsOf, framesIn, estimateIn}
 use Rattle.ivector_stream.specs.Calls.{pushRefusal, plainRefusal, changeRefusal, fetchRefusal}
 use Rattle.keeping.specs.Keeping.{Given, push, finish, change, forget, fetch, callOf, Program, program, refusalOf}
-use Rattle.keeping.proofs.Waiting.{framesOf, frames-in}
 
 -- the program's record, of the machine's state
 abbrev pub streamOf : IvectorInfo → RoomLengths → Machine → IvectorStream
@@ -79,7 +79,7 @@ module _ (i : IvectorInfo) (z : RoomLengths) (n : ℕ) where
 
     -- the frames that wait, as the room holds them
     pub held-are : take (length (k .changes .waiting)) (w .waiting-frames) ≡ framesOf (k .changes .waiting)
-    held-are = frames-in (length (k .changes .waiting)) (w .waiting-frames) (w .waiting-weights) (omega (arith, v .waiting-fit, room-of)) ∙ ap framesOf (v .waiting-is)
+    held-are = sym (frames-waiting (length (k .changes .waiting)) (w .waiting-frames) (w .waiting-weights) (omega (arith, v .waiting-fit, room-of))) ∙ ap framesOf (v .waiting-is)
 
     -- the record is never broken
     pub sound : isBroken s (w .waiting-frames) ≡ false

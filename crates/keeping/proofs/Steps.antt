@@ -35,14 +35,17 @@ use Rattle.definition.specs.Stream.{rising}
 use Rattle.definition.proofs.Agree.{Agree, Inside, updated-ext}
 use Rattle.definition.proofs.Lengths.{Long, updated-long}
 use Rattle.frame_views.specs.Ring.{ringAt, ringFrames}
-use Rattle.frame_views.specs.Waiting.{waitingIn}
+use Rattle.frame_views.specs.Waiting.{waitingIn, framesOf, weightsOf}
+use Rattle.frame_views.proofs.WaitingRooms.{waiting-over}
+use Rattle.frame_views.proofs.InOrder.{length-inserts, inserts-rising}
+use Rattle.frame_views.proofs.Pushed.{pushed-agrees}
 use Rattle.ivector_stream.specs.Rooms.{Tables, modelIn, Rooms, roomLengthsOf, framesIn, changesIn, estimateIn}
 use Rattle.ivector_stream.specs.Calls.{withAccepted, withChanges, pushedFrames, pushedRows, overFrames, overWeights, forgetMark, catchesUp, fetchEstimate, fetchChanges, fetchStream, fetchRooms}
 use Rattle.keeping.specs.Keeping.{Given, push, finish, change, forget, fetch, callOf, Program, program, withRings, withWaiting, leaves}
-use Rattle.keeping.proofs.Facts.{Ranges, ranges, Fitting, fitting}
-use Rattle.keeping.proofs.Waiting.{framesOf, weightsOf, waiting-over, inserts-none, inserts-rising, length-inserts, those-rising, those-none, lowest-first, lowest-at, Each, merged-each, those-each}
+use Rattle.limits.proofs.Ranges.{Fitting, fitting}
+use Rattle.keeping.proofs.Facts.{Ranges, ranges}
+use Rattle.keeping.proofs.Waiting.{inserts-none, those-rising, those-none, lowest-first, lowest-at, Each, merged-each, those-each}
 use Rattle.keeping.proofs.Sound.{streamOf, Made, Inv, held-are}
-use Rattle.keeping.proofs.Pushed.{one-more, pushed-agrees}
 
 -- a higher mark holds fewer rows
 rows-fewer : (a m m′ w r : ℕ) → m ≤ m′ → a + 1 - (m + 1 - w) ≤ r → a + 1 - (m′ + 1 - w) ≤ r
@@ -236,7 +239,7 @@ module _ (i : IvectorInfo) (z : RoomLengths) (n : ℕ) (t : Tables) (made : Made
         let some-rows : 0 < rowsIn (length (w .rows)) dim = rw r (omega arith) in
         let a : length frames′ ≡ length (w .frames) = length-put (place (length (w .frames)) dim (accepted k)) x (w .frames) (omega (arith, place-in (length (w .frames)) dim (accepted k) some-frames)) in
         let b : length rows′ ≡ length (w .rows) = length-put (place (length (w .rows)) dim (accepted k + 1)) y (w .rows) (omega (arith, length-build dim (λ d. ringAt dim (w .rows) (accepted k) d +₆₄ at x d), place-in (length (w .rows)) dim (accepted k + 1) some-rows)) in
-        let len : length (k .history ++ (x ∷ [])) ≡ accepted k + 1 = one-more (k .history) x in (
+        let len : length (k .history ++ (x ∷ [])) ≡ accepted k + 1 = length-append (k .history) (x ∷ []) in (
           withRings w frames′ rows′,
           ap (λ (j : ℕ). program (withAccepted (streamOf i z k) j) (withRings w frames′ rows′)) (sym len),
           record {
@@ -262,7 +265,7 @@ module _ (i : IvectorInfo) (z : RoomLengths) (n : ℕ) (t : Tables) (made : Made
             held-back = v .held-back;
             estimate-is = v .estimate-is;
             long = v .long;
-            agrees = pushed-agrees (k .history) x dim (k .mark) window (w .frames) (w .rows) (h .some-base) wide (omega (arith, h .some-window, v .mark-is, v .next-is)) (rw f room) (rw r more) (v .agrees) a b;
+            agrees = subst (λ (m : ℕ). Agree (ringFrames dim m frames′ rows′) (allFrames (k .history ++ (x ∷ []))) dim (k .mark) window) (sym len) (pushed-agrees (k .history) x dim (k .mark) window (w .frames) (w .rows) wide (omega (arith, h .some-window, v .mark-is, v .next-is)) (rw f room) (rw r more) (v .agrees));
           },
         )
 

@@ -1,4 +1,4 @@
--- Waiting changes: what their rooms hold, that they stay in order and above the mark, and which frames a batch has.
+-- Waiting changes: that they stay in order and above the mark, and which frames a batch has.
 use mathlib.Core.Path.{_≡_, refl, sym, ap, _∙_}
 use Prim.Native.Nat.{ℕ, zero, suc, _+_, _-_, _≤_, _<_, min}
 use native.Mathlib.Nat.{not-suc-le-zero}
@@ -16,33 +16,7 @@ use Rattle.loops.proofs.Fill.{over-at}
 use Rattle.floats.specs.Operators.{at, _+₃₂_}
 use Rattle.definition.specs.Changes.{Change, insertChange, mergedFrom, merged}
 use Rattle.definition.specs.Stream.{rising}
-use Rattle.frame_views.specs.Waiting.{waitingIn}
-
-abbrev pub framesOf : List Change → List ℕ
-framesOf w = map (λ c. c .0) w
-
-abbrev pub weightsOf : List Change → List Float
-weightsOf w = map (λ c. c .1) w
-
--- ---- the rooms
-
-pub frames-in : (n : ℕ) (fs : List ℕ) (ws : List Float) → n ≤ length fs → take n fs ≡ framesOf (waitingIn n fs ws)
-unfolding waitingIn
-frames-in n fs ws h = sym (map-build (λ (c : Change). c .0) n (λ i. (getD fs i 0, at ws i)) ∙ build-take 0 n fs h)
-
-pub length-waiting : (n : ℕ) (fs : List ℕ) (ws : List Float) → length (waitingIn n fs ws) ≡ n
-unfolding waitingIn
-length-waiting n fs ws = length-build n _
-
-pub waiting-over : (w : List Change) (fs : List ℕ) (ws : List Float) → waitingIn (length w) (over (framesOf w) fs) (over (weightsOf w) ws) ≡ w
-unfolding waitingIn
-waiting-over w fs ws = build-ext (length w) _ _ here ∙ build-list (0, nan) w
-  where
-    here : (k : ℕ) → k < length w → _≡_ {A = Change} (getD (over (framesOf w) fs) k 0, at (over (weightsOf w) ws) k) (getD w k (0, nan))
-    here k h =
-        let f : getD (over (framesOf w) fs) k 0 ≡ getD w k (0, nan) .0 = over-at 0 (framesOf w) fs k (rw (length-map w (λ (c : Change). c .0)) h) ∙ List·getD-map (λ (c : Change). c .0) w k (0, nan) in
-        let g : at (over (weightsOf w) ws) k ≡ getD w k (0, nan) .1 = over-at nan (weightsOf w) ws k (rw (length-map w (λ (c : Change). c .1)) h) ∙ List·getD-map (λ (c : Change). c .1) w k (0, nan) in
-        rw (f, g)
+use Rattle.frame_views.specs.Waiting.{framesOf}
 
 -- ---- in order
 
@@ -52,15 +26,6 @@ rising-from m n [] h e = refl
 rising-from m n (f ∷ fs) h e =
     let a = and-holds (leb n f) (rising f fs) e in
     and-both (leb m f) (rising f fs) (le-leb m f (omega (arith, leb-true n f (a .0)))) (a .1)
-
-pub insert-rising : (m : ℕ) (ds : List Change) (c : Change) → m ≤ c .0 → rising m (framesOf ds) ≡ true → rising m (framesOf (insertChange ds c)) ≡ true
-unfolding rising insertChange
-insert-rising m [] c h e = rw (le-leb m (c .0) h)
-insert-rising m (d ∷ ds) c h e =
-    let a = and-holds (leb m (d .0)) (rising (d .0) (framesOf ds)) e in
-    by-test (leb (d .0) (c .0))
-    (λ t. rw t (and-both (leb m (d .0)) _ (a .0) (insert-rising (d .0) ds c (leb-true _ _ t) (a .1))))
-    (λ t. rw t (and-both (leb m (c .0)) _ (le-leb m (c .0) h) (and-both (leb (c .0) (d .0)) _ (le-leb (c .0) (d .0) (omega (arith, leb-false (d .0) (c .0) t))) (a .1))))
 
 pub those-rising : (p : Change → Bool) (m : ℕ) (ds : List Change) → rising m (framesOf ds) ≡ true → rising m (framesOf (those p ds)) ≡ true
 unfolding rising those
@@ -95,21 +60,6 @@ module _ (p : ℕ → Bool) where
   those-none q (d ∷ ds) e =
       let a = or-fails (p (d .0)) (anyOf p (framesOf ds)) e in
       by-test (q d) (λ t. rw t (or-none (p (d .0)) _ (a .0) (those-none q ds (a .1)))) (λ t. rw t (those-none q ds (a .1)))
-
--- ---- how many
-
-length-insert : (ds : List Change) (c : Change) → length (insertChange ds c) ≡ suc (length ds)
-unfolding insertChange
-length-insert [] c = refl
-length-insert (d ∷ ds) c = by-test (leb (d .0) (c .0)) (λ t. rw t (ap suc (length-insert ds c))) (λ t. rw t)
-
-pub length-inserts : (ds cs : List Change) → length (foldl insertChange ds cs) ≡ length ds + length cs
-length-inserts ds [] = omega arith
-length-inserts ds (c ∷ cs) = length-inserts (insertChange ds c) cs ∙ omega (arith, length-insert ds c)
-
-pub inserts-rising : (ds cs : List Change) → rising 0 (framesOf ds) ≡ true → rising 0 (framesOf (foldl insertChange ds cs)) ≡ true
-inserts-rising ds [] e = e
-inserts-rising ds (c ∷ cs) e = inserts-rising (insertChange ds c) cs (insert-rising 0 ds c (omega arith) e)
 
 -- ---- the lowest
 
