@@ -61,7 +61,7 @@ module _ (s : IvectorStream) (z : Rooms) (f : ℕ) where
         let q : j < length (those (λ (d : Change). leb (d .0) f) W) = rw early (omega (arith, length-waiting k (z .waiting-frames) (z .waiting-weights))) in
         let h : leb (getD (those (λ (d : Change). leb (d .0) f) W) j (0, nan) .0) f ≡ true = those-pass (λ (d : Change). leb (d .0) f) (0, nan) W j q in
         let g : getD (those (λ (d : Change). leb (d .0) f) W) j (0, nan) ≡ (getD (z .waiting-frames) j 0, at (z .waiting-weights) j) =
-            ap (λ (l : List Change). getD l j (0, nan)) early ∙ at-build (0, nan) k (λ i. (getD (z .waiting-frames) i 0, at (z .waiting-weights) i)) j p in
+        ap (λ (l : List Change). getD l j (0, nan)) early ∙ at-build (0, nan) k (λ i. (getD (z .waiting-frames) i 0, at (z .waiting-weights) i)) j p in
         leb-true _ _ (ap (λ (d : Change). leb (d .0) f) (sym g) ∙ h)
 
     batch-is : batchOf (s .info .opts) (s .«delta_weights_provided») (s .«num_frames_stats») f (waitingIn k (z .waiting-frames) (z .waiting-weights))
