@@ -1,0 +1,215 @@
+/* include/shofrakin.h against the library: a model, a small stream, and the scope's examples P9 and P12, from C. Prints what differs. */
+#include "shofrakin.h"
+#include <stdio.h>
+#include <string.h>
+
+static int wrong;
+static void is(const char *name, double got, double want) {
+    if (got != want) {
+        printf("%s: %g, not %g\n", name, got, want);
+        wrong++;
+    }
+}
+
+/* The files of a model whose dimensions are 1: all GMM numbers 1, M 2, SigmaInv 1, the prior, an LDA of ones, P7's global row. */
+typedef struct {
+    uint8_t b[512];
+    size_t len;
+} bytes;
+
+static void put(bytes *f, const void *p, size_t n) {
+    memcpy(f->b + f->len, p, n);
+    f->len += n;
+}
+static void token(bytes *f, const char *t) {
+    put(f, t, strlen(t));
+    put(f, " ", 1);
+}
+static void dim(bytes *f, int32_t n) {
+    put(f, "\4", 1);
+    put(f, &n, 4);
+}
+static void f32(bytes *f, float x) { put(f, &x, 4); }
+static void f64(bytes *f, double x) { put(f, &x, 8); }
+
+static bytes gmm, extractor, lda;
+static const char cmvn_text[] = " [ 50 100\n 0 0 ]\n";
+
+static void model(int columns, double prior) {
+    gmm.len = extractor.len = lda.len = 0;
+    put(&gmm, "\0B", 2);
+    token(&gmm, "<DiagGMM>");
+    token(&gmm, "<WEIGHTS>");
+    token(&gmm, "FV");
+    dim(&gmm, 1);
+    f32(&gmm, 1);
+    token(&gmm, "<MEANS_INVVARS>");
+    token(&gmm, "FM");
+    dim(&gmm, 1);
+    dim(&gmm, 1);
+    f32(&gmm, 1);
+    token(&gmm, "<INV_VARS>");
+    token(&gmm, "FM");
+    dim(&gmm, 1);
+    dim(&gmm, 1);
+    f32(&gmm, 1);
+
+    put(&extractor, "\0B", 2);
+    token(&extractor, "<IvectorExtractor>");
+    token(&extractor, "<w>");
+    token(&extractor, "DM");
+    dim(&extractor, 0);
+    dim(&extractor, 0);
+    token(&extractor, "<w_vec>");
+    token(&extractor, "DV");
+    dim(&extractor, 0);
+    token(&extractor, "<M>");
+    dim(&extractor, 1);
+    token(&extractor, "DM");
+    dim(&extractor, 1);
+    dim(&extractor, 1);
+    f64(&extractor, 2);
+    token(&extractor, "<SigmaInv>");
+    token(&extractor, "DP");
+    dim(&extractor, 1);
+    f64(&extractor, 1);
+    token(&extractor, "<IvectorOffset>");
+    put(&extractor, "\10", 1);
+    f64(&extractor, prior);
+    token(&extractor, "</IvectorExtractor>");
+
+    put(&lda, "\0B", 2);
+    token(&lda, "FM");
+    dim(&lda, 1);
+    dim(&lda, columns);
+    for (int i = 0; i < columns; i++) f32(&lda, 1);
+}
+
+/* Its tables, and rooms for four frames and seven rows. */
+static float gconsts[1], means[1], invvars[1], lda_t[3], lda_offset[1];
+static double sigma_inv_m[1], u[1], global_row[2];
+static float frames[4], waiting_weights[3];
+static double rows[7], cmvn[2], linear[1], quadratic[1], current[1], scratch[2];
+static size_t waiting_frames[3];
+
+#define FILES gmm.b, gmm.len, extractor.b, extractor.len, lda.b, lda.len, (const uint8_t *)cmvn_text, sizeof cmvn_text - 1
+#define TABLES gconsts, 1, means, 1, invvars, 1, sigma_inv_m, 1, u, 1, lda_t, 3, lda_offset, 1, global_row, 2
+#define RINGS frames, 4, rows, 7, waiting_frames, 3, waiting_weights, 3
+#define ESTIMATE cmvn, 2, linear, 1, quadratic, 1, current, 1, scratch, 2
+
+static shofrakin_stream stream;
+static void took(const char *name, shofrakin_stream_call c, size_t refusal, size_t frames_held, size_t rows_held) {
+    is(name, c.answer.refusal, refusal);
+    is("frames held", c.answer.frames_held, frames_held);
+    is("rows held", c.answer.rows_held, rows_held);
+    is("not finite", c.answer.not_finite, 0);
+    stream = c.stream;
+}
+
+int main(void) {
+    shofrakin_options opts = {.left_context = 1, .right_context = 1, .cmn_window = 2, .global_frames = 200, .num_gselect = 5,
+        .num_cg_iters = 15, .min_post = 0.025f, .posterior_scale = 0.1f, .max_count = 100, .min_energy = 50};
+    model(3, 1.5);
+    shofrakin_load_answer m = shofrakin_load(opts, FILES, TABLES, scratch, 1);
+    is("load, short scratch", m.refusal, 8);
+    is("a table of a refused load", u[0], 0);
+    shofrakin_new_stream_answer a = shofrakin_new_stream(m.info, TABLES, RINGS, ESTIMATE);
+    is("a fresh stream on the record beside it", a.refusal, 10);
+    m = shofrakin_load(opts, FILES, TABLES, scratch, 2);
+    is("load", m.refusal, 0);
+    is("sigma_inv_m", sigma_inv_m[0], 2);
+    is("u", u[0], 4);
+    is("an LDA column", lda_t[2], 1);
+    is("the global row's count", global_row[1], 100);
+    is("the record's columns", m.info.dims.lda_cols, 3);
+    is("its energy", m.info.opts.min_energy, 50);
+    is("its prior", m.info.prior_offset, 1.5);
+    is("its last length", m.info.tables.global_mean_stats, 2);
+    shofrakin_info info = m.info;
+    a = shofrakin_new_stream(info, TABLES, RINGS, ESTIMATE);
+    is("fresh stream", a.refusal, 0);
+    is("its prior", current[0], 1.5);
+    is("its quadratic", quadratic[0], 1);
+    stream = a.stream;
+    is("its record", memcmp(&stream.info.dims, &info.dims, sizeof info.dims), 0);
+    is("its scratch", stream.rooms.scratch, 2);
+    a = shofrakin_new_stream(info, TABLES, RINGS, cmvn, 1, linear, 1, quadratic, 1, current, 1, scratch, 2);
+    is("fresh stream, short room", a.refusal, 8);
+    is("the call on the record beside it", shofrakin_set_input_finished(a.stream, RINGS).answer.refusal, 10);
+    for (int t = 0; t < 4; t++) {
+        float x = 60 + t;
+        took("push", shofrakin_push_frame(stream, &x, 1, RINGS), 0, t + 1, t + 2);
+    }
+    is("prefix row 4", rows[4], 60 + 61 + 62 + 63);
+    float x = 1, two[2] = {1, 2};
+    took("push, full", shofrakin_push_frame(stream, &x, 1, RINGS), 14, 4, 5);
+    took("push, two numbers", shofrakin_push_frame(stream, two, 2, RINGS), 11, 4, 5);
+    is("ready", shofrakin_num_frames_ready(stream), 3);
+    took("finish", shofrakin_set_input_finished(stream, RINGS), 0, 4, 5);
+    is("ready", shofrakin_num_frames_ready(stream), 4);
+    size_t at[3] = {3, 1, 2};
+    float w[3] = {0.5f, 1, 0.25f};
+    took("change", shofrakin_update_frame_weights(stream, at, 3, w, 3, RINGS), 0, 4, 5);
+    is("the first that waits", waiting_frames[0], 1);
+    is("its weight", waiting_weights[0], 1);
+    is("the last that waits", waiting_frames[2], 3);
+    is("one past the highest", stream.past_highest, 4);
+    is("a change call was taken", stream.delta_weights_provided, true);
+    took("change, no room", shofrakin_update_frame_weights(stream, at, 1, w, 1, RINGS), 19, 4, 5);
+    took("change, lists", shofrakin_update_frame_weights(stream, at, 2, w, 1, RINGS), 16, 4, 5);
+    took("forget", shofrakin_forget_before(stream, 3, RINGS), 0, 4, 5);
+    is("i-vector dimension", shofrakin_ivector_dim(stream), 1);
+    is("next", shofrakin_num_frames_stats(stream), 0);
+
+    /* the scope's P9: no context, scale 0.25, prior 1, one frame 4 */
+    opts = (shofrakin_options){.left_context = 0, .right_context = 0, .cmn_window = 600, .global_frames = 200, .num_gselect = 5,
+        .num_cg_iters = 15, .min_post = 0.025f, .posterior_scale = 0.25f, .max_count = 100, .min_energy = 50};
+    model(1, 1);
+    m = shofrakin_load(opts, FILES, TABLES, scratch, 2);
+    a = shofrakin_new_stream(m.info, TABLES, RINGS, ESTIMATE);
+    is("P9's stream", a.refusal, 0);
+    x = 4;
+    took("P9's push", shofrakin_push_frame(a.stream, &x, 1, RINGS), 0, 1, 2);
+    uint32_t out[1] = {0};
+    took("P9's fetch", shofrakin_get_frame(stream, 0, TABLES, RINGS, ESTIMATE, out, 1), 0, 1, 2);
+    float half;
+    memcpy(&half, out, 4);
+    is("P9", half, 0.5);
+    is("next", shofrakin_num_frames_stats(stream), 1);
+    took("a frame too far", shofrakin_get_frame(stream, 1, TABLES, RINGS, ESTIMATE, out, 1), 21, 1, 2);
+    took("an output too long", shofrakin_get_frame(stream, 0, TABLES, RINGS, ESTIMATE, out, 0), 20, 1, 2);
+
+    /* the scope's P12 */
+    bool known[8] = {0}, is_silence[8] = {0};
+    float current_weight[8] = {0}, weights[16];
+    int32_t phones[2] = {1, 2}, path[1] = {2};
+    size_t by[16], from[1] = {0}, to[1] = {2};
+    shofrakin_new_table_answer b = shofrakin_new_silence_weighting(phones, 2, 0.25f, 17, 8);
+    is("table, subsampling 17", b.refusal, 9);
+    b = shofrakin_new_silence_weighting(phones, 2, 0.25f, 3, 8);
+    is("table", b.refusal, 0);
+    is("active", shofrakin_silence_active(b.silence), true);
+    shofrakin_silence_answer d = shofrakin_get_delta_weights(b.silence, known, 8, is_silence, 8, current_weight, 8,
+        (shofrakin_input_frame){4}, (shofrakin_input_frame){0}, by, 16, weights, 16);
+    is("weights", d.refusal, 0);
+    is("changes", d.changes, 6);
+    for (int i = 0; i < 6; i++) {
+        is("frame", by[i], i);
+        is("weight", weights[i], 0.25f);
+    }
+    d = shofrakin_get_delta_weights(d.silence, known, 8, is_silence, 8, current_weight, 8,
+        (shofrakin_input_frame){4}, (shofrakin_input_frame){0}, by, 16, weights, 16);
+    is("changes, repeated", d.changes, 3);
+    is("frame", by[0], 3);
+    is("weight", weights[2], 0);
+    d = shofrakin_compute_current_traceback(d.silence, phones, 2, known, 8, is_silence, 8, current_weight, 8,
+        path, 1, from, 1, to, 1, (shofrakin_decoder_frame){3});
+    is("traceback", d.refusal, 0);
+    is("length", d.silence.length, 3);
+    is("known", known[1] && is_silence[1] && !known[2], true);
+    d = shofrakin_compute_current_traceback(d.silence, phones, 2, known, 8, is_silence, 8, current_weight, 8,
+        path, 1, from, 1, to, 1, (shofrakin_decoder_frame){9});
+    is("traceback past the table", d.refusal, 23);
+    printf(wrong ? "%d differ\n" : "the header fits the library\n", wrong);
+    return wrong != 0;
+}

@@ -1,0 +1,24 @@
+//! The library against the machine and the original Rust. See README.md.
+pub mod day;
+pub mod fns;
+pub mod gen;
+pub mod lists;
+pub mod machine;
+pub mod model;
+pub mod original;
+pub mod rattle;
+pub mod script;
+#[allow(dead_code, warnings)]
+mod orig {
+    include!(concat!(env!("OUT_DIR"), "/orig.rs"));
+}
+#[allow(dead_code, warnings)]
+mod orig_nan {
+    include!(concat!(env!("OUT_DIR"), "/orig_nan.rs"));
+}
+
+/// Resident memory in kilobytes.
+pub fn resident() -> u64 {
+    let t = std::fs::read_to_string("/proc/self/status").unwrap_or_default();
+    t.lines().find_map(|l| l.strip_prefix("VmRSS:")).and_then(|l| l.split_whitespace().next()?.parse().ok()).unwrap_or(0)
+}

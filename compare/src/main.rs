@@ -1,0 +1,84 @@
+//! compare lists FIRST COUNT [KIND]   generated call lists, seeds FIRST to FIRST + COUNT - 1
+//! compare day [FRAMES [SEED]]        one stream of a day
+//! compare gen FIRST COUNT [KIND]     the lists as a script (FORMAT.md), on standard output
+//! compare answer                     the machine's answers to a script on standard input
+//! KIND: calls wild damage edges rooms forged silence long big cuts, or all (all but big and cuts). THREADS: how many (2).
+//! Exit status 1 on any difference.
+use compare::{day, gen, lists, script};
+use std::io::{BufRead, Write};
+
+fn kinds(s: &str) -> Vec<gen::What> {
+    if s == "all" {
+        return gen::KINDS.to_vec();
+    }
+    let v: Vec<gen::What> = gen::NAMED.iter().copied().filter(|k| format!("{k:?}").to_lowercase() == s).collect();
+    if v.is_empty() {
+        eprintln!("no kind {s}");
+        std::process::exit(2);
+    }
+    v
+}
+
+fn main() {
+    std::panic::set_hook(Box::new(|i| {
+        // panics of the original are expected; others are shown
+        let f = i.location().map_or("", |l| l.file());
+        if !f.contains("orig") {
+            eprintln!("{i}");
+        }
+    }));
+    let a: Vec<String> = std::env::args().collect();
+    let num = |i: usize, d: u64| a.get(i).map_or(d, |s| s.replace('_', "").parse().expect("number"));
+    let kind = |i: usize| kinds(a.get(i).map_or("all", |s| s.as_str()));
+    match a.get(1).map(|s| s.as_str()) {
+        Some("lists") => {
+            let (first, count, ks) = (num(2, 1), num(3, 1000), kind(4));
+            let threads = std::env::var("THREADS").ok().and_then(|s| s.parse().ok()).unwrap_or(2u64);
+            let hs: Vec<_> = (0..threads)
+                .map(|i| {
+                    let ks = ks.clone();
+                    std::thread::spawn(move || {
+                        let mut t = lists::Tally::default();
+                        for seed in (first + i..first + count).step_by(threads as usize) {
+                            for k in &ks {
+                                lists::one(seed, *k, &mut t);
+                            }
+                        }
+                        t
+                    })
+                })
+                .collect();
+            let mut t = lists::Tally::default();
+            for h in hs {
+                t.merge(h.join().expect("thread"));
+            }
+            println!("kinds {ks:?} seeds {first} to {}", first + count - 1);
+            t.print();
+            std::process::exit(i32::from(t.differences != 0));
+        }
+        Some("day") => std::process::exit(i32::from(!day::run(num(2, 8_640_000), num(3, 1)))),
+        Some("gen") => {
+            let mut w = std::io::BufWriter::new(std::io::stdout().lock());
+            for seed in num(2, 1)..num(2, 1) + num(3, 1) {
+                for k in kind(4) {
+                    for c in gen::call_list(seed, k).cmds {
+                        writeln!(w, "{}", script::print(&c)).unwrap();
+                    }
+                }
+            }
+        }
+        Some("answer") => {
+            let mut run = script::Runner::default();
+            let mut w = std::io::BufWriter::new(std::io::stdout().lock());
+            for line in std::io::stdin().lock().lines() {
+                if let Some(s) = run.exec(&script::parse(&line.unwrap())) {
+                    writeln!(w, "{s}").unwrap();
+                }
+            }
+        }
+        _ => {
+            eprintln!("compare lists FIRST COUNT [KIND] | day [FRAMES [SEED]] | gen FIRST COUNT [KIND] | answer");
+            std::process::exit(2);
+        }
+    }
+}

@@ -1,0 +1,933 @@
+//! The library: its records and calls as C sees them (include/shofrakin.h), and a model, a stream and a silence table that own what the
+//! calls are lent. A room is a little longer than what is lent of it, so that a call can be lent more than the record was made with, and
+//! what lies past the lent part has a value of its own, which no call may touch.
+use crate::machine::{Alter, Model as Loaded, Options, SAlter};
+use std::sync::Arc;
+
+#[repr(C)]
+#[derive(Clone, Copy, Debug, PartialEq)]
+pub struct IvectorOptions {
+    pub left_context: usize,
+    pub right_context: usize,
+    pub cmn_window: usize,
+    pub global_frames: usize,
+    pub num_gselect: usize,
+    pub num_cg_iters: usize,
+    pub min_post: f32,
+    pub posterior_scale: f32,
+    pub max_count: f64,
+    pub min_energy: f32,
+}
+
+#[repr(C)]
+#[derive(Clone, Copy, Debug, PartialEq)]
+pub struct Dimensions {
+    pub num_gauss: usize,
+    pub ext_gauss: usize,
+    pub feat_dim: usize,
+    pub ivector_dim: usize,
+    pub base_dim: usize,
+    pub lda_cols: usize,
+}
+
+#[repr(C)]
+#[derive(Clone, Copy, Debug, PartialEq)]
+pub struct TableLengths {
+    pub gconsts: usize,
+    pub means_invvars_t: usize,
+    pub inv_vars_t: usize,
+    pub sigma_inv_m: usize,
+    pub u: usize,
+    pub lda_t: usize,
+    pub lda_offset: usize,
+    pub global_mean_stats: usize,
+}
+
+#[repr(C)]
+#[derive(Clone, Copy, Debug, PartialEq)]
+pub struct IvectorInfo {
+    pub opts: IvectorOptions,
+    pub dims: Dimensions,
+    pub prior_offset: f64,
+    pub tables: TableLengths,
+}
+
+#[repr(C)]
+#[derive(Clone, Copy, Debug, PartialEq)]
+pub struct LoadAnswer {
+    pub refusal: usize,
+    pub info: IvectorInfo,
+}
+
+#[repr(C)]
+#[derive(Clone, Copy, Debug, PartialEq)]
+pub struct RoomLengths {
+    pub frames: usize,
+    pub rows: usize,
+    pub waiting_frames: usize,
+    pub waiting_weights: usize,
+    pub cmvn_stats: usize,
+    pub linear: usize,
+    pub quadratic: usize,
+    pub current: usize,
+    pub scratch: usize,
+}
+
+#[repr(C)]
+#[derive(Clone, Copy, Debug, PartialEq)]
+pub struct IvectorStream {
+    pub info: IvectorInfo,
+    pub rooms: RoomLengths,
+    pub accepted: usize,
+    pub num_frames_stats: usize,
+    pub mark: usize,
+    pub waiting: usize,
+    pub past_highest: usize,
+    pub delta_weights_provided: bool,
+    pub input_finished: bool,
+    pub num_frames: f64,
+}
+
+#[repr(C)]
+#[derive(Clone, Copy, Debug, PartialEq)]
+pub struct NewStreamAnswer {
+    pub refusal: usize,
+    pub stream: IvectorStream,
+}
+
+#[repr(C)]
+#[derive(Clone, Copy, Debug, PartialEq)]
+pub struct StreamAnswer {
+    pub refusal: usize,
+    pub frames_held: usize,
+    pub rows_held: usize,
+    pub not_finite: usize,
+}
+
+#[repr(C)]
+#[derive(Clone, Copy, Debug, PartialEq)]
+pub struct StreamCall {
+    pub answer: StreamAnswer,
+    pub stream: IvectorStream,
+}
+
+#[repr(C)]
+#[derive(Clone, Copy, Debug, PartialEq)]
+pub struct InputFrame(pub usize);
+
+#[repr(C)]
+#[derive(Clone, Copy, Debug, PartialEq)]
+pub struct DecoderFrame(pub usize);
+
+#[repr(C)]
+#[derive(Clone, Copy, Debug, PartialEq)]
+pub struct SilenceWeighting {
+    pub silence_weight: f32,
+    pub subsampling: usize,
+    pub phones: usize,
+    pub table: usize,
+    pub length: usize,
+}
+
+#[repr(C)]
+#[derive(Clone, Copy, Debug, PartialEq)]
+pub struct NewTableAnswer {
+    pub refusal: usize,
+    pub silence: SilenceWeighting,
+}
+
+#[repr(C)]
+#[derive(Clone, Copy, Debug, PartialEq)]
+pub struct SilenceAnswer {
+    pub refusal: usize,
+    pub changes: usize,
+    pub silence: SilenceWeighting,
+}
+
+/// A slice is a pointer and a length, two arguments.
+#[rustfmt::skip]
+mod c {
+    use super::*;
+    extern "C" {
+        pub fn shofrakin_load(
+            opts: IvectorOptions,
+            gmm: *const u8, gmm_len: usize, extractor: *const u8, extractor_len: usize,
+            lda: *const u8, lda_len: usize, cmvn: *const u8, cmvn_len: usize,
+            gconsts: *mut f32, gconsts_len: usize, means_invvars_t: *mut f32, means_invvars_t_len: usize,
+            inv_vars_t: *mut f32, inv_vars_t_len: usize, sigma_inv_m: *mut f64, sigma_inv_m_len: usize,
+            u: *mut f64, u_len: usize, lda_t: *mut f32, lda_t_len: usize,
+            lda_offset: *mut f32, lda_offset_len: usize, global_mean_stats: *mut f64, global_mean_stats_len: usize,
+            scratch: *mut f64, scratch_len: usize,
+        ) -> LoadAnswer;
+        pub fn shofrakin_new_stream(
+            info: IvectorInfo,
+            gconsts: *const f32, gconsts_len: usize, means_invvars_t: *const f32, means_invvars_t_len: usize,
+            inv_vars_t: *const f32, inv_vars_t_len: usize, sigma_inv_m: *const f64, sigma_inv_m_len: usize,
+            u: *const f64, u_len: usize, lda_t: *const f32, lda_t_len: usize,
+            lda_offset: *const f32, lda_offset_len: usize, global_mean_stats: *const f64, global_mean_stats_len: usize,
+            frames: *const f32, frames_len: usize, rows: *mut f64, rows_len: usize,
+            waiting_frames: *const usize, waiting_frames_len: usize, waiting_weights: *const f32, waiting_weights_len: usize,
+            cmvn_stats: *mut f64, cmvn_stats_len: usize, linear: *mut f64, linear_len: usize,
+            quadratic: *mut f64, quadratic_len: usize, current: *mut f64, current_len: usize,
+            scratch: *const f64, scratch_len: usize,
+        ) -> NewStreamAnswer;
+        pub fn shofrakin_push_frame(
+            s: IvectorStream, frame: *const f32, frame_len: usize,
+            frames: *mut f32, frames_len: usize, rows: *mut f64, rows_len: usize,
+            waiting_frames: *const usize, waiting_frames_len: usize, waiting_weights: *const f32, waiting_weights_len: usize,
+        ) -> StreamCall;
+        pub fn shofrakin_set_input_finished(
+            s: IvectorStream, frames: *const f32, frames_len: usize, rows: *const f64, rows_len: usize,
+            waiting_frames: *const usize, waiting_frames_len: usize, waiting_weights: *const f32, waiting_weights_len: usize,
+        ) -> StreamCall;
+        pub fn shofrakin_update_frame_weights(
+            s: IvectorStream, delta_frames: *const usize, delta_frames_len: usize, delta_weights: *const f32, delta_weights_len: usize,
+            frames: *const f32, frames_len: usize, rows: *const f64, rows_len: usize,
+            waiting_frames: *mut usize, waiting_frames_len: usize, waiting_weights: *mut f32, waiting_weights_len: usize,
+        ) -> StreamCall;
+        pub fn shofrakin_forget_before(
+            s: IvectorStream, frame: usize, frames: *const f32, frames_len: usize, rows: *const f64, rows_len: usize,
+            waiting_frames: *const usize, waiting_frames_len: usize, waiting_weights: *const f32, waiting_weights_len: usize,
+        ) -> StreamCall;
+        pub fn shofrakin_get_frame(
+            s: IvectorStream, frame: usize,
+            gconsts: *const f32, gconsts_len: usize, means_invvars_t: *const f32, means_invvars_t_len: usize,
+            inv_vars_t: *const f32, inv_vars_t_len: usize, sigma_inv_m: *const f64, sigma_inv_m_len: usize,
+            u: *const f64, u_len: usize, lda_t: *const f32, lda_t_len: usize,
+            lda_offset: *const f32, lda_offset_len: usize, global_mean_stats: *const f64, global_mean_stats_len: usize,
+            frames: *const f32, frames_len: usize, rows: *const f64, rows_len: usize,
+            waiting_frames: *mut usize, waiting_frames_len: usize, waiting_weights: *mut f32, waiting_weights_len: usize,
+            cmvn_stats: *mut f64, cmvn_stats_len: usize, linear: *mut f64, linear_len: usize,
+            quadratic: *mut f64, quadratic_len: usize, current: *mut f64, current_len: usize,
+            scratch: *mut f64, scratch_len: usize, out: *mut u32, out_len: usize,
+        ) -> StreamCall;
+        pub fn shofrakin_num_frames_ready(s: IvectorStream) -> usize;
+        pub fn shofrakin_ivector_dim(s: IvectorStream) -> usize;
+        pub fn shofrakin_num_frames_stats(s: IvectorStream) -> usize;
+        pub fn shofrakin_new_silence_weighting(
+            silence_phones: *const i32, silence_phones_len: usize, silence_weight: f32, subsampling: usize, table: usize,
+        ) -> NewTableAnswer;
+        pub fn shofrakin_silence_active(s: SilenceWeighting) -> bool;
+        pub fn shofrakin_compute_current_traceback(
+            s: SilenceWeighting, silence_phones: *const i32, silence_phones_len: usize,
+            known: *mut bool, known_len: usize, is_silence: *mut bool, is_silence_len: usize,
+            current_weight: *mut f32, current_weight_len: usize,
+            segment_phones: *const i32, segment_phones_len: usize, starts: *const usize, starts_len: usize,
+            ends: *const usize, ends_len: usize, num_frames_decoded: DecoderFrame,
+        ) -> SilenceAnswer;
+        pub fn shofrakin_get_delta_weights(
+            s: SilenceWeighting, known: *mut bool, known_len: usize, is_silence: *mut bool, is_silence_len: usize,
+            current_weight: *mut f32, current_weight_len: usize, num_frames_ready: InputFrame, first_decoder_frame: InputFrame,
+            frames: *mut usize, frames_len: usize, weights: *mut f32, weights_len: usize,
+        ) -> SilenceAnswer;
+    }
+}
+
+/// How much longer a room is than what is lent of it.
+const MORE: usize = 8;
+const CANARY32: f32 = 12345.678;
+const CANARY64: f64 = -98765.4321;
+const CANARY: usize = 0xABCD_EF01;
+
+/// A room and how much of it is lent.
+#[derive(Clone, Debug, PartialEq)]
+pub struct Room<T> {
+    pub all: Vec<T>,
+    pub len: usize,
+}
+
+impl<T: Copy> Room<T> {
+    fn new(len: usize, canary: T) -> Room<T> {
+        Room { all: vec![canary; len + MORE], len }
+    }
+    fn by(&self, d: i64) -> usize {
+        (self.len as i64 + d).clamp(0, self.all.len() as i64) as usize
+    }
+}
+
+fn options(o: &Options) -> IvectorOptions {
+    IvectorOptions {
+        left_context: o.left as usize,
+        right_context: o.right as usize,
+        cmn_window: o.window as usize,
+        global_frames: o.global_frames as usize,
+        num_gselect: o.num_gselect as usize,
+        num_cg_iters: o.num_cg_iters as usize,
+        min_post: o.min_post,
+        posterior_scale: o.posterior_scale,
+        max_count: o.max_count,
+        min_energy: o.min_energy,
+    }
+}
+
+// ---------------------------------------------------------------- the model
+#[derive(Clone, Debug, PartialEq)]
+pub struct Tables {
+    pub gconsts: Room<f32>,
+    pub means_invvars_t: Room<f32>,
+    pub inv_vars_t: Room<f32>,
+    pub sigma_inv_m: Room<f64>,
+    pub u: Room<f64>,
+    pub lda_t: Room<f32>,
+    pub lda_offset: Room<f32>,
+    pub global_mean_stats: Room<f64>,
+}
+
+impl Tables {
+    pub fn new(lens: &[usize]) -> Tables {
+        Tables {
+            gconsts: Room::new(lens[0], CANARY32),
+            means_invvars_t: Room::new(lens[1], CANARY32),
+            inv_vars_t: Room::new(lens[2], CANARY32),
+            sigma_inv_m: Room::new(lens[3], CANARY64),
+            u: Room::new(lens[4], CANARY64),
+            lda_t: Room::new(lens[5], CANARY32),
+            lda_offset: Room::new(lens[6], CANARY32),
+            global_mean_stats: Room::new(lens[7], CANARY64),
+        }
+    }
+    fn lengths(&self) -> TableLengths {
+        TableLengths {
+            gconsts: self.gconsts.len,
+            means_invvars_t: self.means_invvars_t.len,
+            inv_vars_t: self.inv_vars_t.len,
+            sigma_inv_m: self.sigma_inv_m.len,
+            u: self.u.len,
+            lda_t: self.lda_t.len,
+            lda_offset: self.lda_offset.len,
+            global_mean_stats: self.global_mean_stats.len,
+        }
+    }
+    /// Every number that is kept is the machine's, and every place past them is as it was.
+    pub fn same(&self, m: &Loaded) -> bool {
+        fn a(r: &Room<f32>, v: &[f32]) -> bool {
+            r.all[..v.len()].iter().zip(v).all(|(x, y)| x.to_bits() == y.to_bits() || x.is_nan() && y.is_nan())
+                && r.all[v.len()..].iter().all(|x| *x == CANARY32)
+        }
+        fn b(r: &Room<f64>, v: &[f64]) -> bool {
+            r.all[..v.len()].iter().zip(v).all(|(x, y)| x.to_bits() == y.to_bits() || x.is_nan() && y.is_nan())
+                && r.all[v.len()..].iter().all(|x| *x == CANARY64)
+        }
+        a(&self.gconsts, &m.gconsts)
+            && a(&self.means_invvars_t, &m.means_t)
+            && a(&self.inv_vars_t, &m.invvars_t)
+            && b(&self.sigma_inv_m, &m.sim)
+            && b(&self.u, &m.u)
+            && a(&self.lda_t, &m.lda_t)
+            && a(&self.lda_offset, &m.lda_offset)
+            && b(&self.global_mean_stats, &m.global)
+    }
+}
+
+#[derive(Clone)]
+pub struct Model {
+    pub info: IvectorInfo,
+    pub tables: Arc<Tables>,
+}
+
+/// The record that a load of the machine's model would leave.
+fn info_of(m: &Loaded, lengths: TableLengths) -> IvectorInfo {
+    IvectorInfo {
+        opts: options(&m.opts),
+        dims: Dimensions {
+            num_gauss: m.dims.gmm_gauss,
+            ext_gauss: m.dims.ext_gauss,
+            feat_dim: m.dims.feat,
+            ivector_dim: m.dims.ivec,
+            base_dim: m.dims.base,
+            lda_cols: m.dims.lda_cols,
+        },
+        prior_offset: m.prior,
+        tables: lengths,
+    }
+}
+
+#[rustfmt::skip]
+fn raw_load(o: &Options, b: &[Vec<u8>; 4], t: &mut Tables, scratch: &mut [f64]) -> LoadAnswer {
+    unsafe {
+        c::shofrakin_load(
+            options(o),
+            b[0].as_ptr(), b[0].len(), b[1].as_ptr(), b[1].len(), b[2].as_ptr(), b[2].len(), b[3].as_ptr(), b[3].len(),
+            t.gconsts.all.as_mut_ptr(), t.gconsts.len, t.means_invvars_t.all.as_mut_ptr(), t.means_invvars_t.len,
+            t.inv_vars_t.all.as_mut_ptr(), t.inv_vars_t.len, t.sigma_inv_m.all.as_mut_ptr(), t.sigma_inv_m.len,
+            t.u.all.as_mut_ptr(), t.u.len, t.lda_t.all.as_mut_ptr(), t.lda_t.len,
+            t.lda_offset.all.as_mut_ptr(), t.lda_offset.len, t.global_mean_stats.all.as_mut_ptr(), t.global_mean_stats.len,
+            scratch.as_mut_ptr(), scratch.len(),
+        )
+    }
+}
+
+/// A load alone, to be timed. Its refusal.
+pub fn load_into(o: &Options, b: &[Vec<u8>; 4], t: &mut Tables, scratch: &mut [f64]) -> usize {
+    raw_load(o, b, t, scratch).refusal
+}
+
+/// A load into tables of the lengths `lens`. The refusal, the model of a load that is taken, and what was wrong: `want` is the machine's model.
+pub fn load(o: &Options, b: &[Vec<u8>; 4], lens: &[usize], scratch: usize, want: Option<&Loaded>) -> (u32, Option<Model>, Option<String>) {
+    let mut t = Tables::new(lens);
+    let mut work = Room::new(scratch, CANARY64);
+    let a = raw_load(o, b, &mut t, &mut work.all[..scratch]);
+    let (n, info) = (a.refusal as u32, a.info);
+    if work.all[scratch..].iter().any(|x| *x != CANARY64) || n != 0 && work.all.iter().any(|x| *x != CANARY64) {
+        return (n, None, Some("load wrote past its scratch, or into it at a refusal".into()));
+    }
+    if n != 0 {
+        let wrong = (t != Tables::new(lens)).then(|| "a refused load wrote into a table".into());
+        return (n, None, wrong);
+    }
+    let wrong = want.and_then(|m| {
+        if !t.same(m) {
+            Some("model tables differ".into())
+        } else if info != info_of(m, t.lengths()) {
+            Some(format!("model record differs: {info:?}"))
+        } else {
+            None
+        }
+    });
+    (0, Some(Model { info, tables: Arc::new(t) }), wrong)
+}
+
+/// The scratch of a load (docs/DECISIONS.md).
+pub fn load_scratch(d: usize, s: usize) -> usize {
+    d * (d + 1) / 2 + d * s
+}
+
+// ---------------------------------------------------------------- the stream
+#[derive(Clone, Debug, PartialEq)]
+pub struct Rooms {
+    pub frames: Room<f32>,
+    pub rows: Room<f64>,
+    pub waiting_frames: Room<usize>,
+    pub waiting_weights: Room<f32>,
+    pub cmvn_stats: Room<f64>,
+    pub linear: Room<f64>,
+    pub quadratic: Room<f64>,
+    pub current: Room<f64>,
+    pub scratch: Room<f64>,
+}
+
+impl Rooms {
+    fn new(l: &[usize]) -> Rooms {
+        Rooms {
+            frames: Room::new(l[0], CANARY32),
+            rows: Room::new(l[1], CANARY64),
+            waiting_frames: Room::new(l[2], CANARY),
+            waiting_weights: Room::new(l[3], CANARY32),
+            cmvn_stats: Room::new(l[4], CANARY64),
+            linear: Room::new(l[5], CANARY64),
+            quadratic: Room::new(l[6], CANARY64),
+            current: Room::new(l[7], CANARY64),
+            scratch: Room::new(l[8], CANARY64),
+        }
+    }
+}
+
+/// What a call is lent in place of the whole: the difference for each of the 17 rooms (8 tables, 9 rooms).
+type Lent = [i64; 17];
+
+/// A forged record and forged lengths, for one call.
+struct Forged {
+    rec: IvectorStream,
+    lent: Lent,
+    waiting: Option<Vec<(u64, f32)>>,
+}
+
+fn forge(rec: IvectorStream, al: &[Alter]) -> Forged {
+    let mut f = Forged { rec, lent: [0; 17], waiting: None };
+    for a in al {
+        match a {
+            Alter::Room(k, d) => f.lent[*k] += d,
+            Alter::Waiting(w) => {
+                f.rec.waiting = w.len();
+                f.waiting = Some(w.clone());
+            }
+            Alter::Field(n, v) => forge_field(&mut f.rec, n, *v),
+        }
+    }
+    f
+}
+
+fn forge_field(s: &mut IvectorStream, n: &str, v: u64) {
+    let (o, d) = (&mut s.info.opts, &mut s.info.dims);
+    let u = v as usize;
+    match n {
+        "accepted" => s.accepted = u,
+        "next" => s.num_frames_stats = u,
+        "mark" => s.mark = u,
+        "left" => o.left_context = u,
+        "right" => o.right_context = u,
+        "window" => o.cmn_window = u,
+        "global" => o.global_frames = u,
+        "gselect" => o.num_gselect = u,
+        "iters" => o.num_cg_iters = u,
+        "minpost" => o.min_post = f32::from_bits(v as u32),
+        "scale" => o.posterior_scale = f32::from_bits(v as u32),
+        "energy" => o.min_energy = f32::from_bits(v as u32),
+        "maxcount" => o.max_count = f64::from_bits(v),
+        "gaussg" => d.num_gauss = u,
+        "gausse" => d.ext_gauss = u,
+        "feat" => d.feat_dim = u,
+        "ivec" => d.ivector_dim = u,
+        "base" => d.base_dim = u,
+        "ldacols" => d.lda_cols = u,
+        _ => panic!("unknown field {n}"),
+    }
+}
+
+#[derive(Clone)]
+pub struct Stream {
+    pub model: Model,
+    pub rec: IvectorStream,
+    pub rooms: Rooms,
+}
+
+/// A call on a stream.
+pub enum Call<'a> {
+    Push(&'a [f32]),
+    Finish,
+    Change(&'a [usize], &'a [f32]),
+    Forget(usize),
+    Fetch(usize, &'a mut [u32]),
+}
+
+#[rustfmt::skip]
+fn bits(s: &IvectorStream) -> Vec<u64> {
+    let (o, d, t, z) = (&s.info.opts, &s.info.dims, &s.info.tables, &s.rooms);
+    let mut v: Vec<u64> = [
+        o.left_context, o.right_context, o.cmn_window, o.global_frames, o.num_gselect, o.num_cg_iters,
+        d.num_gauss, d.ext_gauss, d.feat_dim, d.ivector_dim, d.base_dim, d.lda_cols,
+        t.gconsts, t.means_invvars_t, t.inv_vars_t, t.sigma_inv_m, t.u, t.lda_t, t.lda_offset, t.global_mean_stats,
+        z.frames, z.rows, z.waiting_frames, z.waiting_weights, z.cmvn_stats, z.linear, z.quadratic, z.current, z.scratch,
+        s.accepted, s.num_frames_stats, s.mark, s.waiting, s.past_highest,
+        usize::from(s.delta_weights_provided), usize::from(s.input_finished),
+    ]
+    .iter()
+    .map(|&x| x as u64)
+    .collect();
+    let f = |x: f64| if x.is_nan() { 0x7FF8_0000_0000_0000 } else { x.to_bits() };
+    v.extend([f(f64::from(o.min_post)), f(f64::from(o.posterior_scale)), f(o.max_count), f(f64::from(o.min_energy)), f(s.info.prior_offset), f(s.num_frames)]);
+    v
+}
+
+impl Stream {
+    /// A fresh stream in rooms of the lengths `lens`. The refusal, and what was wrong.
+    #[rustfmt::skip]
+    pub fn fresh(m: &Model, lens: &[usize; 9], al: &[Alter]) -> (u32, Option<Stream>, Option<String>) {
+        let mut z = Rooms::new(lens);
+        let before = z.clone();
+        let t = &m.tables;
+        // the record of a stream carries the model's: forge that
+        let none = RoomLengths { frames: 0, rows: 0, waiting_frames: 0, waiting_weights: 0, cmvn_stats: 0, linear: 0, quadratic: 0, current: 0, scratch: 0 };
+        let rec = IvectorStream {
+            info: m.info, rooms: none, accepted: 0, num_frames_stats: 0, mark: 0, waiting: 0, past_highest: 0,
+            delta_weights_provided: false, input_finished: false, num_frames: 0.0,
+        };
+        let f = forge(rec, al);
+        let l = &f.lent;
+        let a = unsafe {
+            c::shofrakin_new_stream(
+                f.rec.info,
+                t.gconsts.all.as_ptr(), t.gconsts.by(l[0]), t.means_invvars_t.all.as_ptr(), t.means_invvars_t.by(l[1]),
+                t.inv_vars_t.all.as_ptr(), t.inv_vars_t.by(l[2]), t.sigma_inv_m.all.as_ptr(), t.sigma_inv_m.by(l[3]),
+                t.u.all.as_ptr(), t.u.by(l[4]), t.lda_t.all.as_ptr(), t.lda_t.by(l[5]),
+                t.lda_offset.all.as_ptr(), t.lda_offset.by(l[6]), t.global_mean_stats.all.as_ptr(), t.global_mean_stats.by(l[7]),
+                z.frames.all.as_ptr(), z.frames.len, z.rows.all.as_mut_ptr(), z.rows.len,
+                z.waiting_frames.all.as_ptr(), z.waiting_frames.len, z.waiting_weights.all.as_ptr(), z.waiting_weights.len,
+                z.cmvn_stats.all.as_mut_ptr(), z.cmvn_stats.len, z.linear.all.as_mut_ptr(), z.linear.len,
+                z.quadratic.all.as_mut_ptr(), z.quadratic.len, z.current.all.as_mut_ptr(), z.current.len,
+                z.scratch.all.as_ptr(), z.scratch.len,
+            )
+        };
+        let n = a.refusal as u32;
+        if n != 0 {
+            let wrong = (z != before).then(|| "a refused fresh stream wrote into a room".to_string());
+            // the record beside a refusal is refused by every call
+            let mut s = Stream { model: m.clone(), rec: a.stream, rooms: z };
+            let b = s.raw(&mut Call::Finish, &Forged { rec: a.stream, lent: [0; 17], waiting: None });
+            let wrong = wrong.or_else(|| (b.answer.refusal != 10).then(|| "the record beside a refusal is taken".to_string()));
+            return (n, None, wrong);
+        }
+        (0, Some(Stream { model: m.clone(), rec: a.stream, rooms: z }), None)
+    }
+
+    /// The call with a forged record and forged lengths.
+    fn raw(&mut self, call: &mut Call, f: &Forged) -> StreamCall {
+        let saved = f.waiting.as_ref().map(|w| {
+            let old = (self.rooms.waiting_frames.clone(), self.rooms.waiting_weights.clone());
+            for (i, (x, y)) in w.iter().enumerate() {
+                if i < self.rooms.waiting_frames.len {
+                    self.rooms.waiting_frames.all[i] = *x as usize;
+                }
+                if i < self.rooms.waiting_weights.len {
+                    self.rooms.waiting_weights.all[i] = *y;
+                }
+            }
+            old
+        });
+        let a = self.lend(call, f.rec, &f.lent);
+        if let Some((x, y)) = saved {
+            self.rooms.waiting_frames = x;
+            self.rooms.waiting_weights = y;
+        }
+        a
+    }
+
+    #[rustfmt::skip]
+    #[inline]
+    fn lend(&mut self, call: &mut Call, rec: IvectorStream, l: &Lent) -> StreamCall {
+        let (t, z) = (&self.model.tables, &mut self.rooms);
+        let (fl, rl, wf, ww) = (z.frames.by(l[8]), z.rows.by(l[9]), z.waiting_frames.by(l[10]), z.waiting_weights.by(l[11]));
+        unsafe {
+            match call {
+                Call::Push(x) => c::shofrakin_push_frame(
+                    rec, x.as_ptr(), x.len(), z.frames.all.as_mut_ptr(), fl, z.rows.all.as_mut_ptr(), rl,
+                    z.waiting_frames.all.as_ptr(), wf, z.waiting_weights.all.as_ptr(), ww,
+                ),
+                Call::Finish => c::shofrakin_set_input_finished(
+                    rec, z.frames.all.as_ptr(), fl, z.rows.all.as_ptr(), rl,
+                    z.waiting_frames.all.as_ptr(), wf, z.waiting_weights.all.as_ptr(), ww,
+                ),
+                Call::Change(x, y) => c::shofrakin_update_frame_weights(
+                    rec, x.as_ptr(), x.len(), y.as_ptr(), y.len(), z.frames.all.as_ptr(), fl, z.rows.all.as_ptr(), rl,
+                    z.waiting_frames.all.as_mut_ptr(), wf, z.waiting_weights.all.as_mut_ptr(), ww,
+                ),
+                Call::Forget(n) => c::shofrakin_forget_before(
+                    rec, *n, z.frames.all.as_ptr(), fl, z.rows.all.as_ptr(), rl,
+                    z.waiting_frames.all.as_ptr(), wf, z.waiting_weights.all.as_ptr(), ww,
+                ),
+                        Call::Fetch(n, out) => c::shofrakin_get_frame(
+                    rec, *n,
+                    t.gconsts.all.as_ptr(), t.gconsts.by(l[0]), t.means_invvars_t.all.as_ptr(), t.means_invvars_t.by(l[1]),
+                    t.inv_vars_t.all.as_ptr(), t.inv_vars_t.by(l[2]), t.sigma_inv_m.all.as_ptr(), t.sigma_inv_m.by(l[3]),
+                    t.u.all.as_ptr(), t.u.by(l[4]), t.lda_t.all.as_ptr(), t.lda_t.by(l[5]),
+                    t.lda_offset.all.as_ptr(), t.lda_offset.by(l[6]), t.global_mean_stats.all.as_ptr(), t.global_mean_stats.by(l[7]),
+                    z.frames.all.as_ptr(), fl, z.rows.all.as_ptr(), rl,
+                    z.waiting_frames.all.as_mut_ptr(), wf, z.waiting_weights.all.as_mut_ptr(), ww,
+                    z.cmvn_stats.all.as_mut_ptr(), z.cmvn_stats.by(l[12]), z.linear.all.as_mut_ptr(), z.linear.by(l[13]),
+                    z.quadratic.all.as_mut_ptr(), z.quadratic.by(l[14]), z.current.all.as_mut_ptr(), z.current.by(l[15]),
+                    z.scratch.all.as_mut_ptr(), z.scratch.by(l[16]),
+                    out.as_mut_ptr(), out.len(),
+                ),
+            }
+        }
+    }
+
+    /// A call without looking at what it leaves untouched: the caller times it, or compares later.
+    pub fn call(&mut self, mut call: Call) -> StreamAnswer {
+        let a = self.lend(&mut call, self.rec, &[0; 17]);
+        self.rec = a.stream;
+        a.answer
+    }
+
+    /// A call, with forged parts if any. Its answer, and what is wrong: a refusal leaves record, rooms and output untouched.
+    pub fn checked(&mut self, mut call: Call, al: &[Alter]) -> (StreamAnswer, Option<String>) {
+        let f = forge(self.rec, al);
+        let before = self.rooms.clone();
+        let out: Option<Vec<u32>> = match &call {
+            Call::Fetch(_, o) => Some(o.to_vec()),
+            _ => None,
+        };
+        let a = self.raw(&mut call, &f);
+        let mut wrong = None;
+        if a.answer.refusal != 0 {
+            if bits(&a.stream) != bits(&f.rec) {
+                wrong = Some("a refused call changed the record".to_string());
+            }
+            if !same_rooms(&self.rooms, &before) {
+                wrong = Some("a refused call wrote into a room".to_string());
+            }
+            if let (Call::Fetch(_, o), Some(p)) = (&call, &out) {
+                if o[..] != p[..] {
+                    wrong = Some("a refused fetch wrote its output".to_string());
+                }
+            }
+        } else {
+            self.rec = a.stream;
+            if let Some(k) = past_end(&self.rooms, &self.rec) {
+                wrong = Some(format!("a call wrote past what it keeps: {k}"));
+            }
+        }
+        (a.answer, wrong)
+    }
+
+    pub fn ready(&self) -> usize {
+        unsafe { c::shofrakin_num_frames_ready(self.rec) }
+    }
+    pub fn ivector_dim(&self) -> usize {
+        unsafe { c::shofrakin_ivector_dim(self.rec) }
+    }
+    pub fn next(&self) -> usize {
+        unsafe { c::shofrakin_num_frames_stats(self.rec) }
+    }
+
+    /// CMVN state, linear, quadratic, frame count, current.
+    pub fn state(&self) -> Vec<f64> {
+        let (d, z) = (&self.rec.info.dims, &self.rooms);
+        let s = d.ivector_dim;
+        let mut v = z.cmvn_stats.all[..d.base_dim + 1].to_vec();
+        v.extend(&z.linear.all[..s]);
+        v.extend(&z.quadratic.all[..s * (s + 1) / 2]);
+        v.push(self.rec.num_frames);
+        v.extend(&z.current.all[..s]);
+        v
+    }
+    pub fn waiting(&self) -> Vec<(u64, u32)> {
+        (0..self.rec.waiting).map(|i| (self.rooms.waiting_frames.all[i] as u64, self.rooms.waiting_weights.all[i].to_bits())).collect()
+    }
+    pub fn frame(&self, t: usize) -> &[f32] {
+        let d = self.rec.info.dims.base_dim;
+        let a = t % (self.rooms.frames.len / d) * d;
+        &self.rooms.frames.all[a..a + d]
+    }
+    pub fn row(&self, t: usize) -> &[f64] {
+        let d = self.rec.info.dims.base_dim;
+        let a = t % (self.rooms.rows.len / d) * d;
+        &self.rooms.rows.all[a..a + d]
+    }
+}
+
+fn same32(a: &[f32], b: &[f32]) -> bool {
+    a.iter().zip(b).all(|(x, y)| x.to_bits() == y.to_bits())
+}
+fn same64(a: &[f64], b: &[f64]) -> bool {
+    a.iter().zip(b).all(|(x, y)| x.to_bits() == y.to_bits())
+}
+
+fn same_rooms(a: &Rooms, b: &Rooms) -> bool {
+    same32(&a.frames.all, &b.frames.all)
+        && same64(&a.rows.all, &b.rows.all)
+        && a.waiting_frames == b.waiting_frames
+        && same32(&a.waiting_weights.all, &b.waiting_weights.all)
+        && same64(&a.cmvn_stats.all, &b.cmvn_stats.all)
+        && same64(&a.linear.all, &b.linear.all)
+        && same64(&a.quadratic.all, &b.quadratic.all)
+        && same64(&a.current.all, &b.current.all)
+        && same64(&a.scratch.all, &b.scratch.all)
+}
+
+/// A room that is not as it was past what the stream keeps in it (scratch: past what is lent).
+fn past_end(z: &Rooms, r: &IvectorStream) -> Option<&'static str> {
+    let d = r.info.dims;
+    let s = d.ivector_dim;
+    let whole = |n: usize| n / d.base_dim * d.base_dim;
+    if z.frames.all[whole(z.frames.len)..].iter().any(|x| *x != CANARY32) {
+        return Some("frames");
+    }
+    if z.rows.all[whole(z.rows.len)..].iter().any(|x| *x != CANARY64) {
+        return Some("rows");
+    }
+    if z.waiting_frames.all[z.waiting_frames.len..].iter().any(|x| *x != CANARY) {
+        return Some("waiting frames");
+    }
+    if z.waiting_weights.all[z.waiting_weights.len..].iter().any(|x| *x != CANARY32) {
+        return Some("waiting weights");
+    }
+    for (room, n, name) in [
+        (&z.cmvn_stats, d.base_dim + 1, "CMVN state"),
+        (&z.linear, s, "linear"),
+        (&z.quadratic, s * (s + 1) / 2, "quadratic"),
+        (&z.current, s, "current"),
+        (&z.scratch, z.scratch.len, "scratch"),
+    ] {
+        if room.all[n..].iter().any(|x| *x != CANARY64) {
+            return Some(name);
+        }
+    }
+    None
+}
+
+// ---------------------------------------------------------------- the silence table
+#[derive(Clone)]
+pub struct Silence {
+    pub rec: SilenceWeighting,
+    pub phones: Vec<i32>,
+    pub known: Vec<bool>,
+    pub is_silence: Vec<bool>,
+    pub current_weight: Vec<f32>,
+}
+
+impl Silence {
+    /// The refusal, the table of a call that is taken, and what is wrong.
+    pub fn make(table: usize, weight: f32, sub: usize, phones: &[i32]) -> (u32, Option<Silence>, Option<String>) {
+        let a = unsafe { c::shofrakin_new_silence_weighting(phones.as_ptr(), phones.len(), weight, sub, table) };
+        let (known, is_silence) = (vec![false; table + MORE], vec![false; table + MORE]);
+        let mut s = Silence { rec: a.silence, phones: phones.to_vec(), known, is_silence, current_weight: vec![0.0; table + MORE] };
+        if a.refusal != 0 {
+            let n = s.trace(0, &[], &[], &[], &[], 0).0;
+            return (a.refusal as u32, None, (n != 10).then(|| "the record beside a refusal is taken".to_string()));
+        }
+        let want = !phones.is_empty() && weight != 1.0;
+        let wrong = (unsafe { c::shofrakin_silence_active(s.rec) } != want).then(|| format!("active is not {want}"));
+        (0, Some(s), wrong)
+    }
+
+    /// The record and the three lent lengths with forged parts. A forged length is that of one room or of all, by `turn`.
+    fn forged(&self, al: &[SAlter], turn: usize) -> (SilenceWeighting, [usize; 3]) {
+        let (mut r, mut l) = (self.rec, [self.rec.table; 3]);
+        for a in al {
+            match a {
+                SAlter::Room(d) => {
+                    for (k, n) in l.iter_mut().enumerate() {
+                        if turn % 4 == 3 || turn % 4 == k {
+                            *n = (*n as i64 + d).max(0) as usize;
+                        }
+                    }
+                }
+                SAlter::Len(n) => r.length = *n as usize,
+                SAlter::Sub(n) => r.subsampling = *n as usize,
+                SAlter::Weight(b) => r.silence_weight = f32::from_bits(*b),
+                SAlter::Phones(n) => r.phones = *n as usize,
+            }
+        }
+        for (n, v) in l.iter_mut().zip([self.known.len(), self.is_silence.len(), self.current_weight.len()]) {
+            *n = (*n).min(v);
+        }
+        (r, l)
+    }
+
+    /// What is looked at for "untouched": the table, or in a large one the part in use and some more.
+    fn look(&self) -> usize {
+        let n = self.known.len();
+        if n <= 4096 {
+            n
+        } else {
+            (self.rec.length + 4096).min(n)
+        }
+    }
+    fn part(&self) -> (Vec<bool>, Vec<bool>, Vec<u32>) {
+        let n = self.look();
+        (self.known[..n].to_vec(), self.is_silence[..n].to_vec(), self.current_weight[..n].iter().map(|x| x.to_bits()).collect())
+    }
+
+    fn after(&mut self, a: SilenceAnswer, given: SilenceWeighting, before: (Vec<bool>, Vec<bool>, Vec<u32>)) -> Option<String> {
+        let same = |p: &SilenceWeighting, q: &SilenceWeighting| {
+            (p.subsampling, p.phones, p.table) == (q.subsampling, q.phones, q.table)
+                && (p.silence_weight.to_bits() == q.silence_weight.to_bits() || p.silence_weight.is_nan() && q.silence_weight.is_nan())
+        };
+        if !same(&a.silence, &given) {
+            return Some("a silence call changed its settings".into());
+        }
+        if a.refusal != 0 {
+            if a.silence.length != given.length || self.part() != before {
+                return Some("a refused silence call wrote".into());
+            }
+            return None;
+        }
+        self.rec = a.silence;
+        let n = self.rec.table;
+        if self.known[n..].iter().any(|x| *x) || self.is_silence[n..].iter().any(|x| *x) || self.current_weight[n..].iter().any(|x| x.to_bits() != 0)
+        {
+            return Some("a silence call wrote past its table".into());
+        }
+        None
+    }
+
+    pub fn trace(&mut self, decoded: usize, ph: &[i32], st: &[usize], en: &[usize], al: &[SAlter], turn: usize) -> (u32, Option<String>) {
+        let (r, l) = self.forged(al, turn);
+        let before = self.part();
+        let a = unsafe {
+            c::shofrakin_compute_current_traceback(
+                r,
+                self.phones.as_ptr(),
+                self.phones.len(),
+                self.known.as_mut_ptr(),
+                l[0],
+                self.is_silence.as_mut_ptr(),
+                l[1],
+                self.current_weight.as_mut_ptr(),
+                l[2],
+                ph.as_ptr(),
+                ph.len(),
+                st.as_ptr(),
+                st.len(),
+                en.as_ptr(),
+                en.len(),
+                DecoderFrame(decoded),
+            )
+        };
+        let mut wrong = self.after(a, r, before);
+        if a.changes != 0 {
+            wrong = Some("a traceback gives changes".into());
+        }
+        (a.refusal as u32, wrong)
+    }
+
+    /// The changes of a call that is taken, else the refusal.
+    pub fn weigh(
+        &mut self,
+        ready: usize,
+        first: usize,
+        lf: usize,
+        lw: usize,
+        al: &[SAlter],
+        turn: usize,
+    ) -> (Result<Vec<(u64, f32)>, u32>, Option<String>) {
+        let (r, l) = self.forged(al, turn);
+        let before = self.part();
+        let (mut fs, mut ws) = (vec![0usize; lf + MORE], vec![0f32; lw + MORE]);
+        let a = unsafe {
+            c::shofrakin_get_delta_weights(
+                r,
+                self.known.as_mut_ptr(),
+                l[0],
+                self.is_silence.as_mut_ptr(),
+                l[1],
+                self.current_weight.as_mut_ptr(),
+                l[2],
+                InputFrame(ready),
+                InputFrame(first),
+                fs.as_mut_ptr(),
+                lf,
+                ws.as_mut_ptr(),
+                lw,
+            )
+        };
+        let mut wrong = self.after(a, r, before);
+        let n = a.changes;
+        if n > lf
+            || n > lw
+            || fs[n..].iter().take(64).chain(&fs[lf..]).any(|x| *x != 0)
+            || ws[n..].iter().take(64).chain(&ws[lw..]).any(|x| x.to_bits() != 0)
+        {
+            wrong = Some("weights were written past the answer's end".into());
+        }
+        if a.refusal != 0 {
+            if n != 0 {
+                wrong = Some("a refused call gives changes".into());
+            }
+            return (Err(a.refusal as u32), wrong);
+        }
+        (Ok((0..n).map(|i| (fs[i] as u64, ws[i])).collect()), wrong)
+    }
+
+    /// The two calls alone, to be timed.
+    #[rustfmt::skip]
+    pub fn plain_trace(&mut self, decoded: usize, ph: &[i32], st: &[usize], en: &[usize]) -> usize {
+        let n = self.rec.table;
+        let a = unsafe {
+            c::shofrakin_compute_current_traceback(
+                self.rec, self.phones.as_ptr(), self.phones.len(),
+                self.known.as_mut_ptr(), n, self.is_silence.as_mut_ptr(), n, self.current_weight.as_mut_ptr(), n,
+                ph.as_ptr(), ph.len(), st.as_ptr(), st.len(), en.as_ptr(), en.len(), DecoderFrame(decoded),
+            )
+        };
+        self.rec = a.silence;
+        a.refusal
+    }
+    #[rustfmt::skip]
+    pub fn plain_weigh(&mut self, ready: usize, first: usize, fs: &mut [usize], ws: &mut [f32]) -> usize {
+        let n = self.rec.table;
+        let a = unsafe {
+            c::shofrakin_get_delta_weights(
+                self.rec, self.known.as_mut_ptr(), n, self.is_silence.as_mut_ptr(), n, self.current_weight.as_mut_ptr(), n,
+                InputFrame(ready), InputFrame(first), fs.as_mut_ptr(), fs.len(), ws.as_mut_ptr(), ws.len(),
+            )
+        };
+        self.rec = a.silence;
+        a.changes
+    }
+
+    pub fn table(&self) -> Vec<(bool, bool, u32)> {
+        (0..self.rec.length).map(|i| (self.known[i], self.is_silence[i], self.current_weight[i].to_bits())).collect()
+    }
+}

@@ -1,0 +1,2 @@
+-- Laws of the exported answers.
+pub mod Answered

@@ -1,0 +1,272 @@
+/* Shofrakin for C: the calls of the static library that `rt staticlib exports` writes (target/staticlib/libexports.a, x86-64 Linux).
+ * What each call answers is proved in Rattle (crates/exports); nothing checks this file against it but compare/c/check.
+ *
+ * What a caller sees to:
+ * - A slice is a pointer and a length, two arguments. No pointer is null; where a length is 0 any aligned address will do.
+ * - A room that a call writes overlaps nothing else that the call is lent.
+ * - A bool is 0 or 1, in records and in rooms.
+ * - Records go in by value and come back by value. What comes back takes the place of what went in. A record is not written by hand.
+ * - A room keeps its contents from call to call; its length is the one that the record was made with.
+ * The calls ask nothing else: whatever numbers they get, they return. They keep no state, allocate nothing, and may run in several
+ * threads on different records and rooms.
+ *
+ * Answers: `refusal` is 0 for a call that is taken, else a number from 1 to 24. A refused call writes nowhere.
+ *   1 an option is outside its range               13 push: 1,000,000,000 frames are in
+ *   2 bytes end before an item does                14 push: the frame room is full
+ *   3 the mark, a token or a size byte is wrong    15 push: the row room is full
+ *   4 a dimension is outside its limits            16 change: lists of different length, or of more than 1,024
+ *   5 dimensions disagree                          17 change: a frame of 1,000,000,000 or more, or a weight not finite
+ *   6 a number is not finite, or not above 0       18 change: a frame that is no longer kept
+ *   7 the CMVN text breaks its form                19 change: no room for that many
+ *   8 a lent room is too short                     20 fetch: the output's length is not the i-vector dimension
+ *   9 silence settings outside their limits        21 fetch: the frame is not ready
+ *  10 a record that no call made, or other lengths 22 fetch: the frame is above the highest changed one
+ *  11 push: length is not the base dimension       23 silence: more frames than the table has, or a frame number too high
+ *  12 push: a number is not finite                 24 silence: lists of different length, or too short for the answer
+ */
+#ifndef SHOFRAKIN_H
+#define SHOFRAKIN_H
+
+#include <stdbool.h>
+#include <stddef.h>
+#include <stdint.h>
+
+#ifdef __cplusplus
+extern "C" {
+#endif
+
+/* ---- the model */
+
+/* The options: contexts 0..8, window 1..1,000, global frames 1..10,000, num_gselect 1..32, num_cg_iters 0..200, 0 <= min_post < 1,
+ * the other floats finite. */
+typedef struct {
+    size_t left_context;
+    size_t right_context;
+    size_t cmn_window;
+    size_t global_frames;
+    size_t num_gselect;
+    size_t num_cg_iters;
+    float min_post;
+    float posterior_scale;
+    double max_count;
+    float min_energy;
+} shofrakin_options;
+
+/* A model's sizes: Gaussians of the GMM (g) and of the extractor (e), feature dimension (d), i-vector dimension (s), base dimension (b),
+ * columns of the LDA. */
+typedef struct {
+    size_t num_gauss;
+    size_t ext_gauss;
+    size_t feat_dim;
+    size_t ivector_dim;
+    size_t base_dim;
+    size_t lda_cols;
+} shofrakin_dimensions;
+
+/* The lengths of the tables that a model is loaded into. */
+typedef struct {
+    size_t gconsts;
+    size_t means_invvars_t;
+    size_t inv_vars_t;
+    size_t sigma_inv_m;
+    size_t u;
+    size_t lda_t;
+    size_t lda_offset;
+    size_t global_mean_stats;
+} shofrakin_table_lengths;
+
+/* A loaded model's record. */
+typedef struct {
+    shofrakin_options opts;
+    shofrakin_dimensions dims;
+    double prior_offset;
+    shofrakin_table_lengths tables;
+} shofrakin_info;
+
+/* The answer of a load: the record where the refusal is 0, else one that no fresh stream takes. */
+typedef struct {
+    size_t refusal;
+    shofrakin_info info;
+} shofrakin_load_answer;
+
+/* Loads a model from the bytes of its four files (final.dubm, final.ie, final.mat, global_cmvn.stats) into eight tables. Refusals 1 to
+ * 8. With k = b (left + 1 + right), the tables keep g, dg, dg, eds, es(s+1)/2, kd, d and b+1 numbers; longer ones are taken. Scratch is
+ * d(d+1)/2 + ds numbers, and free afterwards. */
+shofrakin_load_answer shofrakin_load(shofrakin_options opts,
+    const uint8_t *gmm, size_t gmm_len, const uint8_t *extractor, size_t extractor_len,
+    const uint8_t *lda, size_t lda_len, const uint8_t *cmvn, size_t cmvn_len,
+    float *gconsts, size_t gconsts_len, float *means_invvars_t, size_t means_invvars_t_len,
+    float *inv_vars_t, size_t inv_vars_t_len, double *sigma_inv_m, size_t sigma_inv_m_len,
+    double *u, size_t u_len, float *lda_t, size_t lda_t_len,
+    float *lda_offset, size_t lda_offset_len, double *global_mean_stats, size_t global_mean_stats_len,
+    double *scratch, size_t scratch_len);
+
+/* ---- the stream */
+
+/* The lengths of the rooms that a stream works in. */
+typedef struct {
+    size_t frames;
+    size_t rows;
+    size_t waiting_frames;
+    size_t waiting_weights;
+    size_t cmvn_stats;
+    size_t linear;
+    size_t quadratic;
+    size_t current;
+    size_t scratch;
+} shofrakin_room_lengths;
+
+/* A stream's record: its model's record, the lengths of its rooms, frames accepted, the first frame not in the statistics, the mark below
+ * which nothing is kept, changes that wait, one more than the highest changed frame, and the statistics' frame count. */
+typedef struct {
+    shofrakin_info info;
+    shofrakin_room_lengths rooms;
+    size_t accepted;
+    size_t num_frames_stats;
+    size_t mark;
+    size_t waiting;
+    size_t past_highest;
+    bool delta_weights_provided;
+    bool input_finished;
+    double num_frames;
+} shofrakin_stream;
+
+/* The answer of a fresh stream: the record where the refusal is 0, else one that every call refuses with 10. */
+typedef struct {
+    size_t refusal;
+    shofrakin_stream stream;
+} shofrakin_new_stream_answer;
+
+/* The answer of a call on a stream: the refusal, frames and prefix rows held (0 with a refusal 10), and, of a fetch, how many elements
+ * of its vector are not finite. */
+typedef struct {
+    size_t refusal;
+    size_t frames_held;
+    size_t rows_held;
+    size_t not_finite;
+} shofrakin_stream_answer;
+
+/* What a call on a stream returns: its answer, and the record for the next call. */
+typedef struct {
+    shofrakin_stream_answer answer;
+    shofrakin_stream stream;
+} shofrakin_stream_call;
+
+/* A fresh stream on a loaded model, in rooms for F frames (Fb numbers) and R prefix rows (Rb numbers, R above 1), lists for the changes
+ * that wait, and rooms of b+1, s, s(s+1)/2 and s numbers; scratch is the larger of gd and ss. Longer rooms are taken. Refusals 10, 8.
+ * F frames are as many as may be held at once, and R = F + window rows are enough. */
+shofrakin_new_stream_answer shofrakin_new_stream(shofrakin_info info,
+    const float *gconsts, size_t gconsts_len, const float *means_invvars_t, size_t means_invvars_t_len,
+    const float *inv_vars_t, size_t inv_vars_t_len, const double *sigma_inv_m, size_t sigma_inv_m_len,
+    const double *u, size_t u_len, const float *lda_t, size_t lda_t_len,
+    const float *lda_offset, size_t lda_offset_len, const double *global_mean_stats, size_t global_mean_stats_len,
+    const float *frames, size_t frames_len, double *rows, size_t rows_len,
+    const size_t *waiting_frames, size_t waiting_frames_len, const float *waiting_weights, size_t waiting_weights_len,
+    double *cmvn_stats, size_t cmvn_stats_len, double *linear, size_t linear_len,
+    double *quadratic, size_t quadratic_len, double *current, size_t current_len,
+    const double *scratch, size_t scratch_len);
+
+/* Appends a frame of b numbers. Refusals 10 to 15. */
+shofrakin_stream_call shofrakin_push_frame(shofrakin_stream s, const float *frame, size_t frame_len,
+    float *frames, size_t frames_len, double *rows, size_t rows_len,
+    const size_t *waiting_frames, size_t waiting_frames_len, const float *waiting_weights, size_t waiting_weights_len);
+
+/* No frame needs its right context any more: every accepted frame is ready. Refusal 10. */
+shofrakin_stream_call shofrakin_set_input_finished(shofrakin_stream s,
+    const float *frames, size_t frames_len, const double *rows, size_t rows_len,
+    const size_t *waiting_frames, size_t waiting_frames_len, const float *waiting_weights, size_t waiting_weights_len);
+
+/* Changes of weights, by frame. From the first such call on, even an empty one, fetches are weighted. Refusals 10, 16 to 19. */
+shofrakin_stream_call shofrakin_update_frame_weights(shofrakin_stream s,
+    const size_t *delta_frames, size_t delta_frames_len, const float *delta_weights, size_t delta_weights_len,
+    const float *frames, size_t frames_len, const double *rows, size_t rows_len,
+    size_t *waiting_frames, size_t waiting_frames_len, float *waiting_weights, size_t waiting_weights_len);
+
+/* An utterance begins at `frame`, and no change will reach before it: frees what neither it nor a waiting change can need. Refusal 10. */
+shofrakin_stream_call shofrakin_forget_before(shofrakin_stream s, size_t frame,
+    const float *frames, size_t frames_len, const double *rows, size_t rows_len,
+    const size_t *waiting_frames, size_t waiting_frames_len, const float *waiting_weights, size_t waiting_weights_len);
+
+/* The vector at `frame`, the bits of s floats, NaN as 7FC00000. Brings the statistics up to the frame; below them it answers the current
+ * vector. Refusals 10, 20, 21, 22. */
+shofrakin_stream_call shofrakin_get_frame(shofrakin_stream s, size_t frame,
+    const float *gconsts, size_t gconsts_len, const float *means_invvars_t, size_t means_invvars_t_len,
+    const float *inv_vars_t, size_t inv_vars_t_len, const double *sigma_inv_m, size_t sigma_inv_m_len,
+    const double *u, size_t u_len, const float *lda_t, size_t lda_t_len,
+    const float *lda_offset, size_t lda_offset_len, const double *global_mean_stats, size_t global_mean_stats_len,
+    const float *frames, size_t frames_len, const double *rows, size_t rows_len,
+    size_t *waiting_frames, size_t waiting_frames_len, float *waiting_weights, size_t waiting_weights_len,
+    double *cmvn_stats, size_t cmvn_stats_len, double *linear, size_t linear_len,
+    double *quadratic, size_t quadratic_len, double *current, size_t current_len,
+    double *scratch, size_t scratch_len, uint32_t *out, size_t out_len);
+
+/* How many frames can be fetched: those accepted, less the right context until the input is finished. */
+size_t shofrakin_num_frames_ready(shofrakin_stream s);
+
+/* The length of a fetch's output. */
+size_t shofrakin_ivector_dim(shofrakin_stream s);
+
+/* The first frame that is not in the statistics. */
+size_t shofrakin_num_frames_stats(shofrakin_stream s);
+
+/* ---- the silence table */
+
+/* A number of input frames, or the number of one. */
+typedef struct {
+    size_t number;
+} shofrakin_input_frame;
+
+/* A number of decoder frames, or the number of one. One is `subsampling` input frames. */
+typedef struct {
+    size_t number;
+} shofrakin_decoder_frame;
+
+/* A silence table's record: the weight of silence, the subsampling, how many phones are silence, the places of the table's rooms, and
+ * how many of them are in use. */
+typedef struct {
+    float silence_weight;
+    size_t subsampling;
+    size_t phones;
+    size_t table;
+    size_t length;
+} shofrakin_silence;
+
+/* The answer where a table is made: the record where the refusal is 0, else one that every call refuses with 10. */
+typedef struct {
+    size_t refusal;
+    shofrakin_silence silence;
+} shofrakin_new_table_answer;
+
+/* The answer of a call on a silence table: how many changes it gives, and the record for the next call. */
+typedef struct {
+    size_t refusal;
+    size_t changes;
+    shofrakin_silence silence;
+} shofrakin_silence_answer;
+
+/* A table of no frames yet, for three rooms of `table` places each: at most 64 phones, subsampling 1..16, a finite weight. Refusal 9. */
+shofrakin_new_table_answer shofrakin_new_silence_weighting(
+    const int32_t *silence_phones, size_t silence_phones_len, float silence_weight, size_t subsampling, size_t table);
+
+/* Whether the weighting changes anything: there are phones, and the weight is not 1. */
+bool shofrakin_silence_active(shofrakin_silence s);
+
+/* Notes which of the decoded frames are silence, from the best path's segments (phone, start, end). Refusals 10, 23, 24. */
+shofrakin_silence_answer shofrakin_compute_current_traceback(shofrakin_silence s,
+    const int32_t *silence_phones, size_t silence_phones_len,
+    bool *known, size_t known_len, bool *is_silence, size_t is_silence_len, float *current_weight, size_t current_weight_len,
+    const int32_t *segment_phones, size_t segment_phones_len, const size_t *starts, size_t starts_len,
+    const size_t *ends, size_t ends_len, shofrakin_decoder_frame num_frames_decoded);
+
+/* The changes of weight up to `num_frames_ready`, by input frame, decoder frame 0 beginning at `first_decoder_frame`: the first
+ * `changes` places of two lists, for shofrakin_update_frame_weights. Refusals 10, 23, 24. */
+shofrakin_silence_answer shofrakin_get_delta_weights(shofrakin_silence s,
+    bool *known, size_t known_len, bool *is_silence, size_t is_silence_len, float *current_weight, size_t current_weight_len,
+    shofrakin_input_frame num_frames_ready, shofrakin_input_frame first_decoder_frame,
+    size_t *frames, size_t frames_len, float *weights, size_t weights_len);
+
+#ifdef __cplusplus
+}
+#endif
+
+#endif
