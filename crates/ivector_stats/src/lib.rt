@@ -211,6 +211,104 @@ fn acc_weighed(
     )
 }
 
+// A frame that is weighed, in rooms for as many Gaussians as there can be.
+fn acc_many(
+    num_gselect: usize,
+    floor: f32,
+    scale: f32,
+    num_gauss: usize,
+    d: usize,
+    gconsts: &[f32],
+    means_invvars_t: &[f32],
+    inv_vars_t: &[f32],
+    normalized: &[f32],
+    raw: &[f32],
+    m: usize,
+    seen: &mut [usize],
+    tot: &mut [f64],
+    sum: &mut [f64],
+) -> usize
+    requires { ⌜ («num_gauss» * d ≤ length (now «means_invvars_t»)) × («num_gauss» * d ≤ length (now «inv_vars_t»)) × («num_gauss» ≤ length (now gconsts)) × (d ≤ length (now normalized)) × (d ≤ length (now raw)) ⌝ }
+    requires { ⌜ («num_gselect» ≤ 32) × («num_gauss» ≤ 1024) × Slots «num_gauss» d m (now seen) (now tot) (now sum) ⌝ }
+    ensures { λ r. ⌜ Slots «num_gauss» d r (now (seen .exit)) (now (tot .exit)) (now (sum .exit))
+        × ((es : List Entry) → Sums d es m (now (seen .entry)) (now (tot .entry)) (now (sum .entry))
+        → Sums d (es ++ map (scaledEntry scale (now (raw .entry))) (selectPosteriors (loglikes «num_gauss» d (now (gconsts .entry)) (now («means_invvars_t» .entry)) (now («inv_vars_t» .entry)) (now (normalized .entry))) «num_gselect» floor)) r (now (seen .exit)) (now (tot .exit)) (now (sum .exit))) ⌝ }
+{
+    let mut ll = [0.0f32; 1024];
+    let mut b = [0.0f32; 1024];
+    let mut chosen = [0usize; 32];
+    let mut posts = [0.0f32; 32];
+    acc_weighed(
+        num_gselect,
+        floor,
+        scale,
+        num_gauss,
+        d,
+        gconsts,
+        means_invvars_t,
+        inv_vars_t,
+        normalized,
+        raw,
+        &mut ll[..num_gauss],
+        &mut b[..num_gauss],
+        &mut chosen,
+        &mut posts,
+        m,
+        seen,
+        tot,
+        sum,
+    )
+}
+
+// The same in rooms for 64 Gaussians: with few, clearing the larger rooms would cost more than the work.
+fn acc_few(
+    num_gselect: usize,
+    floor: f32,
+    scale: f32,
+    num_gauss: usize,
+    d: usize,
+    gconsts: &[f32],
+    means_invvars_t: &[f32],
+    inv_vars_t: &[f32],
+    normalized: &[f32],
+    raw: &[f32],
+    m: usize,
+    seen: &mut [usize],
+    tot: &mut [f64],
+    sum: &mut [f64],
+) -> usize
+    requires { ⌜ («num_gauss» * d ≤ length (now «means_invvars_t»)) × («num_gauss» * d ≤ length (now «inv_vars_t»)) × («num_gauss» ≤ length (now gconsts)) × (d ≤ length (now normalized)) × (d ≤ length (now raw)) ⌝ }
+    requires { ⌜ («num_gselect» ≤ 32) × («num_gauss» ≤ 64) × Slots «num_gauss» d m (now seen) (now tot) (now sum) ⌝ }
+    ensures { λ r. ⌜ Slots «num_gauss» d r (now (seen .exit)) (now (tot .exit)) (now (sum .exit))
+        × ((es : List Entry) → Sums d es m (now (seen .entry)) (now (tot .entry)) (now (sum .entry))
+        → Sums d (es ++ map (scaledEntry scale (now (raw .entry))) (selectPosteriors (loglikes «num_gauss» d (now (gconsts .entry)) (now («means_invvars_t» .entry)) (now («inv_vars_t» .entry)) (now (normalized .entry))) «num_gselect» floor)) r (now (seen .exit)) (now (tot .exit)) (now (sum .exit))) ⌝ }
+{
+    let mut ll = [0.0f32; 64];
+    let mut b = [0.0f32; 64];
+    let mut chosen = [0usize; 32];
+    let mut posts = [0.0f32; 32];
+    acc_weighed(
+        num_gselect,
+        floor,
+        scale,
+        num_gauss,
+        d,
+        gconsts,
+        means_invvars_t,
+        inv_vars_t,
+        normalized,
+        raw,
+        &mut ll[..num_gauss],
+        &mut b[..num_gauss],
+        &mut chosen,
+        &mut posts,
+        m,
+        seen,
+        tot,
+        sum,
+    )
+}
+
 // A frame of the batch goes into the running sums; m and the answer: how many Gaussians were seen. A skipped one adds nothing.
 pub fn acc_frame(
     o: IvectorOptions,
@@ -236,11 +334,25 @@ pub fn acc_frame(
     match weight {
         FrameWeight::Skipped => m,
         FrameWeight::Weighed(floor, scale) => {
-            let mut ll = [0.0f32; 1024];
-            let mut b = [0.0f32; 1024];
-            let mut chosen = [0usize; 32];
-            let mut posts = [0.0f32; 32];
-            acc_weighed(
+            if num_gauss <= 64 {
+                return acc_few(
+                    o.num_gselect,
+                    floor,
+                    scale,
+                    num_gauss,
+                    d,
+                    gconsts,
+                    means_invvars_t,
+                    inv_vars_t,
+                    normalized,
+                    raw,
+                    m,
+                    seen,
+                    tot,
+                    sum,
+                );
+            }
+            acc_many(
                 o.num_gselect,
                 floor,
                 scale,
@@ -251,10 +363,6 @@ pub fn acc_frame(
                 inv_vars_t,
                 normalized,
                 raw,
-                &mut ll[..num_gauss],
-                &mut b[..num_gauss],
-                &mut chosen,
-                &mut posts,
                 m,
                 seen,
                 tot,
