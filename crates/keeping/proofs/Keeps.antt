@@ -190,7 +190,7 @@ one-row n w h = omega (arith, div-mul-le-self n w, mul-le-mul-right w h, one-mul
 five : {A B : Type 0} (f : A → A → A → A → A → B) {a a′ b b′ c c′ d d′ e e′ : A} → a ≡ a′ → b ≡ b′ → c ≡ c′ → d ≡ d′ → e ≡ e′ → f a b c d e ≡ f a′ b′ c′ d′ e′
 five f p q r s t = rw (p, q, r, s, t)
 
-made-stream : (r : ℕ) (s s′ : IvectorStream) → taken r (N.Stream s) (N.Refused r) ≡ N.Stream s′ → (r ≡ 0) × (s ≡ s′)
+pub made-stream : (r : ℕ) (s s′ : IvectorStream) → taken r (N.Stream s) (N.Refused r) ≡ N.Stream s′ → (r ≡ 0) × (s ≡ s′)
 made-stream zero s s′ e = (refl, cc)
 made-stream (suc r) s s′ e = let w : _≡_ {A = ℕ} 0 1 = cc in absurd (omega arith)
 
