@@ -259,11 +259,11 @@ fn push_refusal(
         return 13;
     }
     let frames_held = limits::frames_held(s.accepted, s.mark);
-    if frames_held == z.frames / d.base_dim {
+    if z.frames < (frames_held + 1) * d.base_dim {
         return 14;
     }
     let rows_held = limits::rows_held(o.cmn_window, s.accepted, s.mark);
-    if rows_held == z.rows / d.base_dim {
+    if z.rows < (rows_held + 1) * d.base_dim {
         return 15;
     }
     0

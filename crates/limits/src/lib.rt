@@ -231,10 +231,10 @@ pub fn rooms_fit(d: Dimensions, z: RoomLengths) -> bool
     ensures { λ r. ⌜ r ≡ roomsFit d z ⌝ }
 {
     let s = d.ivector_dim;
-    if z.frames / d.base_dim < 1 {
+    if z.frames < d.base_dim {
         return false;
     }
-    if z.rows / d.base_dim < 2 {
+    if z.rows < 2 * d.base_dim {
         return false;
     }
     if z.cmvn_stats < d.base_dim + 1 {
@@ -369,10 +369,12 @@ pub fn is_broken(s: IvectorStream, waiting: &[usize]) -> bool
     if first < s.mark {
         return true;
     }
-    if z.frames / d.base_dim < frames_held(s.accepted, s.mark) {
+    let frames = frames_held(s.accepted, s.mark);
+    if z.frames < frames * d.base_dim {
         return true;
     }
-    if z.rows / d.base_dim < rows_held(o.cmn_window, s.accepted, s.mark) {
+    let rows = rows_held(o.cmn_window, s.accepted, s.mark);
+    if z.rows < rows * d.base_dim {
         return true;
     }
     let room = smaller(z.waiting_frames, z.waiting_weights);
