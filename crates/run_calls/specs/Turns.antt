@@ -1,4 +1,4 @@
--- What inner functions leave. Not for readers.
+-- What the inner functions leave. Not for readers.
 use mathlib.Core.Path.{_≡_}
 use mathlib.Core.List.{List}
 use Prim.Native.Nat.{ℕ, _≤_}

@@ -7,6 +7,7 @@ ghost use mathlib.Core.Path.{_≡_};
 ghost use mathlib.Core.List.{List, map};
 ghost use Prim.Native.Nat.{ℕ, _+_, _*_, _≤_, _<_};
 ghost use lib.ListN.{length};
+ghost use lib.Ieee.{Float};
 ghost use Rattle.loops.specs.Refusal.{taken};
 ghost use Rattle.loops.specs.Steps.{put};
 ghost use Rattle.definition.specs.Machine as M;
@@ -85,34 +86,23 @@ fn put_words(outs: &mut [u32], first: usize, words: &[u32])
     }
 }
 
-// One call: kind 0 is a push of x, 1 a finish, 2 a change, 3 a forget, any other a fetch into `out`.
-fn call(
+// A call that gets the rings alone: kind 0 is a push of x, 1 a finish, 2 a change, 3 a forget.
+fn ring_call(
     s: IvectorStream,
     kind: u8,
     frame: usize,
     x: &[f32],
     delta_frames: &[usize],
     delta_weights: &[f32],
-    gconsts: &[f32],
-    means_invvars_t: &[f32],
-    inv_vars_t: &[f32],
-    sigma_inv_m: &[f64],
-    u: &[f64],
-    lda_t: &[f32],
-    lda_offset: &[f32],
-    global_mean_stats: &[f64],
     frames: &mut [f32],
     rows: &mut [f64],
     waiting_frames: &mut [usize],
     waiting_weights: &mut [f32],
-    cmvn_stats: &mut [f64],
-    linear: &mut [f64],
-    quadratic: &mut [f64],
-    current: &mut [f64],
-    scratch: &mut [f64],
-    out: &mut [u32],
 ) -> Step
-    ensures { λ r. ⌜ Called (tables (now (gconsts .entry)) (now («means_invvars_t» .entry)) (now («inv_vars_t» .entry)) (now («sigma_inv_m» .entry)) (now (u .entry)) (now («lda_t» .entry)) (now («lda_offset» .entry)) (now («global_mean_stats» .entry))) (length (now (scratch .entry))) (program s (rooms (now (frames .entry)) (now (rows .entry)) (now («waiting_frames» .entry)) (now («waiting_weights» .entry)) (now («cmvn_stats» .entry)) (now (linear .entry)) (now (quadratic .entry)) (now (current .entry)))) (given kind frame (now (x .entry)) (now («delta_frames» .entry)) (now («delta_weights» .entry)) (now (out .entry))) r (rooms (now (frames .exit)) (now (rows .exit)) (now («waiting_frames» .exit)) (now («waiting_weights» .exit)) (now («cmvn_stats» .exit)) (now (linear .exit)) (now (quadratic .exit)) (now (current .exit))) (now (out .exit)) ⌝ }
+    requires { ⌜ kind < 4 ⌝ }
+    ensures { λ r. ⌜ ((t : Tables) (n : ℕ) (cmvn linear quadratic current : List Float) (out : List ℕ)
+        → Called t n (program s (rooms (now (frames .entry)) (now (rows .entry)) (now («waiting_frames» .entry)) (now («waiting_weights» .entry)) cmvn linear quadratic current)) (given kind frame (now (x .entry)) (now («delta_frames» .entry)) (now («delta_weights» .entry)) out) r
+        (rooms (now (frames .exit)) (now (rows .exit)) (now («waiting_frames» .exit)) (now («waiting_weights» .exit)) cmvn linear quadratic current) out) ⌝ }
 {
     if kind == 0 {
         let r = ivector_stream::push_frame(s, x, frames, rows, waiting_frames, waiting_weights);
@@ -158,22 +148,58 @@ fn call(
             words: 0,
         };
     }
-    if kind == 3 {
-        let r = ivector_stream::forget_before(
+    let r = ivector_stream::forget_before(s, frame, frames, rows, waiting_frames, waiting_weights);
+    let a = r.answer;
+    let t = r.stream;
+    Step {
+        answer: a,
+        stream: t,
+        words: 0,
+    }
+}
+
+// One call: of a kind that gets the rings alone, and else a fetch into `out`.
+fn call(
+    s: IvectorStream,
+    kind: u8,
+    frame: usize,
+    x: &[f32],
+    delta_frames: &[usize],
+    delta_weights: &[f32],
+    gconsts: &[f32],
+    means_invvars_t: &[f32],
+    inv_vars_t: &[f32],
+    sigma_inv_m: &[f64],
+    u: &[f64],
+    lda_t: &[f32],
+    lda_offset: &[f32],
+    global_mean_stats: &[f64],
+    frames: &mut [f32],
+    rows: &mut [f64],
+    waiting_frames: &mut [usize],
+    waiting_weights: &mut [f32],
+    cmvn_stats: &mut [f64],
+    linear: &mut [f64],
+    quadratic: &mut [f64],
+    current: &mut [f64],
+    scratch: &mut [f64],
+    out: &mut [u32],
+) -> Step
+    ensures { λ r. ⌜ Called (tables (now (gconsts .entry)) (now («means_invvars_t» .entry)) (now («inv_vars_t» .entry)) (now («sigma_inv_m» .entry)) (now (u .entry)) (now («lda_t» .entry)) (now («lda_offset» .entry)) (now («global_mean_stats» .entry))) (length (now (scratch .entry))) (program s (rooms (now (frames .entry)) (now (rows .entry)) (now («waiting_frames» .entry)) (now («waiting_weights» .entry)) (now («cmvn_stats» .entry)) (now (linear .entry)) (now (quadratic .entry)) (now (current .entry)))) (given kind frame (now (x .entry)) (now («delta_frames» .entry)) (now («delta_weights» .entry)) (now (out .entry))) r (rooms (now (frames .exit)) (now (rows .exit)) (now («waiting_frames» .exit)) (now («waiting_weights» .exit)) (now («cmvn_stats» .exit)) (now (linear .exit)) (now (quadratic .exit)) (now (current .exit))) (now (out .exit)) ⌝ }
+{
+    if kind < 4 {
+        return ring_call(
             s,
+            kind,
             frame,
+            x,
+            delta_frames,
+            delta_weights,
             frames,
             rows,
             waiting_frames,
             waiting_weights,
         );
-        let a = r.answer;
-        let t = r.stream;
-        return Step {
-            answer: a,
-            stream: t,
-            words: 0,
-        };
     }
     let r = ivector_fetch::get_frame(
         s,
@@ -198,11 +224,11 @@ fn call(
         out,
     );
     let a = r.answer;
-    let t = r.stream;
+    let after = r.stream;
     let words = words_of(a.refusal, out.len());
     Step {
         answer: a,
-        stream: t,
+        stream: after,
         words,
     }
 }
