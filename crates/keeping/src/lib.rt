@@ -1,1 +1,1 @@
-// No code yet: the claim over every list of calls (specs/) and its proof (proofs/).
+// The claim over every list of calls: its statement is in specs/, its proof in proofs/. It has no code; `run_calls` has.
