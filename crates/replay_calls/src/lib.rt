@@ -355,10 +355,10 @@ pub fn push_line(
 ) -> Session {
     let mut frame = [0.0f32; 128];
     let list = read_floats(text, at, &mut frame);
-    let n = at_most(list.value, 128);
     push_in(
         session,
-        &frame[..n],
+        &frame,
+        list.value,
         frames,
         rows,
         waiting_frames,
@@ -369,6 +369,7 @@ pub fn push_line(
 pub fn push_in(
     session: Session,
     frame: &[f32],
+    count: usize,
     frames: &mut [f32],
     rows: &mut [f64],
     waiting_frames: &[usize],
@@ -376,13 +377,14 @@ pub fn push_in(
 ) -> Session {
     let p = session.playing;
     let z = p.rooms;
+    let n = at_most(count, frame.len());
     let n0 = at_most(z.frames, frames.len());
     let n1 = at_most(z.rows, rows.len());
     let n2 = at_most(z.waiting_frames, waiting_frames.len());
     let n3 = at_most(z.waiting_weights, waiting_weights.len());
     let call = ivector_stream::push_frame(
         p.forged,
-        frame,
+        &frame[..n],
         &mut frames[..n0],
         &mut rows[..n1],
         &waiting_frames[..n2],
@@ -444,12 +446,12 @@ pub fn change_line(
     let mut delta_weights = [0.0f32; 1026];
     let a = read_numbers(text, at, &mut delta_frames);
     let b = read_floats(text, a.next, &mut delta_weights);
-    let na = at_most(a.value, 1026);
-    let nb = at_most(b.value, 1026);
     change_in(
         session,
-        &delta_frames[..na],
-        &delta_weights[..nb],
+        &delta_frames,
+        a.value,
+        &delta_weights,
+        b.value,
         frames,
         rows,
         waiting_frames,
@@ -460,7 +462,9 @@ pub fn change_line(
 pub fn change_in(
     session: Session,
     delta_frames: &[usize],
+    frame_count: usize,
     delta_weights: &[f32],
+    weight_count: usize,
     frames: &[f32],
     rows: &[f64],
     waiting_frames: &mut [usize],
@@ -468,14 +472,16 @@ pub fn change_in(
 ) -> Session {
     let p = session.playing;
     let z = p.rooms;
+    let na = at_most(frame_count, delta_frames.len());
+    let nb = at_most(weight_count, delta_weights.len());
     let n0 = at_most(z.frames, frames.len());
     let n1 = at_most(z.rows, rows.len());
     let n2 = at_most(z.waiting_frames, waiting_frames.len());
     let n3 = at_most(z.waiting_weights, waiting_weights.len());
     let call = ivector_stream::update_frame_weights(
         p.forged,
-        delta_frames,
-        delta_weights,
+        &delta_frames[..na],
+        &delta_weights[..nb],
         &frames[..n0],
         &rows[..n1],
         &mut waiting_frames[..n2],
@@ -505,8 +511,8 @@ pub fn fetch_in(
     quadratic: &mut [f64],
     current: &mut [f64],
     scratch: &mut [f64],
+    out: &mut [u32],
 ) -> Session {
-    let mut out = [0u32; 160];
     let p = session.playing;
     let z = p.rooms;
     let n0 = at_most(z.waiting_frames, waiting_frames.len());
@@ -516,7 +522,7 @@ pub fn fetch_in(
     let n4 = at_most(z.quadratic, quadratic.len());
     let n5 = at_most(z.current, current.len());
     let n6 = at_most(z.scratch, scratch.len());
-    let n7 = at_most(n, 160);
+    let n7 = at_most(n, out.len());
     let call = ivector_fetch::get_frame(
         p.forged,
         frame,
@@ -539,7 +545,7 @@ pub fn fetch_in(
         &mut scratch[..n6],
         &mut out[..n7],
     );
-    fetched(session, call, &out[..n7])
+    fetched(session, call, n7, out)
 }
 
 // `v F n`. An output that is longer than 160 is longer than any vector.
@@ -565,6 +571,7 @@ pub fn fetch_line(
     current: &mut [f64],
     scratch: &mut [f64],
 ) -> Session {
+    let mut out = [0u32; 160];
     let frame = script::number(text, at, 10);
     let n = script::number(text, frame.next, 10);
     let p = session.playing;
@@ -601,6 +608,7 @@ pub fn fetch_line(
         quadratic,
         current,
         scratch,
+        &mut out,
     )
 }
 

@@ -330,9 +330,11 @@ pub fn print_doubles(n: usize, items: &[f64]) {
     }
 }
 
-pub fn print_vector(items: &[u32]) {
-    for i in 0..items.len() {
-        print_bits(items[i]);
+pub fn print_vector(n: usize, items: &[u32]) {
+    for i in 0..n {
+        if i < items.len() {
+            print_bits(items[i]);
+        }
     }
 }
 
@@ -934,12 +936,13 @@ pub fn called(session: Session, call: StreamCall) -> Session {
     after_call(session, s)
 }
 
-pub fn fetched(session: Session, call: StreamCall, out: &[u32]) -> Session {
+// A fetch's answer, whose vector is the first n numbers of an output.
+pub fn fetched(session: Session, call: StreamCall, n: usize, out: &[u32]) -> Session {
     let a = call.answer;
     print_answer(a);
     if a.refusal == 0 {
         print_next(a.not_finite);
-        print_vector(out);
+        print_vector(n, out);
     }
     end_line();
     let s = call.stream;

@@ -6,11 +6,11 @@ use Rattle.replay_session.proofs.print_vector.Statement.{statement}
 use Rattle.replay_session.proofs.print_vector.Tie as tie
 
 abbrev Inv-loop : tie.InvT-loop
-Inv-loop items i₀ i-end i =
-    (i-end ≡ length items) × (i ≤ i-end)
+Inv-loop n items i₀ i =
+    i ≤ n
 
 abbrev μ-loop : tie.MeasureT-loop
-μ-loop items i₀ i-end i = i-end - i
+μ-loop n items i₀ i = n - i
 
 loop-holds : tie.Need-loop-holds Inv-loop μ-loop
 loop-holds c = search needs
