@@ -311,8 +311,8 @@ fn replay(
     }
 }
 
-fn main() {
-    let mut text = [0u8; 1572864];
+// The rooms for a model and a silence table.
+fn with_rooms(text: &[u8]) {
     let mut bytes = [0u8; 262144];
     let mut gconsts = [0.0f32; 1040];
     let mut means_invvars_t = [0.0f32; 2064];
@@ -325,9 +325,8 @@ fn main() {
     let mut known = [false; 4112];
     let mut is_silence = [false; 4112];
     let mut current_weight = [0.0f32; 4112];
-    let n = io::read_full(0, &mut text);
     replay(
-        &text[..n],
+        text,
         &mut bytes,
         &mut gconsts,
         &mut means_invvars_t,
@@ -341,4 +340,20 @@ fn main() {
         &mut is_silence,
         &mut current_weight,
     );
+}
+
+// The script, as far as the room has places for it.
+fn play_input(text: &mut [u8]) {
+    let n = io::read_full(0, text);
+    with_rooms(&text[..n]);
+}
+
+// The room as a slice.
+fn in_room(text: &mut [u8; 1572864]) {
+    play_input(text);
+}
+
+fn main() {
+    let mut text = [0u8; 1572864];
+    in_room(&mut text);
 }
