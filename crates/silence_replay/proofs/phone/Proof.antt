@@ -1,5 +1,5 @@
 use borrow.Author.Needs.{needs}
-use Rattle.silence_replay.proofs.Phones.{phone-fits}
+use Rattle.script.proofs.Phones.{phone-fits}
 use Rattle.silence_replay.proofs.phone.Statement.{statement}
 use Rattle.silence_replay.proofs.phone.Tie as tie
 

@@ -1,0 +1,79 @@
+use borrow.Author.Needs.{needs}
+use mathlib.Core.Path.{sym, _∙_}
+use lib.Seq.{length-take-le}
+use Rattle.ivector_stream.proofs.Stored.{lent-length}
+use Rattle.replay_calls.proofs.push_in.Statement.{statement}
+use Rattle.replay_calls.proofs.push_in.Tie as tie
+
+at-most-requires : tie.Need-at-most-requires
+at-most-requires c κs = tt
+
+at-most-requires-2 : tie.Need-at-most-requires-2
+at-most-requires-2 c κs = tt
+
+at-most-requires-3 : tie.Need-at-most-requires-3
+at-most-requires-3 c κs = tt
+
+at-most-requires-4 : tie.Need-at-most-requires-4
+at-most-requires-4 c κs = tt
+
+at-most-requires-5 : tie.Need-at-most-requires-5
+at-most-requires-5 c κs = tt
+
+slice-aggregate-push-frame : tie.Need-slice-aggregate-push-frame
+slice-aggregate-push-frame c = sym (length-take-le _ _ ((c .before .before .before .before .before .at-most) .ensures .1))
+
+slice-relend-prefix-push-frame : tie.Need-slice-relend-prefix-push-frame
+slice-relend-prefix-push-frame c = (c .before .before .before .before .at-most2) .ensures .1
+
+slice-aggregate-push-frame-2 : tie.Need-slice-aggregate-push-frame-2
+slice-aggregate-push-frame-2 c = sym (length-take-le _ _ ((c .before .before .before .before .before .at-most2) .ensures .1))
+
+slice-relend-prefix-push-frame-2 : tie.Need-slice-relend-prefix-push-frame-2
+slice-relend-prefix-push-frame-2 c = (c .before .before .before .before .at-most3) .ensures .1
+
+slice-aggregate-push-frame-3 : tie.Need-slice-aggregate-push-frame-3
+slice-aggregate-push-frame-3 c = sym (length-take-le _ _ ((c .before .before .before .before .before .at-most3) .ensures .1))
+
+slice-aggregate-push-frame-4 : tie.Need-slice-aggregate-push-frame-4
+slice-aggregate-push-frame-4 c = sym (length-take-le _ _ ((c .before .before .before .before .before .at-most4) .ensures .1))
+
+slice-aggregate-push-frame-5 : tie.Need-slice-aggregate-push-frame-5
+slice-aggregate-push-frame-5 c = sym (length-take-le _ _ ((c .before .before .before .before .before .at-most5) .ensures .1))
+
+push-frame-requires : tie.Need-push-frame-requires
+push-frame-requires c κs = tt
+
+called-requires : tie.Need-called-requires
+called-requires c κs = tt
+
+same-length : tie.Need-same-length
+same-length c = lent-length ((c .before .before .before .before .before .before .before .before .before .before .before .before .before .before .at-most2) .result) ((c .before .before .before .before .before .before .before .before .before .before .before .before .before .before .before .before .before .before .before .before .before .before .before .args) .frames .now) ((c .before .before .before .before .before .push-frame) .last .1 .1 .0) ((c .before .before .before .before .before .push-frame) .kept .1 .1 .0 ∙ length-take-le _ _ ((c .before .before .before .before .before .before .before .before .before .before .before .before .before .before .at-most2) .ensures .1)) ((c .before .before .before .before .before .before .before .before .before .before .before .before .before .before .at-most2) .ensures .1)
+
+same-length-2 : tie.Need-same-length-2
+same-length-2 c = lent-length ((c .before .before .before .before .before .before .before .before .before .before .before .before .before .at-most3) .result) ((c .before .before .before .before .before .before .before .before .before .before .before .before .before .before .before .before .before .before .before .before .before .before .before .args) .rows .now) ((c .before .before .before .before .before .push-frame) .last .1 .1 .1 .0) ((c .before .before .before .before .before .push-frame) .kept .1 .1 .1 .0 ∙ length-take-le _ _ ((c .before .before .before .before .before .before .before .before .before .before .before .before .before .at-most3) .ensures .1)) ((c .before .before .before .before .before .before .before .before .before .before .before .before .before .at-most3) .ensures .1)
+
+returns : tie.Need-returns
+returns c = tt
+
+pub push-in-spec : {M : Type 1} → statement M
+push-in-spec =
+    tie.close
+    (tie.spec
+    at-most-requires
+    at-most-requires-2
+    at-most-requires-3
+    at-most-requires-4
+    at-most-requires-5
+    slice-aggregate-push-frame
+    slice-relend-prefix-push-frame
+    slice-aggregate-push-frame-2
+    slice-relend-prefix-push-frame-2
+    slice-aggregate-push-frame-3
+    slice-aggregate-push-frame-4
+    slice-aggregate-push-frame-5
+    push-frame-requires
+    called-requires
+    same-length
+    same-length-2
+    returns)

@@ -1,0 +1,76 @@
+use borrow.Author.Needs.{needs}
+use mathlib.Core.Path.{_≡_}
+use Prim.Native.Nat.{_-_, _≤_}
+use lib.ListN.{length}
+use Rattle.replay_session.proofs.print_changes.Statement.{statement}
+use Rattle.replay_session.proofs.print_changes.Tie as tie
+
+abbrev Inv-loop : tie.InvT-loop
+Inv-loop n frames weights i₀ i =
+    i ≤ n
+
+abbrev μ-loop : tie.MeasureT-loop
+μ-loop n frames weights i₀ i = n - i
+
+print-number-requires : tie.Need-print-number-requires Inv-loop μ-loop
+print-number-requires c κs = search needs
+
+print-next-requires : tie.Need-print-next-requires Inv-loop μ-loop
+print-next-requires c κs = search needs
+
+loop-holds : tie.Need-loop-holds Inv-loop μ-loop
+loop-holds c = search needs
+
+mul-print-next : tie.Need-mul-print-next Inv-loop μ-loop
+mul-print-next c = search needs
+
+shared-slice-read-print-next : tie.Need-shared-slice-read-print-next Inv-loop μ-loop
+shared-slice-read-print-next c = search needs
+
+print-next-requires-2 : tie.Need-print-next-requires-2 Inv-loop μ-loop
+print-next-requires-2 c κs = search needs
+
+mul-print-float : tie.Need-mul-print-float Inv-loop μ-loop
+mul-print-float c = search needs
+
+shared-slice-read-print-float : tie.Need-shared-slice-read-print-float Inv-loop μ-loop
+shared-slice-read-print-float c = search needs
+
+print-float-requires : tie.Need-print-float-requires Inv-loop μ-loop
+print-float-requires c κs = search needs
+
+add-i : tie.Need-add-i Inv-loop μ-loop
+add-i c = search needs
+
+loop-less : tie.Need-loop-less Inv-loop μ-loop
+loop-less c = search needs
+
+loop-again : tie.Need-loop-again Inv-loop μ-loop
+loop-again c = search needs
+
+end-line-requires : tie.Need-end-line-requires Inv-loop μ-loop
+end-line-requires c κs = search needs
+
+returns : tie.Need-returns Inv-loop μ-loop
+returns c = search needs
+
+pub print-changes-spec : {M : Type 1} → statement M
+print-changes-spec =
+    tie.close
+    (tie.spec
+    Inv-loop
+    μ-loop
+    print-number-requires
+    print-next-requires
+    loop-holds
+    mul-print-next
+    shared-slice-read-print-next
+    print-next-requires-2
+    mul-print-float
+    shared-slice-read-print-float
+    print-float-requires
+    add-i
+    loop-less
+    loop-again
+    end-line-requires
+    returns)
