@@ -1,6 +1,6 @@
 -- A batch in two parts: the second is fetched from the CMVN state that the first leaves, and its entries come behind the first's.
-use mathlib.Core.Path.{_≡_, refl, sym, ap, _∙_}
-use mathlib.Core.List.{List, [], _∷_, _++_, map, append-assoc}
+use mathlib.Core.Path.{_≡_, refl, ap}
+use mathlib.Core.List.{List, [], _∷_, _++_, append-assoc}
 use lib.Ieee.{Float}
 use Rattle.definition.specs.Model.{Model}
 use Rattle.definition.specs.Views.{Frames, normalisedRow}

@@ -4,7 +4,7 @@ use Prim.Native.Nat.{ℕ, _*_}
 use mathlib.Core.Bool.{true, false}
 use mathlib.Core.List.{List, [], _∷_, _++_}
 use lib.ListN.{replicate}
-use lib.Ieee.{Float, nan, neg}
+use lib.Ieee.{Float, neg}
 use Rattle.floats.specs.Operators.{f32, f64, count, zero₃₂, zero₆₄, one₃₂, _+₆₄_}
 use Rattle.floats.specs.Narrow.{narrowed}
 use Rattle.floats.specs.Ln.{lnOf}
@@ -13,7 +13,7 @@ use Rattle.definition.specs.declared.IvectorOptions.{IvectorOptions}
 use Rattle.definition.specs.declared.TableLengths.{TableLengths}
 use Rattle.definition.specs.declared.RoomLengths.{RoomLengths}
 use Rattle.definition.specs.declared.SilenceWeighting.{SilenceWeighting}
-use Rattle.definition.specs.Reader.{Got, read, refused, text}
+use Rattle.definition.specs.Reader.{read, refused, text}
 use Rattle.definition.specs.Text.{number}
 use Rattle.definition.specs.Model.{Model, Files, load}
 use Rattle.definition.specs.Views.{cmvnState, cmvnFrame, normalisedRow}

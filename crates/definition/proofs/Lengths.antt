@@ -1,7 +1,6 @@
 -- The lists of a stream's numbers keep their lengths.
 use mathlib.Core.Path.{_≡_, refl, ap, _∙_}
 use Prim.Native.Nat.{ℕ, _+_, _-_, _*_, min}
-use native.Mathlib.Omega.{arith}
 use mathlib.Core.Bool.{Bool, _&&_, _||_}
 use mathlib.Core.List.{List, [], _∷_}
 use lib.ListN.{length, set, replicate, length-append, length-set, length-replicate}
@@ -17,10 +16,10 @@ use Rattle.floats.specs.Extremes.{larger}
 use Rattle.definition.specs.declared.IvectorOptions.{IvectorOptions}
 use Rattle.definition.specs.Options.{width}
 use Rattle.definition.specs.Kaldi.{triangle}
-use Rattle.definition.specs.Model.{Model, packed}
+use Rattle.definition.specs.Model.{Model}
 use Rattle.definition.specs.Views.{Frames, smoothed, windowed, cmvnState, normalisedRow}
 use Rattle.definition.specs.Statistics.{Stats, Entry, addDiagonal, newStats, rescaled, accLinear, accQuadratic, acc}
-use Rattle.definition.specs.Solve.{Cgd, dot, spMatVec, residualFactor, backward, forward, solvedOr, factor, begun, turn, linearCgd, priorVector, getIvector}
+use Rattle.definition.specs.Solve.{Cgd, dot, spMatVec, residualFactor, backward, solvedOr, factor, begun, turn, linearCgd, priorVector, getIvector}
 use Rattle.definition.specs.Changes.{Batch}
 use Rattle.definition.specs.Estimate.{Estimate, entries, accumulated, updated}
 

@@ -1,9 +1,7 @@
 -- A fetch's work on a batch of frames, each with its weight: `flush` of `update_stats_until`, and `update_stats_for_frames`.
-use Prim.Native.Nat.{ℕ}
 use mathlib.Core.List.{List, [], _∷_, _++_, map}
 use lib.Ieee.{Float}
 use Rattle.definition.specs.declared.IvectorInfo.{IvectorInfo}
-use Rattle.definition.specs.declared.IvectorOptions.{IvectorOptions}
 use Rattle.definition.specs.declared.Dimensions.{Dimensions}
 use Rattle.definition.specs.Model.{Model}
 use Rattle.definition.specs.Views.{Frames, normalisedRow, rawRow, ldaFrame}

@@ -8,7 +8,7 @@ use lib.Ieee.{Float, Format, binary32, binary64, ofBits}
 use lib.Ieee.Scale.{finite}
 use Rattle.loops.specs.Lists.{if_then_else_, allOf}
 use Rattle.definition.specs.Options.{within, maxGauss, maxFeat, maxIvector, maxColumns}
-use Rattle.definition.specs.Reader.{Got, read, refused, Parser, after, _>>=_, _>>_, give, need, times, bytes, run, text, same, littleEndian, size, floats}
+use Rattle.definition.specs.Reader.{read, refused, Parser, _>>=_, _>>_, give, need, times, bytes, run, text, same, littleEndian, size, floats}
 
 -- ---- items
 

@@ -1,7 +1,7 @@
 -- "When a call is declined", 8 and 10 of a stream: what a record and the lent rooms have to meet. A record that was not made by a load or a
 -- fresh stream, or rooms of other lengths, are answered 10.
 use Prim.Native.Nat.{ℕ, _+_, _-_, _*_, max}
-use mathlib.Core.Bool.{Bool, true, false, not, _&&_}
+use mathlib.Core.Bool.{Bool, true, not, _&&_}
 use mathlib.Core.List.{List, [], _∷_}
 use lib.ListN.{take}
 use lib.Dec.{eqb, leb, ltb}

@@ -10,7 +10,7 @@ use Rattle.loops.specs.Lists.{if_then_else_}
 use Rattle.floats.specs.Operators.{zero₆₄}
 use Rattle.floats.specs.Decimal.{scaled}
 use Rattle.definition.specs.Options.{within}
-use Rattle.definition.specs.Reader.{Got, read, refused, Parser, after, _>>=_, _>>_, give, need, run, here}
+use Rattle.definition.specs.Reader.{read, refused, Parser, after, _>>=_, _>>_, give, need, run, here}
 
 -- ---- a number
 

@@ -2,7 +2,6 @@
 use mathlib.Core.Path.{_≡_, sym, ap, _∙_, refl}
 use mathlib.Core.List.{List, map, foldl}
 use Prim.Native.Nat.{ℕ, _≤_}
-use native.Mathlib.Nat.{not-suc-le-zero}
 use native.Mathlib.Omega.{arith}
 use lib.Ieee.{Float, neg}
 use lib.ListN.{length}
@@ -11,7 +10,7 @@ use Rattle.loops.proofs.Fill.{length-fill}
 use Rattle.floats.specs.Operators.{_+₃₂_, _*₃₂_, _/₃₂_, zero₃₂, one₃₂, at, sum₃₂}
 use Rattle.definition.specs.Posteriors.{pruned, selectPosteriors}
 use Rattle.diag_gmm.specs.Steps.{ranked, held, Fair, bestOf, finished}
-use Rattle.diag_gmm.proofs.Rooms.{held-none, length-held, held-scaled, held-take, held-total}
+use Rattle.diag_gmm.proofs.Rooms.{length-held, held-scaled, held-take, held-total}
 use Rattle.diag_gmm.proofs.Apart.{Apart, best-apart, finished-apart, held-fair}
 
 select-finished : (ls : List Float) (k : ℕ) (min-post : Float) → finished min-post (bestOf ls k min-post) ≡ selectPosteriors ls k min-post

@@ -3,7 +3,6 @@
 use mathlib.Core.Bool.{false}
 use Rattle.floats.specs.Operators.{zero₃₂, zero₆₄}
 use Rattle.definition.specs.declared.IvectorInfo.{IvectorInfo}
-use Rattle.definition.specs.declared.RoomLengths.{RoomLengths}
 use Rattle.definition.specs.declared.IvectorStream.{IvectorStream}
 use Rattle.definition.specs.declared.Loaded.{Loaded}
 use Rattle.definition.specs.declared.Loaded.the-variants as L

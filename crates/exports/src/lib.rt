@@ -26,10 +26,9 @@ ghost use Rattle.definition.specs.Machine.{framesReady};
 ghost use Rattle.definition.specs.Silence.{Table, tableIn, segments, traced, newTable, active, tableBroken, tracebackTests, asked, askedTable, deltaTests, silenceAnswer};
 ghost use Rattle.definition.specs.Model.{load as loadOf, loadedOf, tableOf};
 ghost use Rattle.ivector_info.specs.Load.{filesOf, lengthsOf, scratchKept};
-ghost use Rattle.ivector_stream.specs.Rooms.{Tables, tableLengthsOf, Rooms, roomLengthsOf, changesIn};
+ghost use Rattle.ivector_stream.specs.Rooms.{Tables, tableLengthsOf, Rooms, roomLengthsOf, changesIn, tables, rooms};
 ghost use Rattle.ivector_stream.specs.Calls.{newRefusal, newAnswer, freshRooms, callOf, withAccepted, withFinished, withMark, withChanges, pushRefusal, pushedFrames, pushedRows, plainRefusal, changeRefusal, overFrames, overWeights, forgetMark, fetchRefusal, fetchStream, fetchVector, fetchRooms, bitsOf, notFinite};
 ghost use Rattle.ivector_stream.specs.Lent.{ringsOf};
-ghost use Rattle.ivector_fetch.specs.Steps.{tables, rooms};
 ghost use Rattle.exports.specs.Answers.{loadAnswer, noInfo, newStreamAnswer, newTableAnswer, noStream, noTable};
 
 // The answer of a load: the record where the refusal is 0, else one that no fresh stream takes.
@@ -226,8 +225,8 @@ pub extern "C" fn shofrakin_new_stream(
     scratch: &[f64],
 ) -> NewStreamAnswer
     ensures { λ r. ⌜ (
-        let t : Tables = record { gconsts = now (gconsts .entry); means-invvars-t = now («means_invvars_t» .entry); inv-vars-t = now («inv_vars_t» .entry); sigma-inv-m = now («sigma_inv_m» .entry); u = now (u .entry); lda-t = now («lda_t» .entry); lda-offset = now («lda_offset» .entry); global-mean-stats = now («global_mean_stats» .entry) } in
-        let z : Rooms = record { frames = now (frames .entry); rows = now (rows .entry); waiting-frames = now («waiting_frames» .entry); waiting-weights = now («waiting_weights» .entry); cmvn = now («cmvn_stats» .entry); linear = now (linear .entry); quadratic = now (quadratic .entry); current = now (current .entry) } in
+        let t : Tables = tables (now (gconsts .entry)) (now («means_invvars_t» .entry)) (now («inv_vars_t» .entry)) (now («sigma_inv_m» .entry)) (now (u .entry)) (now («lda_t» .entry)) (now («lda_offset» .entry)) (now («global_mean_stats» .entry)) in
+        let z : Rooms = rooms (now (frames .entry)) (now (rows .entry)) (now («waiting_frames» .entry)) (now («waiting_weights» .entry)) (now («cmvn_stats» .entry)) (now (linear .entry)) (now (quadratic .entry)) (now (current .entry)) in
         let n : ℕ = newRefusal info (tableLengthsOf t) (roomLengthsOf z (length (now (scratch .entry)))) in
         (r ≡ newStreamAnswer info (newAnswer info (tableLengthsOf t) (roomLengthsOf z (length (now (scratch .entry))))))
         × (now (rows .exit) ≡ taken n (freshRooms info z .rows) (now (rows .entry)))

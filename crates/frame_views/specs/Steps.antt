@@ -1,14 +1,12 @@
 -- What inner functions ask and leave. Not for readers.
 use Prim.Native.Nat.{ℕ}
 use mathlib.Core.Bool.{Bool}
-use mathlib.Core.List.{List, [], _++_, foldl}
+use mathlib.Core.List.{List, [], _++_}
 use lib.Ieee.{Float}
 use Rattle.loops.specs.Loop.{iter}
 use Rattle.loops.specs.Lists.{if_then_else_, build}
 use Rattle.definition.specs.declared.IvectorOptions.{IvectorOptions}
 use Rattle.definition.specs.Views.{Frames, cmvnState, cmvnFrame, spliceAt}
-use Rattle.definition.specs.Changes.{Change, insertChange}
-use Rattle.frame_views.specs.Waiting.{waitingIn}
 
 -- a fetch of frame t for a spliced row: the CMVN state that it leaves, and what it adds to the row
 unfoldable pub fetched : IvectorOptions → ℕ → List Float → Frames → Bool → ℕ → List Float → List Float
@@ -24,7 +22,3 @@ splicedTo o dim global F normalized t n state =
     let u = spliceAt o (F .accepted) t n in
     let state′ = fetched o dim global F normalized u (s .0) in
     (state′, s .1 ++ viewed dim F normalized u state′)) (state, [])
-
--- the first m changes that a call gives, inserted
-unfoldable pub insertedTo : ℕ → List ℕ → List Float → List Change → List Change
-insertedTo m frames weights waiting = foldl insertChange waiting (waitingIn m frames weights)

@@ -1,30 +1,29 @@
 -- What a fetch leaves: the record, the rooms and the vector, by the parts that code makes.
 use mathlib.Core.Path.{_≡_, refl, sym, ap, _∙_}
 use mathlib.Core.Bool.{Bool, true, false}
-use mathlib.Core.List.{List, [], _∷_, map}
-use Prim.Native.Nat.{ℕ, zero, suc, _+_, _-_, _≤_, _<_, min}
+use mathlib.Core.List.{List, [], _∷_}
+use Prim.Native.Nat.{ℕ, zero, suc, _+_, _-_, _≤_, _<_}
 use native.Mathlib.Omega.{arith}
 use lib.ListN.{length, getD, take, drop, length-drop}
 use lib.Seq.{length-take-le}
-use lib.Dec.{leb, ltb}
+use lib.Dec.{leb}
 use lib.Ieee.{Float, nan}
 use borrow.Author.Tests.{le-leb, lt-leb, leb-true}
 use Rattle.loops.specs.Lists.{if_then_else_, build, those, over}
 use Rattle.loops.specs.Refusal.{taken}
-use Rattle.loops.proofs.Build.{at-build, build-ext, length-build}
+use Rattle.loops.proofs.Build.{at-build, build-ext}
 use Rattle.loops.proofs.Choose.{by-test, choose-true, choose-false}
 use Rattle.loops.proofs.Fill.{over-at, over-take}
 use Rattle.loops.proofs.Refusal.{taken-new, taken-old}
 use Rattle.floats.specs.Operators.{at}
 use Rattle.definition.specs.declared.IvectorStream.{IvectorStream}
-use Rattle.definition.specs.declared.StreamCall.{StreamCall}
 use Rattle.definition.specs.Changes.{Change, Changes, reached, batch}
 use Rattle.definition.specs.Estimate.{Estimate, updated}
 use Rattle.definition.specs.Stream.{rising}
 use Rattle.definition.proofs.Lengths.{Long, updated-long}
-use Rattle.frame_views.specs.Waiting.{waitingIn, framesOf, weightsOf}
-use Rattle.frame_views.proofs.WaitingRooms.{length-waiting, frames-waiting, weights-waiting}
-use Rattle.frame_views.proofs.InOrder.{waiting-early, waiting-late}
+use Rattle.delta_weights.specs.Waiting.{waitingIn, framesOf, weightsOf}
+use Rattle.delta_weights.proofs.WaitingRooms.{length-waiting, frames-waiting, weights-waiting}
+use Rattle.delta_weights.proofs.InOrder.{waiting-early, waiting-late}
 use Rattle.ivector_update.specs.Steps.{batchOf, changesBatch, run}
 use Rattle.definition.specs.Posteriors.{unweighted}
 use Rattle.ivector_stream.specs.Rooms.{Tables, tableLengthsOf, modelIn, Rooms, roomLengthsOf, framesIn, changesIn, estimateIn}

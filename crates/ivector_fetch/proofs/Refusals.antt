@@ -2,25 +2,22 @@
 use mathlib.Core.Path.{_≡_, refl, sym, ap, _∙_}
 use mathlib.Core.Bool.{Bool, true, false, not, _&&_}
 use mathlib.Core.List.{List, [], _∷_}
-use Prim.Native.Nat.{ℕ, _+_, _-_, _*_, _≤_, _<_, max}
+use Prim.Native.Nat.{ℕ, _-_, _≤_, _<_}
 use native.Mathlib.Omega.{arith}
 use lib.ListN.{length}
 use lib.Dec.{eqb, leb}
 use lib.Ieee.{Float}
 use borrow.Author.Tests.{not-false, not-true, eqb-true, lt-leb, le-leb, leb-false}
-use Rattle.loops.specs.Refusal.{firstOf}
 use Rattle.loops.proofs.Choose.{by-test, and-first, and-second, and-holds}
 use Rattle.loops.proofs.Refusal.{NoneFirst, FirstAt, numberAt, none-first, first-here, first-past, first-is, first-none}
 use Rattle.loops.proofs.Tests.{each-pair}
 use Rattle.definition.specs.declared.IvectorStream.{IvectorStream}
 use Rattle.definition.specs.declared.RoomLengths.{RoomLengths}
 use Rattle.definition.specs.declared.TableLengths.{TableLengths}
-use Rattle.definition.specs.Kaldi.{triangle}
 use Rattle.definition.specs.Model.{tableLengths}
 use Rattle.definition.specs.Machine.{framesReady, fetchTests}
-use Rattle.definition.specs.Options.{spliced}
 use Rattle.definition.specs.Stream.{isBroken, sameTables, sameRings, sameRooms, fixedLengths, streamScratch}
-use Rattle.limits.proofs.Ranges.{OptionRanges, option-ranges, DimRanges, dim-ranges, Agreeing, agreeing, TablesFitting, tables-fitting, InfoSound, info-sound, Fitting, fitting}
+use Rattle.limits.proofs.Ranges.{OptionRanges, option-ranges, DimRanges, dim-ranges, Agreeing, agreeing, TablesFitting, tables-fitting, info-sound, Fitting, fitting}
 use Rattle.ivector_update.specs.Steps.{Roomy}
 use Rattle.ivector_stream.specs.Rooms.{Tables, tableLengthsOf, Rooms, roomLengthsOf}
 use Rattle.ivector_stream.specs.Calls.{fetchRefusal}

@@ -1,13 +1,12 @@
 -- The vector that a fetch answers, element by element.
 use mathlib.Core.Path.{_≡_, refl, sym, ap, _∙_}
-use mathlib.Core.Bool.{Bool, true, false, not}
-use mathlib.Core.List.{List, [], _∷_, _++_, map}
+use mathlib.Core.Bool.{true, false, not}
+use mathlib.Core.List.{List, [], _∷_, map}
 use Prim.Native.Nat.{ℕ, suc, _+_, _≤_, _<_}
 use native.Mathlib.Nat.{not-suc-le-zero, suc-ne-zero}
 use native.Mathlib.Numerals.{add-one}
 use native.Mathlib.Omega.{arith}
-use lib.ListN.{length, getD, take, length-append}
-use lib.Seq.{length-take-le, getD-take}
+use lib.ListN.{length, length-append}
 use lib.Ieee.{Float, nan, ne, binary32, toBits}
 use Rattle.floats.proofs.Patterns.{is-nan}
 use lib.Ieee.Scale.{finite}

@@ -13,9 +13,9 @@ ghost use lib.Ieee.Scale.{finite};
 ghost use Rattle.loops.specs.Lists.{if_then_else_, build, over};
 ghost use Rattle.loops.specs.Refusal.{taken};
 ghost use Rattle.floats.specs.Operators.{at};
-ghost use Rattle.ivector_stream.specs.Rooms.{Tables, tableLengthsOf, Rooms, roomLengthsOf};
+ghost use Rattle.ivector_stream.specs.Rooms.{Tables, tableLengthsOf, Rooms, roomLengthsOf, tables, rooms};
 ghost use Rattle.ivector_stream.specs.Calls.{callOf, fetchRefusal, fetchStream, fetchVector, fetchRooms, bitsOf, notFinite};
-ghost use Rattle.ivector_fetch.specs.Steps.{fetchedAt, tables, rooms};
+ghost use Rattle.ivector_fetch.specs.Steps.{fetchedAt};
 
 // Whether a fetch of f would bring in frames whose weights are not known yet: f is not in the statistics, and no change reached it.
 fn unreached(next: usize, called: bool, past_highest: usize, f: usize) -> bool
@@ -154,7 +154,7 @@ fn catch_up(
         × (now (quadratic .exit) ≡ fetchRooms s t z frame .quadratic)
         × (now (current .exit) ≡ fetchRooms s t z frame .current)) ⌝ }
 {
-    let n = frame_views::up_to(waiting_frames, s.waiting, frame);
+    let n = delta_weights::up_to(waiting_frames, s.waiting, frame);
     let num_frames = ivector_update::update_rooms(
         s.info,
         s.accepted,
@@ -181,7 +181,7 @@ fn catch_up(
         current,
         scratch,
     );
-    frame_views::remove_first(waiting_frames, waiting_weights, s.waiting, n);
+    delta_weights::remove_first(waiting_frames, waiting_weights, s.waiting, n);
     let mut t = s;
     t.num_frames_stats = frame + 1;
     t.waiting = s.waiting - n;

@@ -16,8 +16,9 @@ use Rattle.loops.proofs.Parts.{lent-is, at-part}
 use Rattle.floats.specs.Operators.{_+₆₄_, _*₆₄_, zero₆₄, at, sum₆₄, total₆₄}
 use Rattle.definition.specs.Kaldi.{triangle}
 use Rattle.definition.specs.Statistics.{Entry, seen, sumFor, rescaled, accLinear, accQuadratic, acc}
-use Rattle.ivector_stats.specs.Steps.{weight, Sums, linearTerm, linearOver, quadraticOver, statsIn}
-use Rattle.ivector_stats.proofs.Totals.{sum-total}
+use Rattle.batch_sums.specs.Batch.{weight, Sums}
+use Rattle.ivector_stats.specs.Steps.{linearTerm, linearOver, quadraticOver, statsIn}
+use Rattle.batch_sums.proofs.Totals.{sum-total}
 
 -- n elements from a on, as code lends them
 abbrev part : ℕ → ℕ → List Float → List Float

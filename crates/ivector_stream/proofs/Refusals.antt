@@ -1,5 +1,5 @@
 -- What is known once a call is taken, and the tests of a change as code makes them.
-use mathlib.Core.Path.{_≡_, sym, ap, _∙_}
+use mathlib.Core.Path.{_≡_, ap}
 use mathlib.Core.Bool.{Bool, true, false, not, _||_}
 use mathlib.Core.List.{List, [], _∷_, _++_}
 use Prim.Native.Nat.{ℕ, _+_, _-_, _≤_, _<_}
@@ -11,7 +11,6 @@ use lib.Ieee.{Float}
 use lib.Ieee.Scale.{finite}
 use borrow.Author.Tests.{not-false, eqb-true, eqb-false, eq-eqb, ne-eqb, lt-ltb, le-ltb, ltb-false}
 use Rattle.loops.specs.Lists.{anyOf}
-use Rattle.loops.specs.Refusal.{firstOf}
 use Rattle.loops.proofs.Choose.{or-first, or-second, or-none, or-fails}
 use Rattle.loops.proofs.Refusal.{none-first}
 use Rattle.definition.specs.declared.IvectorInfo.{IvectorInfo}

@@ -22,9 +22,9 @@ use Rattle.definition.specs.declared.StreamCall.{StreamCall}
 use Rattle.definition.specs.declared.NewStream.the-variants as N
 use Rattle.definition.specs.Changes.{Change, Changes, changed}
 use Rattle.definition.specs.Machine.{framesHeld, rowsHeld}
-use Rattle.frame_views.specs.Waiting.{waitingIn}
-use Rattle.frame_views.proofs.WaitingRooms.{length-waiting}
-use Rattle.frame_views.proofs.InOrder.{length-inserts}
+use Rattle.delta_weights.specs.Waiting.{waitingIn}
+use Rattle.delta_weights.proofs.WaitingRooms.{length-waiting}
+use Rattle.delta_weights.proofs.InOrder.{length-inserts}
 use Rattle.floats.specs.Operators.{at}
 use Rattle.ivector_stream.specs.Rooms.{changesIn}
 use Rattle.ivector_stream.specs.Calls.{newRefusal, freshStream, newAnswer, answerOf, callOf, withChanges}

@@ -1,18 +1,18 @@
 -- Rooms that the calls write: a frame and a prefix row in their rings, and cleared rooms.
 use mathlib.Core.Path.{_≡_, sym, ap, _∙_}
 use mathlib.Core.Bool.{true}
-use mathlib.Core.List.{List, [], _∷_, _++_, foldl}
+use mathlib.Core.List.{List, [], _∷_, foldl}
 use mathlib.Core.Logic.{_⊎_, ⊎-elim}
 use Prim.Native.Nat.{ℕ, _+_, _-_, _≤_, _<_, min, max}
 use native.Mathlib.Omega.{arith}
-use lib.ListN.{length, getD, set, take, drop, replicate, length-append, length-drop}
+use lib.ListN.{length, getD, set, take, replicate}
 use lib.Seq.{length-take-le, getD-take}
 use lib.Ieee.{Float, nan}
 use Rattle.loops.specs.Lists.{build, over}
 use Rattle.loops.specs.Ring.{rowsIn}
 use Rattle.loops.specs.Steps.{fill, put, place}
 use Rattle.loops.proofs.Build.{length-build, build-list, build-same}
-use Rattle.loops.proofs.Fill.{fill-end, fill-over, over-back, put-end, put-turn, put-before, put-past}
+use Rattle.loops.proofs.Fill.{fill-end, fill-over, put-end, put-turn, put-before, put-past}
 use Rattle.loops.proofs.Ring.{rows-apart}
 use Rattle.floats.specs.Operators.{_+₆₄_, at}
 use Rattle.definition.specs.declared.IvectorStream.{IvectorStream}
@@ -25,14 +25,6 @@ use Rattle.ivector_stream.specs.Calls.{pushedFrames, pushedRows, forgetM
 -- a room with zeros, or another value, in its first n places
 pub cleared : {A : Type 0} (v : A) (i n : ℕ) (x : List A) {s : List A} → i ≤ n → n ≤ i → s ≡ fill i (λ k. v) x → s ≡ over (replicate n v) x
 cleared v i n x l m e = fill-end _ i n x l m e ∙ fill-over _ n x ∙ ap (λ (l : List _). over l x) (build-same n v)
-
--- the first n places of a room, lent and come back
-module _ {A : Type 0} (n : ℕ) (room xs : List A) (e : length xs ≡ n) where
-  pub lent-over : {ys : List A} → xs ≡ ys → xs ++ drop n room ≡ over ys room
-  lent-over h = over-back n xs room e ∙ ap (λ (l : List A). over l room) h
-
-  pub lent-length : n ≤ length room → length (xs ++ drop n room) ≡ length room
-  lent-length l = simp (length-append, length-drop) (omega arith)
 
 -- a frame copied in
 pub copied : {A : Type 0} (d : A) (a i : ℕ) (xs room : List A) {s : List A} → i ≤ length xs → length xs ≤ i → s ≡ put a (build i (λ k. getD xs k d)) room → s ≡ put a xs room

@@ -1,6 +1,6 @@
 -- The calls on a stream, as functions on values: the record, and what the lent rooms hold.
 use Prim.Native.Nat.{ℕ, _+_}
-use mathlib.Core.Bool.{Bool, true, false, not, _||_}
+use mathlib.Core.Bool.{Bool, true, false, not}
 use mathlib.Core.List.{List, [], _∷_, _++_, map}
 use lib.ListN.{length, take, replicate}
 use lib.Dec.{eqb, leb}
@@ -18,15 +18,14 @@ use Rattle.definition.specs.declared.NewStream.{NewStream}
 use Rattle.definition.specs.declared.NewStream.the-variants as N
 use Rattle.definition.specs.declared.StreamAnswer.{StreamAnswer}
 use Rattle.definition.specs.declared.StreamCall.{StreamCall}
-use Rattle.definition.specs.Model.{Model}
 use Rattle.definition.specs.Statistics.{newStats}
 use Rattle.definition.specs.Solve.{priorVector}
-use Rattle.definition.specs.Changes.{Changes, changed, reached, batch}
+use Rattle.definition.specs.Changes.{Changes, reached, batch}
 use Rattle.definition.specs.Estimate.{Estimate, updated}
 use Rattle.definition.specs.Machine.{framesHeld, rowsHeld, framesReady, forgotten, pushTests, changeTests, fetchTests, fetched}
 use Rattle.definition.specs.Stream.{infoSound, sameTables, roomsFit, isBroken, sameRings, sameRooms}
 use Rattle.frame_views.specs.Ring.{ringAt}
-use Rattle.ivector_stream.specs.Rooms.{Tables, tableLengthsOf, modelIn, Rooms, roomLengthsOf, framesIn, changesIn, estimateIn}
+use Rattle.ivector_stream.specs.Rooms.{Tables, modelIn, Rooms, framesIn, changesIn, estimateIn}
 
 -- ---- a fresh stream
 

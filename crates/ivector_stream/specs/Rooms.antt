@@ -4,7 +4,6 @@ use mathlib.Core.List.{List}
 use lib.ListN.{length, take}
 use lib.Ieee.{Float}
 use Rattle.definition.specs.declared.IvectorInfo.{IvectorInfo}
-use Rattle.definition.specs.declared.Dimensions.{Dimensions}
 use Rattle.definition.specs.declared.TableLengths.{TableLengths}
 use Rattle.definition.specs.declared.RoomLengths.{RoomLengths}
 use Rattle.definition.specs.declared.IvectorStream.{IvectorStream}
@@ -15,7 +14,7 @@ use Rattle.definition.specs.Views.{Frames}
 use Rattle.definition.specs.Changes.{Changes}
 use Rattle.definition.specs.Estimate.{Estimate}
 use Rattle.frame_views.specs.Ring.{ringFrames}
-use Rattle.frame_views.specs.Waiting.{waitingIn}
+use Rattle.delta_weights.specs.Waiting.{waitingIn}
 
 -- ---- a model's tables
 
@@ -28,6 +27,20 @@ pub record Tables : Type 0 where
   pub lda-t : List Float
   pub lda-offset : List Float
   pub global-mean-stats : List Float
+
+-- by name
+abbrev pub tables : List Float → List Float → List Float → List Float → List Float → List Float → List Float → List Float → Tables
+tables gconsts means invs sigma-inv-m u lda-t lda-offset global =
+    record {
+      gconsts = gconsts;
+      means-invvars-t = means;
+      inv-vars-t = invs;
+      sigma-inv-m = sigma-inv-m;
+      u = u;
+      lda-t = lda-t;
+      lda-offset = lda-offset;
+      global-mean-stats = global;
+    }
 
 abbrev pub tableLengthsOf : Tables → TableLengths
 tableLengthsOf t =
@@ -68,6 +81,19 @@ pub record Rooms : Type 0 where
   pub linear : List Float
   pub quadratic : List Float
   pub current : List Float
+
+abbrev pub rooms : List Float → List Float → List ℕ → List Float → List Float → List Float → List Float → List Float → Rooms
+rooms frames rows waiting-frames waiting-weights cmvn linear quadratic current =
+    record {
+      frames = frames;
+      rows = rows;
+      waiting-frames = waiting-frames;
+      waiting-weights = waiting-weights;
+      cmvn = cmvn;
+      linear = linear;
+      quadratic = quadratic;
+      current = current;
+    }
 
 -- with scratch of n numbers
 abbrev pub roomLengthsOf : Rooms → ℕ → RoomLengths

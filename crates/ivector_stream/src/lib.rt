@@ -26,7 +26,7 @@ ghost use Rattle.definition.specs.Solve.{priorVector};
 ghost use Rattle.definition.specs.Changes.{Changes, changed};
 ghost use Rattle.definition.specs.Machine.{framesReady};
 ghost use Rattle.definition.specs.Stream.{rising};
-ghost use Rattle.ivector_stream.specs.Rooms.{Tables, tableLengthsOf, Rooms, roomLengthsOf, changesIn};
+ghost use Rattle.ivector_stream.specs.Rooms.{Tables, tables, tableLengthsOf, Rooms, rooms, roomLengthsOf, changesIn};
 ghost use Rattle.ivector_stream.specs.Calls.{newRefusal, newAnswer, freshRooms, answerOf, callOf, withAccepted, withFinished, withMark, withChanges, pushRefusal, pushedFrames, pushedRows, plainRefusal, changeRefusal, overFrames, overWeights, forgetMark};
 ghost use Rattle.ivector_stream.specs.Lent.{ringsOf};
 
@@ -167,8 +167,8 @@ pub fn new(
     scratch: &[f64],
 ) -> NewStream
     ensures { λ r. ⌜ (
-        let t : Tables = record { gconsts = now (gconsts .entry); means-invvars-t = now («means_invvars_t» .entry); inv-vars-t = now («inv_vars_t» .entry); sigma-inv-m = now («sigma_inv_m» .entry); u = now (u .entry); lda-t = now («lda_t» .entry); lda-offset = now («lda_offset» .entry); global-mean-stats = now («global_mean_stats» .entry) } in
-        let z : Rooms = record { frames = now (frames .entry); rows = now (rows .entry); waiting-frames = now («waiting_frames» .entry); waiting-weights = now («waiting_weights» .entry); cmvn = now («cmvn_stats» .entry); linear = now (linear .entry); quadratic = now (quadratic .entry); current = now (current .entry) } in
+        let t : Tables = tables (now (gconsts .entry)) (now («means_invvars_t» .entry)) (now («inv_vars_t» .entry)) (now («sigma_inv_m» .entry)) (now (u .entry)) (now («lda_t» .entry)) (now («lda_offset» .entry)) (now («global_mean_stats» .entry)) in
+        let z : Rooms = rooms (now (frames .entry)) (now (rows .entry)) (now («waiting_frames» .entry)) (now («waiting_weights» .entry)) (now («cmvn_stats» .entry)) (now (linear .entry)) (now (quadratic .entry)) (now (current .entry)) in
         let n : ℕ = newRefusal info (tableLengthsOf t) (roomLengthsOf z (length (now (scratch .entry)))) in
         (r ≡ newAnswer info (tableLengthsOf t) (roomLengthsOf z (length (now (scratch .entry)))))
         × (now (rows .exit) ≡ taken n (freshRooms info z .rows) (now (rows .entry)))
@@ -453,7 +453,7 @@ pub fn update_frame_weights(
     if refusal != 0 {
         return reply(refusal, s, 0);
     }
-    let past_highest = frame_views::update_frame_weights(
+    let past_highest = delta_weights::update_frame_weights(
         waiting_frames,
         waiting_weights,
         s.waiting,

@@ -3,7 +3,7 @@ use mathlib.Core.Path.{_≡_, refl, sym, ap, _∙_}
 use mathlib.Core.List.{List, _++_}
 use Prim.Native.Nat.{ℕ, _+_, _-_, _*_, _/_, _≤_}
 use native.Mathlib.Omega.{arith}
-use lib.ListN.{length, take, drop, replicate, length-append, length-drop}
+use lib.ListN.{length, take, drop, replicate}
 use lib.Seq.{take-at, drop-at}
 use lib.Ieee.{Float, nan}
 use Rattle.loops.specs.Loop.{iter}
@@ -66,11 +66,6 @@ module _ (d s : ℕ) (m sim : List Float) where
   pub quadratic-whole : {y : List Float} (room : List Float) → length room ≡ s * (s + 1) / 2 → y ≡ over (flat s (λ p. build (p + 1) (quadraticRow d s m sim p))) room → y ≡ quadraticTerm d s m sim
   unfolding quadraticTerm
   quadratic-whole room l e = e ∙ over-whole _ _ (length-triangle (quadraticRow d s m sim) s ∙ sym l)
-
--- ---- the front of a room, lent and come back
-
-pub front-length : {A : Type 0} (n : ℕ) (room xs : List A) → length xs ≡ n → n ≤ length room → length (xs ++ drop n room) ≡ length room
-front-length n room xs e l = simp (length-append, length-drop) (omega arith)
 
 -- ---- two parts of a room, written one after the other
 

@@ -1,6 +1,6 @@
 -- The frames of waiting changes, one after the other.
 use mathlib.Core.Path.{_≡_, refl, sym, ap, _∙_}
-use Prim.Native.Nat.{ℕ, _+_, _≤_, _<_}
+use Prim.Native.Nat.{ℕ, _+_, _≤_}
 use native.Mathlib.Omega.{arith}
 use mathlib.Core.List.{List, [], _∷_, _++_, map, append-nil, append-assoc}
 use lib.ListN.{length, getD, drop, drop-of-length-le}
@@ -11,12 +11,12 @@ use Rattle.definition.specs.declared.FrameWeight.{FrameWeight}
 use Rattle.definition.specs.Views.{Frames, normalisedRow}
 use Rattle.definition.specs.Statistics.{Entry}
 use Rattle.definition.specs.Posteriors.{weighed}
-use Rattle.definition.specs.Changes.{Change, merged, Batch}
+use Rattle.definition.specs.Changes.{merged, Batch}
 use Rattle.definition.specs.Estimate.{entries}
-use Rattle.frame_views.specs.Waiting.{waitingIn}
-use Rattle.frame_views.proofs.WaitingRooms.{length-waiting}
-use Rattle.ivector_stats.specs.Steps.{Sums}
-use Rattle.ivector_stats.proofs.Batches.{sums-on, sums-none}
+use Rattle.delta_weights.specs.Waiting.{waitingIn}
+use Rattle.delta_weights.proofs.WaitingRooms.{length-waiting}
+use Rattle.batch_sums.specs.Batch.{Sums}
+use Rattle.batch_sums.proofs.Batches.{sums-on, sums-none}
 use Rattle.ivector_update.specs.Steps.{frameEntries, viewModel, changesBatch, Partway}
 
 module _ (i : IvectorInfo) (gconsts means invs lda-t lda-offset global : List Float) (F : Frames) where

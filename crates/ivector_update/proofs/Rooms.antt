@@ -1,30 +1,19 @@
 -- Lent tables and rooms: the parts that are kept, lent on and come back.
-use mathlib.Core.Path.{_≡_, sym, ap, _∙_}
-use mathlib.Core.List.{List, _++_}
-use Prim.Native.Nat.{ℕ, _+_, _*_, _≤_, _<_}
+use mathlib.Core.Path.{_≡_, ap}
+use mathlib.Core.List.{List}
+use Prim.Native.Nat.{ℕ, _+_, _*_, _≤_}
 use native.Mathlib.Nat.{mul-le-mul, mul-le-mul-right, mul-assoc}
 use native.Mathlib.Omega.{arith}
-use lib.ListN.{length, take, drop, length-append, length-drop}
+use lib.ListN.{length, take}
 use lib.Seq.{length-take-le}
 use lib.Ieee.{Float}
-use Rattle.loops.specs.Lists.{over}
-use Rattle.loops.proofs.Fill.{over-back}
 use Rattle.definition.specs.declared.IvectorInfo.{IvectorInfo}
 use Rattle.definition.specs.Options.{width, spliced}
 use Rattle.definition.specs.Kaldi.{triangle}
 use Rattle.definition.specs.Statistics.{Stats}
 use Rattle.definition.specs.Estimate.{Estimate}
 use Rattle.frame_views.specs.Rows.{Lent}
-use Rattle.ivector_stats.specs.Steps.{statsIn}
 use Rattle.ivector_update.specs.Steps.{Ready, Solvable, estimate, Roomy}
-
--- the first n places of a room, lent and come back
-module _ {A : Type 0} (n : ℕ) (room xs : List A) (e : length xs ≡ n) where
-  pub lent-over : {ys : List A} → xs ≡ ys → xs ++ drop n room ≡ over ys room
-  lent-over h = over-back n xs room e ∙ ap (λ (l : List A). over l room) h
-
-  pub lent-length : n ≤ length room → length (xs ++ drop n room) ≡ length room
-  lent-length l = simp (length-append, length-drop) (omega arith)
 
 -- the sizes of the tables
 pub record Sizes (i : IvectorInfo) : Type 0 where

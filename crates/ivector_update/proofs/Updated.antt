@@ -1,22 +1,19 @@
 -- A batch's sums in the statistics, and the estimate after it.
-use mathlib.Core.Path.{_≡_, refl, sym, ap, subst, _∙_}
-use Prim.Native.Nat.{ℕ, zero, suc, _+_, _≤_, _<_}
+use mathlib.Core.Path.{_≡_, refl, ap, subst, _∙_}
+use Prim.Native.Nat.{ℕ, zero, suc, _+_, _<_}
 use native.Mathlib.Nat.{not-suc-le-zero, suc-ne-zero}
-use native.Mathlib.Omega.{arith}
-use mathlib.Core.Bool.{Bool, true, false}
-use mathlib.Core.List.{List, [], _∷_, _++_, map}
+use mathlib.Core.List.{List, [], _∷_, map}
 use lib.ListN.{length}
 use lib.Ieee.{Float}
 use lib.Dec.{eqb}
-use Rattle.loops.specs.Lists.{if_then_else_, build}
-use Rattle.loops.proofs.Choose.{by-test, choose-true, choose-false}
+use Rattle.loops.specs.Lists.{build}
+use Rattle.loops.proofs.Choose.{by-test}
 use Rattle.floats.specs.Operators.{_+₃₂_}
-use Rattle.definition.specs.declared.IvectorInfo.{IvectorInfo}
 use Rattle.definition.specs.declared.IvectorOptions.{IvectorOptions}
 use Rattle.definition.specs.declared.FrameWeight.{FrameWeight}
 use Rattle.definition.specs.Model.{Model}
-use Rattle.definition.specs.Views.{Frames, normalisedRow, rawRow, ldaFrame}
-use Rattle.definition.specs.Posteriors.{loglikes, posteriors, weighed}
+use Rattle.definition.specs.Views.{Frames, normalisedRow}
+use Rattle.definition.specs.Posteriors.{weighed}
 use Rattle.definition.specs.Statistics.{Entry, Stats, acc}
 use Rattle.definition.specs.Changes.{Change, merged, mergedFrom, Batch}
 use Rattle.definition.specs.Solve.{getIvector}

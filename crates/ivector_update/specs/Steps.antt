@@ -18,7 +18,8 @@ use Rattle.definition.specs.Changes.{Change, merged, Batch}
 use Rattle.definition.specs.Estimate.{Estimate, entries}
 use Rattle.loops.specs.Lists.{if_then_else_, build}
 use Rattle.loops.specs.Ring.{rowsIn}
-use Rattle.ivector_stats.specs.Steps.{entryOf, Sums, statsIn}
+use Rattle.batch_sums.specs.Batch.{entryOf, Sums}
+use Rattle.ivector_stats.specs.Steps.{statsIn}
 
 -- the entries of frame t of weight w, from the CMVN state c
 abbrev pub frameEntries : IvectorInfo → List Float → List Float → List Float → List Float → List Float → List Float → Frames → ℕ → FrameWeight → List Float → List Entry

@@ -13,8 +13,9 @@ ghost use Rattle.definition.specs.Estimate.{Estimate, entries, accumulated, upd
 ghost use Rattle.loops.specs.Lists.{over};
 ghost use Rattle.frame_views.specs.Ring.{ringFrames};
 ghost use Rattle.frame_views.specs.Rows.{Lent};
-ghost use Rattle.frame_views.specs.Waiting.{waitingIn};
-ghost use Rattle.ivector_stats.specs.Steps.{Slots, Sums, statsIn};
+ghost use Rattle.delta_weights.specs.Waiting.{waitingIn};
+ghost use Rattle.batch_sums.specs.Batch.{Slots, Sums};
+ghost use Rattle.ivector_stats.specs.Steps.{statsIn};
 ghost use Rattle.ivector_update.specs.Steps.{frameEntries, Ready, viewModel, run, changesBatch, Solvable, modelOf, batchOf, estimate, Roomy, keptModel, keptEstimate};
 
 // Frame t of a batch, in rooms for its normalised and its raw features.
@@ -82,7 +83,7 @@ fn take_frame_in(
         cmvn,
         raw,
     );
-    ivector_stats::acc_frame(
+    batch_sums::acc_frame(
         o,
         weight,
         dims.num_gauss,
@@ -246,7 +247,7 @@ fn take_changes(
     let mut m = 0;
     let mut j = 0;
     while j < n {
-        let group = frame_views::sum_group(waiting_frames, waiting_weights, n, j);
+        let group = delta_weights::sum_group(waiting_frames, waiting_weights, n, j);
         let weight = diag_gmm::weighed(o, group.weight);
         let t = change_frame(waiting_frames, j);
         m = take_frame(

@@ -1,13 +1,13 @@
 -- Parts of the extractor's file that have a function of their own, and what their answers say.
 use mathlib.Core.Path.{_≡_}
-use mathlib.Core.Bool.{Bool, true, false, _&&_}
-use mathlib.Core.List.{List, []}
+use mathlib.Core.Bool.{Bool, false, _&&_}
+use mathlib.Core.List.{List}
 use Prim.Native.Nat.{ℕ, _≤_}
 use lib.Ieee.{Float, binary64}
 use Rattle.loops.specs.Lists.{allOf}
 use Rattle.definition.specs.Options.{maxGauss, maxFeat, maxIvector}
-use Rattle.definition.specs.Reader.{Got, read, refused, Parser, after, _>>=_, _>>_, give, times, text}
-use Rattle.definition.specs.Kaldi.{Matrix, Packed, matrixAt, token, dim, matrix, single}
+use Rattle.definition.specs.Reader.{Got, read, refused, Parser, _>>=_, _>>_, give, times, text}
+use Rattle.definition.specs.Kaldi.{Matrix, matrixAt, token, dim, matrix, single}
 use Rattle.kaldi_files.specs.Answers.{means, items, sizedAs}
 use Rattle.kaldi_files.specs.declared.Run.{Run}
 use Rattle.kaldi_files.specs.declared.Run.the-variants as R

@@ -15,7 +15,7 @@ use Rattle.loops.specs.Lists.{if_then_else_}
 use Rattle.loops.proofs.Choose.{by-test}
 use Rattle.loops.proofs.Parts.{drop-next, length-part, at-part}
 use Rattle.definition.specs.Options.{within}
-use Rattle.definition.specs.Reader.{Parser, after, _>>=_, _>>_, give, need, bytes, run, same, littleEndian, refused, read}
+use Rattle.definition.specs.Reader.{Parser, _>>=_, _>>_, give, need, bytes, run, same, littleEndian, refused, read}
 use Rattle.definition.specs.Kaldi.{binary, blank, word, dim}
 use Rattle.kaldi_io.proofs.Chain.{not-read, same-value}
 

@@ -3,8 +3,8 @@ use mathlib.Core.Path.{_≡_, refl, sym, ap, ap₂, subst, _∙_}
 use Prim.Native.Nat.{ℕ, zero, suc, _+_, _-_, _≤_, _<_}
 use native.Mathlib.Nat.{zero-mul, one-mul, mul-le-mul-right, div-mul-le-self, zero-mod}
 use native.Mathlib.Omega.{arith}
-use mathlib.Core.Bool.{Bool, true, false, not, cond}
-use mathlib.Core.List.{List, [], _∷_, _++_, map}
+use mathlib.Core.Bool.{Bool, false, not}
+use mathlib.Core.List.{List, [], _∷_, map}
 use lib.ListN.{length, take, set, getD, replicate, length-map, length-set, length-replicate, getD-replicate}
 use lib.Dec.{eqb}
 use borrow.Author.Tests.{ne-eqb, not-false}
@@ -22,7 +22,6 @@ use Rattle.floats.specs.Narrow.{narrowed}
 use Rattle.definition.specs.declared.IvectorInfo.{IvectorInfo}
 use Rattle.definition.specs.declared.IvectorStream.{IvectorStream}
 use Rattle.definition.specs.declared.RoomLengths.{RoomLengths}
-use Rattle.definition.specs.declared.NewStream.{NewStream}
 use Rattle.definition.specs.declared.NewStream.the-variants as N
 use Rattle.definition.specs.Kaldi.{triangle}
 use Rattle.definition.specs.Model.{Model}
@@ -31,9 +30,9 @@ use Rattle.definition.specs.Solve.{priorVector}
 use Rattle.definition.specs.Stream.{rising}
 use Rattle.definition.specs.Machine.{Machine, Answer, Call, accepted, allFrames, framesHeld, rowsHeld, pushTests, changeTests, fetchTests, tests, after, fetched, given, answer, answersFrom, answers, fresh}
 use Rattle.definition.specs.Machine as K
-use Rattle.definition.proofs.Lengths.{Long, length-new-linear, length-new-quadratic, length-prior}
+use Rattle.definition.proofs.Lengths.{length-new-linear, length-new-quadratic, length-prior}
 use Rattle.frame_views.specs.Ring.{ringAt}
-use Rattle.frame_views.specs.Waiting.{waitingIn}
+use Rattle.delta_weights.specs.Waiting.{waitingIn}
 use Rattle.ivector_stream.specs.Rooms.{Tables, tableLengthsOf, modelIn, Rooms, roomLengthsOf}
 use Rattle.ivector_stream.specs.Calls.{answerOf, fetchVector, bitsOf, notFinite, newRefusal, newAnswer, freshStream, freshRooms}
 use Rattle.keeping.specs.Keeping.{Given, push, finish, change, forget, fetch, callOf, Program, program, refusalOf, leaves, outputOf, badOf, replyOf, programAnswers, Keeps}

@@ -1,13 +1,11 @@
 -- The program's state beside the keeping machine's: what holds between them, and that both refuse alike.
-use mathlib.Core.Path.{_≡_, refl, sym, ap, _∙_}
-use Prim.Native.Nat.{ℕ, _+_, _-_, _≤_, _<_, min}
+use mathlib.Core.Path.{_≡_, sym, ap, _∙_}
+use Prim.Native.Nat.{ℕ, _+_, _-_, _≤_}
 use native.Mathlib.Omega.{arith}
-use mathlib.Core.Bool.{Bool, true, false, not, _||_}
-use mathlib.Core.List.{List, [], _∷_, _++_, map}
+use mathlib.Core.Bool.{true, false, not}
 use lib.ListN.{length, take}
-use lib.Dec.{leb, ltb, eqb}
+use lib.Dec.{ltb}
 use borrow.Author.Tests.{le-ltb}
-use lib.Ieee.{Float}
 use Rattle.loops.specs.Lists.{anyOf}
 use Rattle.loops.specs.Refusal.{firstOf}
 use Rattle.loops.specs.Ring.{rowsIn}
@@ -17,19 +15,17 @@ use Rattle.loops.proofs.Refusal.{first-past}
 use Rattle.definition.specs.declared.IvectorInfo.{IvectorInfo}
 use Rattle.definition.specs.declared.IvectorStream.{IvectorStream}
 use Rattle.definition.specs.declared.RoomLengths.{RoomLengths}
-use Rattle.definition.specs.declared.TableLengths.{TableLengths}
 use Rattle.definition.specs.Views.{Frames}
 use Rattle.definition.specs.Model.{tableLengths}
-use Rattle.definition.specs.Estimate.{Estimate}
 use Rattle.definition.specs.Machine.{Machine, accepted, allFrames, framesHeld, rowsHeld, waitingRoom, tests}
 use Rattle.definition.specs.Stream.{infoSound, roomsFit, rising, breaks, isBroken, sameTables, sameRings, sameRooms, ringLengths, fixedLengths}
 use Rattle.definition.proofs.Agree.{Agree}
 use Rattle.definition.proofs.Lengths.{Long}
-use Rattle.frame_views.specs.Waiting.{waitingIn, framesOf}
-use Rattle.frame_views.proofs.WaitingRooms.{frames-waiting}
+use Rattle.delta_weights.specs.Waiting.{waitingIn, framesOf}
+use Rattle.delta_weights.proofs.WaitingRooms.{frames-waiting}
 use Rattle.ivector_stream.specs.Rooms.{Tables, tableLengthsOf, modelIn, Rooms, roomLengthsOf, framesIn, estimateIn}
 use Rattle.ivector_stream.specs.Calls.{pushRefusal, plainRefusal, changeRefusal, fetchRefusal}
-use Rattle.keeping.specs.Keeping.{Given, push, finish, change, forget, fetch, callOf, Program, program, refusalOf}
+use Rattle.keeping.specs.Keeping.{Given, push, finish, change, forget, fetch, callOf, program, refusalOf}
 
 -- the program's record, of the machine's state
 abbrev pub streamOf : IvectorInfo → RoomLengths → Machine → IvectorStream

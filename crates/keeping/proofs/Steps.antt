@@ -2,7 +2,7 @@
 use mathlib.Core.Path.{_≡_, refl, sym, ap, ap₂, subst, _∙_}
 use Prim.Native.Nat.{ℕ, zero, suc, _+_, _-_, _≤_, _<_, min, max}
 use native.Mathlib.Omega.{arith}
-use mathlib.Core.Bool.{Bool, true, false, not, _||_, _&&_}
+use mathlib.Core.Bool.{true, false, not}
 use mathlib.Core.List.{List, [], _∷_, _++_, map, foldl}
 use lib.ListN.{length, take, getD, length-append, length-map, List·getD-map}
 use lib.Dec.{leb, ltb, eqb}
@@ -12,12 +12,12 @@ use Rattle.loops.specs.Lists.{if_then_else_, build, those, anyOf, over}
 use Rattle.loops.specs.Refusal.{firstOf}
 use Rattle.loops.specs.Ring.{rowsIn}
 use Rattle.loops.specs.Steps.{put, place}
-use Rattle.loops.proofs.Choose.{by-test, or-fails}
+use Rattle.loops.proofs.Choose.{by-test}
 use Rattle.loops.proofs.Build.{length-build, build-list, map-build}
 use Rattle.loops.proofs.Fill.{length-over, take-over, length-put}
 use Rattle.loops.proofs.Refusal.{none-first}
 use Rattle.loops.proofs.Ring.{place-in}
-use Rattle.loops.proofs.Tests.{none-at, at-none, length-those, anyOf-map}
+use Rattle.loops.proofs.Tests.{none-at, at-none, length-those}
 use Rattle.floats.specs.Operators.{_+₆₄_, at}
 use Rattle.definition.specs.declared.IvectorInfo.{IvectorInfo}
 use Rattle.definition.specs.declared.IvectorOptions.{IvectorOptions}
@@ -27,7 +27,7 @@ use Rattle.definition.specs.declared.FrameWeight.{FrameWeight}
 use Rattle.definition.specs.Kaldi.{triangle}
 use Rattle.definition.specs.Model.{Model}
 use Rattle.definition.specs.Posteriors.{weighed, unweighted}
-use Rattle.definition.specs.Changes.{Change, Changes, insertChange, changed, reached, merged, Batch, batch}
+use Rattle.definition.specs.Changes.{Change, Changes, insertChange, changed, reached, merged, batch}
 use Rattle.definition.specs.Estimate.{Estimate, updated}
 use Rattle.definition.specs.Machine.{Machine, machine, accepted, allFrames, framesHeld, rowsHeld, framesReady, waitingRoom, forgotten, pushTests, changeTests, fetchTests, tests, after}
 use Rattle.definition.specs.Machine as K
@@ -35,15 +35,15 @@ use Rattle.definition.specs.Stream.{rising}
 use Rattle.definition.proofs.Agree.{Agree, Inside, updated-ext}
 use Rattle.definition.proofs.Lengths.{Long, updated-long}
 use Rattle.frame_views.specs.Ring.{ringAt, ringFrames}
-use Rattle.frame_views.specs.Waiting.{waitingIn, framesOf, weightsOf}
-use Rattle.frame_views.proofs.WaitingRooms.{waiting-over}
-use Rattle.frame_views.proofs.InOrder.{length-inserts, inserts-rising}
+use Rattle.delta_weights.specs.Waiting.{framesOf, weightsOf}
+use Rattle.delta_weights.proofs.WaitingRooms.{waiting-over}
+use Rattle.delta_weights.proofs.InOrder.{length-inserts, inserts-rising}
 use Rattle.frame_views.proofs.Pushed.{pushed-agrees}
-use Rattle.ivector_stream.specs.Rooms.{Tables, modelIn, Rooms, roomLengthsOf, framesIn, changesIn, estimateIn}
-use Rattle.ivector_stream.specs.Calls.{withAccepted, withChanges, pushedFrames, pushedRows, overFrames, overWeights, forgetMark, catchesUp, fetchEstimate, fetchChanges, fetchStream, fetchRooms}
-use Rattle.keeping.specs.Keeping.{Given, push, finish, change, forget, fetch, callOf, Program, program, withRings, withWaiting, leaves}
-use Rattle.limits.proofs.Ranges.{Fitting, fitting}
-use Rattle.keeping.proofs.Facts.{Ranges, ranges}
+use Rattle.ivector_stream.specs.Rooms.{Tables, modelIn, Rooms, roomLengthsOf, framesIn, changesIn}
+use Rattle.ivector_stream.specs.Calls.{withAccepted, withChanges, pushedFrames, pushedRows, overFrames, overWeights, forgetMark, fetchEstimate, fetchChanges, fetchStream, fetchRooms}
+use Rattle.keeping.specs.Keeping.{Given, push, finish, change, forget, fetch, callOf, program, withRings, withWaiting, leaves}
+use Rattle.limits.proofs.Ranges.{fitting}
+use Rattle.keeping.proofs.Facts.{ranges}
 use Rattle.keeping.proofs.Waiting.{inserts-none, those-rising, those-none, lowest-first, lowest-at, Each, merged-each, those-each}
 use Rattle.keeping.proofs.Sound.{streamOf, Made, Inv, held-are}
 

@@ -1,22 +1,20 @@
 -- Waiting changes: that they stay in order and above the mark, and which frames a batch has.
-use mathlib.Core.Path.{_≡_, refl, sym, ap, _∙_}
-use Prim.Native.Nat.{ℕ, zero, suc, _+_, _-_, _≤_, _<_, min}
+use mathlib.Core.Path.{_≡_, refl}
+use Prim.Native.Nat.{ℕ, zero, suc, _-_, _≤_, _<_, min}
 use native.Mathlib.Nat.{not-suc-le-zero}
 use native.Mathlib.Omega.{arith}
 use mathlib.Core.Bool.{Bool, true, false}
-use mathlib.Core.List.{List, [], _∷_, map, foldl}
-use lib.ListN.{length, take, getD, length-map, List·getD-map}
-use lib.Dec.{leb, ltb, eqb}
-use borrow.Author.Tests.{leb-true, leb-false, le-leb, eqb-true}
+use mathlib.Core.List.{List, [], _∷_, foldl}
+use lib.ListN.{length, getD}
+use lib.Dec.{leb, eqb}
+use borrow.Author.Tests.{leb-true, le-leb}
 use lib.Ieee.{Float, nan}
-use Rattle.loops.specs.Lists.{if_then_else_, build, those, anyOf, over}
+use Rattle.loops.specs.Lists.{those, anyOf}
 use Rattle.loops.proofs.Choose.{by-test, and-holds, and-both, or-fails, or-none}
-use Rattle.loops.proofs.Build.{length-build, build-ext, build-take, build-list, map-build}
-use Rattle.loops.proofs.Fill.{over-at}
-use Rattle.floats.specs.Operators.{at, _+₃₂_}
+use Rattle.floats.specs.Operators.{at}
 use Rattle.definition.specs.Changes.{Change, insertChange, mergedFrom, merged}
 use Rattle.definition.specs.Stream.{rising}
-use Rattle.frame_views.specs.Waiting.{framesOf}
+use Rattle.delta_weights.specs.Waiting.{framesOf}
 
 -- ---- in order
 

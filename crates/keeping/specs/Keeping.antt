@@ -1,7 +1,6 @@
 -- The claim over every list of calls: the program's answers are the keeping machine's.
 use mathlib.Core.Path.{_≡_}
 use Prim.Native.Nat.{ℕ, _+_}
-use mathlib.Core.Bool.{Bool}
 use mathlib.Core.List.{List, [], _∷_, map}
 use lib.ListN.{length}
 use lib.Ieee.{Float}
@@ -9,7 +8,6 @@ use Rattle.loops.specs.Lists.{over}
 use Rattle.loops.specs.Refusal.{taken}
 use Rattle.definition.specs.declared.IvectorInfo.{IvectorInfo}
 use Rattle.definition.specs.declared.IvectorStream.{IvectorStream}
-use Rattle.definition.specs.declared.StreamAnswer.{StreamAnswer}
 use Rattle.definition.specs.declared.NewStream.the-variants as N
 use Rattle.definition.specs.Changes.{Changes, changed}
 use Rattle.definition.specs.Machine.{Call, Answer, answers}

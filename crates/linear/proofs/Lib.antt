@@ -1,5 +1,2 @@
-pub mod Packing
-mod Rooms
-mod Rows
 mod Cells
 mod Turns

@@ -177,9 +177,12 @@ module _ {A : Type 0} where
   over-self d n room h = sym (over-take n room h (build-take d n room h))
 
   -- `&mut room[..n]`, lent and come back
-  pub over-back : (n : ℕ) (xs room : List A) → length xs ≡ n → xs ++ drop n room ≡ over xs room
+  pub lent-over : (n : ℕ) (room xs : List A) → length xs ≡ n → {ys : List A} → xs ≡ ys → xs ++ drop n room ≡ over ys room
   unfolding over
-  over-back n xs room e = ap (λ (k : ℕ). xs ++ drop k room) (sym e)
+  lent-over n room xs e h = ap (λ (k : ℕ). xs ++ drop k room) (sym e) ∙ ap (λ (l : List A). over l room) h
+
+  pub lent-length : (n : ℕ) (room xs : List A) → length xs ≡ n → n ≤ length room → length (xs ++ drop n room) ≡ length room
+  lent-length n room xs e l = simp (length-append, length-drop) (omega arith)
 
   -- ---- put: a list from place a on
 

@@ -1,6 +1,5 @@
 -- What a call of each kind leaves, from its function's contract.
 use mathlib.Core.Path.{_≡_, refl, sym, ap, subst, _∙_}
-use mathlib.Core.Bool.{Bool, true, false}
 use mathlib.Core.List.{List, []}
 use Prim.Native.Nat.{ℕ, zero, suc, _+_, _≤_}
 use native.Mathlib.Omega.{arith}
@@ -9,7 +8,7 @@ use lib.Seq.{take-length}
 use lib.Dec.{eqb}
 use lib.Ieee.{Float}
 use borrow.Author.Tests.{eq-eqb, ne-eqb}
-use Rattle.loops.specs.Lists.{if_then_else_, over}
+use Rattle.loops.specs.Lists.{over}
 use Rattle.loops.specs.Refusal.{taken}
 use Rattle.loops.proofs.Choose.{choose-same, choose-map}
 use Rattle.definition.specs.declared.IvectorStream.{IvectorStream}
@@ -19,10 +18,9 @@ use Rattle.definition.specs.declared.StreamCall.{StreamCall}
 use Rattle.definition.specs.Changes.{Changes, changed}
 use Rattle.definition.specs.Machine.{Answer}
 use Rattle.definition.specs.Stream.{sameRings}
-use Rattle.ivector_stream.specs.Rooms.{Tables, tableLengthsOf, Rooms, roomLengthsOf, changesIn}
+use Rattle.ivector_stream.specs.Rooms.{Tables, tableLengthsOf, Rooms, roomLengthsOf, changesIn, rooms}
 use Rattle.ivector_stream.specs.Calls.{answerOf, callOf, withAccepted, withFinished, withMark, withChanges, pushRefusal, pushedFrames, pushedRows, plainRefusal, changeRefusal, overFrames, overWeights, forgetMark, fetchRefusal, fetchStream, fetchVector, fetchRooms, bitsOf, notFinite}
 use Rattle.ivector_stream.specs.Lent.{ringsOf}
-use Rattle.ivector_fetch.specs.Steps.{tables, rooms}
 use Rattle.keeping.specs.Keeping.{Given, push, finish, change, forget, fetch, Program, program, withRings, withWaiting, refusalOf, leaves, outputOf, badOf, replyOf}
 use Rattle.run_calls.specs.declared.Step.{Step}
 use Rattle.run_calls.specs.Listed.{given, after}

@@ -6,12 +6,10 @@ use native.Mathlib.Omega.{arith}
 use lib.ListN.{length, getD, take, drop, replicate, drop-of-length-le}
 use lib.Ieee.{Float}
 use Rattle.loops.specs.Lists.{build}
-use Rattle.loops.specs.Refusal.{taken}
 use Rattle.loops.specs.Steps.{put}
 use Rattle.loops.proofs.Build.{length-build, at-build}
 use Rattle.loops.proofs.Parts.{drop-next}
 use Rattle.definition.specs.Machine.{Answer}
-use Rattle.definition.specs.declared.StreamAnswer.{StreamAnswer}
 use Rattle.ivector_stream.specs.Rooms.{Tables, Rooms}
 use Rattle.keeping.specs.Keeping.{Given, finish, Program, program, programAnswers}
 use Rattle.run_calls.specs.declared.Step.{Step}

@@ -1,11 +1,10 @@
 -- What a run leaves, by its three ways out.
-use mathlib.Core.Path.{_≡_, refl, sym, ap, _∙_}
+use mathlib.Core.Path.{_≡_, sym, ap, _∙_}
 use mathlib.Core.List.{List, map}
 use Prim.Native.Nat.{ℕ, zero, suc, _*_, _/_, _≤_, _<_}
 use native.Mathlib.Nat.{div-mul-le-self, mul-le-mul-right}
 use native.Mathlib.Omega.{arith}
 use borrow.Author.Tests.{lt-ltb, le-ltb, ltb-false}
-use lib.ListN.{length}
 use lib.Ieee.{Float}
 use Rattle.loops.specs.Refusal.{taken}
 use Rattle.loops.proofs.Refusal.{taken-new, taken-old, first-is, first-none, none-first}
@@ -14,10 +13,9 @@ use Rattle.definition.specs.declared.IvectorStream.{IvectorStream}
 use Rattle.definition.specs.declared.NewStream.{NewStream}
 use Rattle.definition.specs.declared.NewStream.the-variants as N
 use Rattle.definition.specs.Machine.{answers}
-use Rattle.ivector_stream.specs.Rooms.{Tables, tableLengthsOf, modelIn, Rooms, roomLengthsOf}
+use Rattle.ivector_stream.specs.Rooms.{Tables, tableLengthsOf, modelIn, Rooms, roomLengthsOf, rooms}
 use Rattle.ivector_stream.specs.Calls.{newRefusal, freshStream, newAnswer, freshRooms}
-use Rattle.ivector_fetch.specs.Steps.{rooms}
-use Rattle.keeping.specs.Keeping.{Given, callOf, Program, program, programAnswers}
+use Rattle.keeping.specs.Keeping.{Given, callOf, program, programAnswers}
 use Rattle.keeping.proofs.Keeps.{made-stream, keeps}
 use Rattle.run_calls.specs.Listed.{afterAll, roomsAfter, Written, writes, listTests, listRefusal, runRefusal}
 

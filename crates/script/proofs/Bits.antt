@@ -1,5 +1,5 @@
 -- Patterns that are read as floats.
-use mathlib.Core.Path.{_≡_, sym, subst, _∙_}
+use mathlib.Core.Path.{sym, subst, _∙_}
 use mathlib.Core.Bool.{Bool, not}
 use Prim.Native.Nat.{ℕ, _*_, _%_, _≤_}
 use borrow.Author.Tests.{le-ltb}

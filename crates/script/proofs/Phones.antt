@@ -1,5 +1,5 @@
 -- A phone below zero is taken from zero.
-use mathlib.Core.Path.{_≡_, sym, subst}
+use mathlib.Core.Path.{sym, subst}
 use mathlib.Core.Bool.{Bool, true, false, cond}
 use Prim.Native.Nat.{ℕ, zero, suc, _-_, _^_, _%_, _<_}
 use native.Mathlib.Omega.{arith}

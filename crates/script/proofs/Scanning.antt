@@ -1,6 +1,6 @@
 -- Digits, numbers and lines, byte by byte.
 use Prim.Native.Nat.{ℕ, _+_, _-_, _*_, _/_, _^_, _≤_, _<_}
-use mathlib.Core.Path.{_≡_, refl, sym, _∙_}
+use mathlib.Core.Path.{_≡_, sym, _∙_}
 use mathlib.Core.List.{List}
 use native.Mathlib.Nat.{mul-le-mul-right, div-mul-le-self, div-lt-iff-lt-mul}
 use native.Mathlib.Omega.{arith}

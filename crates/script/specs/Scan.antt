@@ -1,6 +1,6 @@
 -- Numbers and lines of a script: a line is a letter and tokens, parted by one space each, and ends with byte 10.
 use Prim.Native.Nat.{ℕ, _+_, _-_, _*_, _^_}
-use mathlib.Core.Bool.{Bool, _&&_}
+use mathlib.Core.Bool.{_&&_}
 use mathlib.Core.List.{List, [], _∷_}
 use lib.Dec.{eqb, leb, ltb}
 use Rattle.loops.specs.Lists.{if_then_else_}

@@ -1,5 +1,5 @@
 use borrow.Author.Needs.{needs}
-use mathlib.Core.Path.{sym, ap, _∙_}
+use mathlib.Core.Path.{ap, _∙_}
 use Rattle.exports.specs.Answers.{loadAnswer}
 use Rattle.exports.proofs.shofrakin_load.Statement.{statement}
 use Rattle.exports.proofs.shofrakin_load.Tie as tie

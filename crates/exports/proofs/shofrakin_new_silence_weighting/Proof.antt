@@ -1,5 +1,5 @@
 use borrow.Author.Needs.{needs}
-use mathlib.Core.Path.{sym, ap, _∙_}
+use mathlib.Core.Path.{ap, _∙_}
 use Rattle.exports.specs.Answers.{newTableAnswer}
 use Rattle.exports.proofs.shofrakin_new_silence_weighting.Statement.{statement}
 use Rattle.exports.proofs.shofrakin_new_silence_weighting.Tie as tie

@@ -1,10 +1,7 @@
 use borrow.Author.Needs.{needs}
-use mathlib.Core.Path.{_≡_, refl, sym, ap, _∙_}
 use mathlib.Core.Bool.{not}
-use Prim.Native.Nat.{ℕ, _+_, _-_, _≤_, _<_}
-use native.Mathlib.Omega.{arith}
-use lib.ListN.{length, length-set}
-use lib.Ieee.{binary32, toBits, isNan}
+use Prim.Native.Nat.{_-_}
+use lib.Ieee.{isNan}
 use Rattle.floats.proofs.Patterns.{no-nan, false-not}
 use Rattle.ivector_fetch.proofs.Vector.{nan-bits}
 use Rattle.ivector_fetch.proofs.bits.Statement.{statement}

@@ -1,12 +1,7 @@
-use borrow.Author.Needs.{needs}
-use mathlib.Core.Path.{_≡_, refl, sym, ap, subst, _∙_}
-use Prim.Native.Nat.{ℕ, _+_, _-_, _≤_, _<_}
-use native.Mathlib.Omega.{arith}
+use Prim.Native.Nat.{_-_}
 use lib.ListN.{length}
-use Rattle.definition.specs.declared.IvectorStream.{IvectorStream}
-use Rattle.ivector_stream.specs.Rooms.{Tables, tableLengthsOf, Rooms, roomLengthsOf}
-use Rattle.ivector_fetch.specs.Steps.{tables, rooms}
-use Rattle.ivector_fetch.proofs.Refusals.{FetchTaken, fetch-taken, fetch-few, fetch-roomy}
+use Rattle.ivector_stream.specs.Rooms.{Tables, tableLengthsOf, Rooms, roomLengthsOf, tables, rooms}
+use Rattle.ivector_fetch.proofs.Refusals.{FetchTaken, fetch-taken}
 use Rattle.ivector_fetch.proofs.Fetched.{stream-same, frames-same, weights-same, cmvn-same, linear-same, quadratic-same, current-same}
 use Rattle.ivector_fetch.proofs.bring_up.Statement.{statement}
 use Rattle.ivector_fetch.proofs.bring_up.Tie as tie

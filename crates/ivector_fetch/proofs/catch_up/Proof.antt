@@ -1,12 +1,8 @@
-use borrow.Author.Needs.{needs}
-use mathlib.Core.Path.{_≡_, refl, sym, ap, subst, _∙_}
-use Prim.Native.Nat.{ℕ, _+_, _-_, _≤_, _<_}
+use Prim.Native.Nat.{_-_}
 use native.Mathlib.Omega.{arith}
 use lib.ListN.{length}
-use Rattle.definition.specs.declared.IvectorStream.{IvectorStream}
-use Rattle.ivector_stream.specs.Rooms.{Tables, tableLengthsOf, Rooms, roomLengthsOf}
-use Rattle.ivector_fetch.specs.Steps.{tables, rooms}
-use Rattle.ivector_fetch.proofs.Refusals.{FetchTaken, fetch-taken, fetch-few, fetch-roomy}
+use Rattle.ivector_stream.specs.Rooms.{Tables, tableLengthsOf, Rooms, roomLengthsOf, tables, rooms}
+use Rattle.ivector_fetch.proofs.Refusals.{FetchTaken, fetch-taken, fetch-roomy}
 use Rattle.ivector_fetch.proofs.Fetched.{frames-in, weights-in, early-at, stream-up, frames-up, weights-up, cmvn-up, linear-up, quadratic-up, current-up}
 use Rattle.ivector_fetch.proofs.catch_up.Statement.{statement}
 use Rattle.ivector_fetch.proofs.catch_up.Tie as tie

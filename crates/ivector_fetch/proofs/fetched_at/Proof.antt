@@ -1,9 +1,5 @@
 use borrow.Author.Needs.{needs}
-use mathlib.Core.Path.{_≡_, refl, sym, ap, _∙_}
-use mathlib.Core.Bool.{not}
-use Prim.Native.Nat.{ℕ, _+_, _-_, _≤_, _<_}
-use native.Mathlib.Omega.{arith}
-use lib.ListN.{length, length-set}
+use Prim.Native.Nat.{_-_}
 use Rattle.ivector_fetch.proofs.Vector.{first-element, later-element}
 use Rattle.ivector_fetch.proofs.fetched_at.Statement.{statement}
 use Rattle.ivector_fetch.proofs.fetched_at.Tie as tie

@@ -1,12 +1,10 @@
 use borrow.Author.Needs.{needs}
 use mathlib.Core.Path.{_≡_, refl, sym, ap, subst, _∙_}
-use Prim.Native.Nat.{ℕ, _+_, _-_, _≤_, _<_}
+use Prim.Native.Nat.{ℕ, _-_}
 use native.Mathlib.Omega.{arith}
 use lib.ListN.{length}
-use Rattle.definition.specs.declared.IvectorStream.{IvectorStream}
-use Rattle.ivector_stream.specs.Rooms.{Tables, tableLengthsOf, Rooms, roomLengthsOf}
-use Rattle.ivector_fetch.specs.Steps.{tables, rooms}
-use Rattle.ivector_fetch.proofs.Refusals.{FetchTaken, fetch-taken, fetch-few, fetch-roomy}
+use Rattle.ivector_stream.specs.Rooms.{Tables, tableLengthsOf, Rooms, roomLengthsOf, tables, rooms}
+use Rattle.ivector_fetch.proofs.Refusals.{FetchTaken, fetch-taken, fetch-few}
 use Rattle.ivector_stream.specs.Calls.{fetchRefusal, bitsOf, notFinite}
 use Rattle.loops.specs.Lists.{over}
 use lib.Ieee.{Float}

@@ -1,9 +1,5 @@
-use borrow.Author.Needs.{needs}
-use mathlib.Core.Path.{_≡_, refl, sym, ap, _∙_}
 use mathlib.Core.Bool.{not}
-use Prim.Native.Nat.{ℕ, _+_, _-_, _≤_, _<_}
-use native.Mathlib.Omega.{arith}
-use lib.ListN.{length, length-set}
+use Prim.Native.Nat.{_-_}
 use Rattle.ivector_fetch.proofs.Refusals.{known-in, not-called, by-highest}
 use Rattle.ivector_fetch.proofs.unreached.Statement.{statement}
 use Rattle.ivector_fetch.proofs.unreached.Tie as tie

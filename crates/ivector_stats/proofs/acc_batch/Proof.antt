@@ -9,7 +9,7 @@ use Rattle.loops.proofs.Parts.{length-lent}
 use Rattle.floats.specs.Operators.{_+₆₄_, zero₆₄, at, sum₆₄}
 use Rattle.ivector_stats.specs.Steps.{linearOver, quadraticOver}
 use Rattle.ivector_stats.proofs.Gaussians.{linear-none, linear-turn, quadratic-none, quadratic-turn}
-use Rattle.ivector_stats.proofs.Places.{slot-sum}
+use Rattle.batch_sums.proofs.Places.{slot-sum}
 use Rattle.ivector_stats.proofs.acc_batch.Statement.{statement}
 use Rattle.ivector_stats.proofs.acc_batch.Tie as tie
 

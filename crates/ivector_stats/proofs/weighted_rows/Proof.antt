@@ -9,7 +9,7 @@ use Rattle.loops.proofs.Cells.{row-in}
 use Rattle.loops.proofs.Columns.{columns-end}
 use Rattle.loops.proofs.Parts.{length-lent}
 use Rattle.floats.specs.Operators.{_+₆₄_, _*₆₄_, zero₆₄, at, sum₆₄}
-use Rattle.ivector_stats.proofs.Rows.{rows-none, rows-turn}
+use Rattle.batch_sums.proofs.Rows.{rows-none, rows-turn}
 use Rattle.ivector_stats.proofs.weighted_rows.Statement.{statement}
 use Rattle.ivector_stats.proofs.weighted_rows.Tie as tie
 

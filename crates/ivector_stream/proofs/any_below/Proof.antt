@@ -1,7 +1,7 @@
 -- `ivector_stream::any_below` meets its contract. Assumes nothing.
 use borrow.Author.Needs.{needs}
 use Prim.Native.Nat.{_≤_, _-_}
-use mathlib.Core.Path.{_≡_, refl, sym, ap, _∙_}
+use mathlib.Core.Path.{_≡_, refl}
 use lib.ListN.{length, drop}
 use native.Mathlib.Omega.{arith}
 use Rattle.loops.specs.Lists.{anyOf}

@@ -4,7 +4,7 @@ use Prim.Native.Nat.{_+_, _≤_}
 use native.Mathlib.Omega.{arith}
 use native.Mathlib.Nat.{mul-le-mul}
 use lib.Seq.{length-take-le}
-use Rattle.ivector_stream.proofs.Stored.{lent-over, lent-length}
+use Rattle.loops.proofs.Fill.{lent-over, lent-length}
 use Rattle.definition.specs.Kaldi.{triangle}
 use Rattle.ivector_stream.proofs.fresh_estimate.Statement.{statement}
 use Rattle.ivector_stream.proofs.fresh_estimate.Tie as tie

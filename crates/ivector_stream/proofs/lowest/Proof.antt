@@ -1,12 +1,7 @@
 -- `ivector_stream::lowest` meets its contract. Assumes nothing.
 use borrow.Author.Needs.{needs}
-use mathlib.Core.Path.{sym, ap, _∙_}
-use mathlib.Core.List.{List, foldl}
-use Prim.Native.Nat.{ℕ, min}
 use native.Mathlib.Omega.{arith}
 use lib.ListN.{take}
-use lib.Seq.{length-take-le, getD-take}
-use Rattle.limits.proofs.Ordered.{min-first}
 use Rattle.ivector_stream.proofs.Stored.{lowest-none, lowest-first}
 use Rattle.ivector_stream.proofs.lowest.Statement.{statement}
 use Rattle.ivector_stream.proofs.lowest.Tie as tie

@@ -6,8 +6,8 @@ use borrow.Author.Tests.{eq-eqb, ne-eqb}
 use Rattle.loops.proofs.Refusal.{first-is, first-none}
 use Rattle.definition.specs.Machine.{framesHeld, rowsHeld, pushTests}
 use Rattle.ivector_stream.specs.Calls.{pushRefusal}
-use Rattle.ivector_stream.proofs.Records.{Passed, plain-passed, few, further, already}
-use Prim.Native.Nat.{ℕ, _+_, _*_, _≤_}
+use Rattle.ivector_stream.proofs.Records.{plain-passed, few, further, already}
+use Prim.Native.Nat.{_+_, _≤_}
 use native.Mathlib.Nat.{mul-le-mul}
 use Rattle.limits.proofs.Rows.{frames-few, rows-few, full-rows, more-rows}
 use Rattle.ivector_stream.proofs.push_refusal.Statement.{statement}

@@ -1,12 +1,9 @@
-use mathlib.Core.Path.{sym, ap, _∙_, subst}
-use mathlib.Core.List.{List}
+use mathlib.Core.Path.{sym, _∙_, subst}
 use Prim.Native.Nat.{ℕ}
 use lib.Seq.{length-take-le}
-use lib.Ieee.{Float}
 use Rattle.loops.specs.Lists.{over}
-use Rattle.loops.proofs.Fill.{over-back}
+use Rattle.loops.proofs.Fill.{lent-over, lent-length}
 use Rattle.kaldi_text.specs.Answers.{RowIn}
-use Rattle.ivector_tables.proofs.Rows.{front-length}
 use Rattle.ivector_tables.proofs.fill_global.Statement.{statement}
 use Rattle.ivector_tables.proofs.fill_global.Tie as tie
 
@@ -29,14 +26,14 @@ same-length c =
     let args = c .before .before .before .before .before .before .args in
     let fill-row = c .before .before .fill-row in
     let pre = c .before .before .before .before .before .before .pre in
-    front-length (args .len) (args .out .now) (fill-row .last .1 .1 .0) ((fill-row .kept .1 .1 .0) ∙ length-take-le _ _ (pre .1)) (pre .1)
+    lent-length (args .len) (args .out .now) (fill-row .last .1 .1 .0) ((fill-row .kept .1 .1 .0) ∙ length-take-le _ _ (pre .1)) (pre .1)
 
 returns : tie.Need-returns
 returns c =
     let fill-row = c .before .before .fill-row in
     let pre = c .before .before .before .before .before .before .pre in
     let args = c .before .before .before .before .before .before .args in
-    over-back _ _ _ ((fill-row .kept .1 .1 .0) ∙ length-take-le _ _ (pre .1)) ∙ ap (λ (l : List Float). over l (args .out .now)) (fill-row .ensures)
+    lent-over _ _ _ ((fill-row .kept .1 .1 .0) ∙ length-take-le _ _ (pre .1)) (fill-row .ensures)
 
 pub fill-global-spec : {M : Type 1} → statement M
 fill-global-spec =

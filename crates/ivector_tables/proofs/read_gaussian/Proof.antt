@@ -11,7 +11,8 @@ use Rattle.definition.specs.Reader.{numbers}
 use Rattle.definition.specs.Kaldi.{triangle}
 use Rattle.kaldi_io.specs.Answers.{Ready}
 use Rattle.ivector_tables.proofs.Gmm.{few}
-use Rattle.ivector_tables.proofs.Rows.{front-length, first-part, second-part}
+use Rattle.loops.proofs.Fill.{lent-length}
+use Rattle.ivector_tables.proofs.Rows.{first-part, second-part}
 use Rattle.ivector_tables.proofs.read_gaussian.Statement.{statement}
 use Rattle.ivector_tables.proofs.read_gaussian.Tie as tie
 
@@ -56,7 +57,7 @@ mul-fill-f64s c =
     let args = c .before .before .before .before .before .before .args in
     let fill-f64s = c .before .before .fill-f64s in
     let pre = c .before .before .before .before .before .before .pre in
-    omega (arith, front-length (triangle (args .d)) (args .scratch .now) (fill-f64s .last .1 .1 .0) ((fill-f64s .kept .1 .1 .0) ∙ (length-take-le (triangle (args .d)) (args .scratch .now) (omega (arith, (pre .1 .1 .2))))) (omega (arith, (pre .1 .1 .2))))
+    omega (arith, lent-length (triangle (args .d)) (args .scratch .now) (fill-f64s .last .1 .1 .0) ((fill-f64s .kept .1 .1 .0) ∙ (length-take-le (triangle (args .d)) (args .scratch .now) (omega (arith, (pre .1 .1 .2))))) (omega (arith, (pre .1 .1 .2))))
 
 sub-fill-f64s : tie.Need-sub-fill-f64s
 sub-fill-f64s c = omega arith
@@ -69,14 +70,14 @@ part-fill-f64s-end c =
     let args = c .before .before .before .before .before .before .args in
     let fill-f64s = c .before .before .fill-f64s in
     let pre = c .before .before .before .before .before .before .pre in
-    omega (arith, front-length (triangle (args .d)) (args .scratch .now) (fill-f64s .last .1 .1 .0) ((fill-f64s .kept .1 .1 .0) ∙ (length-take-le (triangle (args .d)) (args .scratch .now) (omega (arith, (pre .1 .1 .2))))) (omega (arith, (pre .1 .1 .2))), (pre .1 .1 .2))
+    omega (arith, lent-length (triangle (args .d)) (args .scratch .now) (fill-f64s .last .1 .1 .0) ((fill-f64s .kept .1 .1 .0) ∙ (length-take-le (triangle (args .d)) (args .scratch .now) (omega (arith, (pre .1 .1 .2))))) (omega (arith, (pre .1 .1 .2))), (pre .1 .1 .2))
 
 fill-f64s-requires-2 : tie.Need-fill-f64s-requires-2
 fill-f64s-requires-2 c κs =
     let args = c .before .before .before .before .before .before .before .args in
     let fill-f64s = c .before .before .before .fill-f64s in
     let pre = c .before .before .before .before .before .before .before .pre in
-    subst (λ (k : ℕ). Ready binary64 k (args .s .now) (args .m)) (sym (length-lent (triangle (args .d)) ((args .d) * (args .n)) ((triangle (args .d)) + (args .d) * (args .n)) ((fill-f64s .last .1 .1 .0) ++ drop (triangle (args .d)) (args .scratch .now)) refl (omega (arith, front-length (triangle (args .d)) (args .scratch .now) (fill-f64s .last .1 .1 .0) ((fill-f64s .kept .1 .1 .0) ∙ (length-take-le (triangle (args .d)) (args .scratch .now) (omega (arith, (pre .1 .1 .2))))) (omega (arith, (pre .1 .1 .2))), (pre .1 .1 .2))))) (pre .0)
+    subst (λ (k : ℕ). Ready binary64 k (args .s .now) (args .m)) (sym (length-lent (triangle (args .d)) ((args .d) * (args .n)) ((triangle (args .d)) + (args .d) * (args .n)) ((fill-f64s .last .1 .1 .0) ++ drop (triangle (args .d)) (args .scratch .now)) refl (omega (arith, lent-length (triangle (args .d)) (args .scratch .now) (fill-f64s .last .1 .1 .0) ((fill-f64s .kept .1 .1 .0) ∙ (length-take-le (triangle (args .d)) (args .scratch .now) (omega (arith, (pre .1 .1 .2))))) (omega (arith, (pre .1 .1 .2))), (pre .1 .1 .2))))) (pre .0)
 
 same-length : tie.Need-same-length
 same-length c =
@@ -84,7 +85,7 @@ same-length c =
     let fill-f64s = c .before .before .before .before .before .before .fill-f64s in
     let fill-f64s2 = c .before .before .fill-f64s2 in
     let pre = c .before .before .before .before .before .before .before .before .before .before .pre in
-    same-len-mid (triangle (args .d)) (((triangle (args .d)) + (args .d) * (args .n)) - (triangle (args .d))) ((fill-f64s .last .1 .1 .0) ++ drop (triangle (args .d)) (args .scratch .now)) (fill-f64s2 .last .1 .1 .0) (fill-f64s2 .kept .1 .1 .0) ∙ front-length (triangle (args .d)) (args .scratch .now) (fill-f64s .last .1 .1 .0) ((fill-f64s .kept .1 .1 .0) ∙ (length-take-le (triangle (args .d)) (args .scratch .now) (omega (arith, (pre .1 .1 .2))))) (omega (arith, (pre .1 .1 .2)))
+    same-len-mid (triangle (args .d)) (((triangle (args .d)) + (args .d) * (args .n)) - (triangle (args .d))) ((fill-f64s .last .1 .1 .0) ++ drop (triangle (args .d)) (args .scratch .now)) (fill-f64s2 .last .1 .1 .0) (fill-f64s2 .kept .1 .1 .0) ∙ lent-length (triangle (args .d)) (args .scratch .now) (fill-f64s .last .1 .1 .0) ((fill-f64s .kept .1 .1 .0) ∙ (length-take-le (triangle (args .d)) (args .scratch .now) (omega (arith, (pre .1 .1 .2))))) (omega (arith, (pre .1 .1 .2)))
 
 returns : tie.Need-returns
 returns c =
@@ -97,7 +98,7 @@ returns c =
     let xs = (fill-f64s .last .1 .1 .0) in
     let one = (length-take-le (triangle (args .d)) (args .scratch .now) (omega (arith, (pre .1 .1 .2)))) in
     let long = (fill-f64s .kept .1 .1 .0) ∙ one in
-    let two = length-lent t ((args .d) * (args .n)) e (xs ++ drop t (args .scratch .now)) refl (omega (arith, front-length t (args .scratch .now) xs long (omega (arith, (pre .1 .1 .2))), (pre .1 .1 .2))) in
+    let two = length-lent t ((args .d) * (args .n)) e (xs ++ drop t (args .scratch .now)) refl (omega (arith, lent-length t (args .scratch .now) xs long (omega (arith, (pre .1 .1 .2))), (pre .1 .1 .2))) in
     let ys = (fill-f64s2 .last .1 .1 .0) in
     let there : length ys ≡ e - t = (fill-f64s2 .kept .1 .1 .0) ∙ two ∙ omega arith in (
       first-part t ((args .d) * (args .n)) e (args .scratch .now) xs ys refl long there ∙ (fill-f64s .ensures) ∙ ap (λ (k : ℕ). numbers binary64 k (drop (args .sigma-inv) (args .s .now))) one,

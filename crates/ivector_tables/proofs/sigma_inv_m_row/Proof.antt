@@ -8,7 +8,7 @@ use Rattle.loops.proofs.Cells.{row-in}
 use Rattle.loops.proofs.Parts.{length-lent}
 use Rattle.floats.specs.Operators.{_*₆₄_, zero₆₄, at, sum₆₄}
 use Rattle.definition.specs.Model.{packed}
-use Rattle.linear.proofs.Packing.{packed-below}
+use Rattle.packed_matrix.proofs.Packing.{packed-below}
 use Rattle.ivector_tables.proofs.Rows.{scaled-none, scaled-turn, scaled-end}
 use Rattle.ivector_tables.proofs.sigma_inv_m_row.Statement.{statement}
 use Rattle.ivector_tables.proofs.sigma_inv_m_row.Tie as tie

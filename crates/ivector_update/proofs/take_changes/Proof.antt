@@ -1,12 +1,11 @@
 use borrow.Author.Needs.{needs}
-use borrow.Author.Needs.{scaled-fits}
 use mathlib.Core.Path.{_≡_, refl, sym, subst, _∙_}
-use Prim.Native.Nat.{ℕ, _+_, _-_, _≤_, _<_}
+use Prim.Native.Nat.{ℕ, _-_, _≤_, _<_}
 use native.Mathlib.Omega.{arith}
 use lib.ListN.{length, drop}
 use Rattle.frame_views.specs.Ring.{ringFrames}
-use Rattle.frame_views.specs.Waiting.{waitingIn}
-use Rattle.ivector_stats.specs.Steps.{Slots}
+use Rattle.delta_weights.specs.Waiting.{waitingIn}
+use Rattle.batch_sums.specs.Batch.{Slots}
 use Rattle.ivector_update.specs.Steps.{viewModel, changesBatch, Partway}
 use Rattle.ivector_update.proofs.Changed.{left-all, left-none, left-less, group-at, group-none}
 use Rattle.ivector_update.proofs.take_changes.Statement.{statement}

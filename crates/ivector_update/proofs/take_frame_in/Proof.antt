@@ -1,5 +1,4 @@
-use borrow.Author.Needs.{needs}
-use mathlib.Core.Path.{sym, _∙_}
+use mathlib.Core.Path.{_∙_}
 use native.Mathlib.Omega.{arith}
 use Rattle.ivector_update.proofs.take_frame_in.Statement.{statement}
 use Rattle.ivector_update.proofs.take_frame_in.Tie as tie

@@ -1,12 +1,12 @@
 use borrow.Author.Needs.{needs}
-use mathlib.Core.Path.{_≡_, refl, sym, _∙_}
-use Prim.Native.Nat.{_+_, _-_, _≤_}
+use mathlib.Core.Path.{_≡_, refl, _∙_}
+use Prim.Native.Nat.{_-_, _≤_}
 use native.Mathlib.Omega.{arith}
 use lib.ListN.{length}
 use Rattle.definition.specs.Estimate.{entries}
 use Rattle.frame_views.specs.Ring.{ringFrames}
-use Rattle.ivector_stats.specs.Steps.{Slots, Sums}
-use Rattle.ivector_stats.proofs.Batches.{sums-none, sums-on}
+use Rattle.batch_sums.specs.Batch.{Slots, Sums}
+use Rattle.batch_sums.proofs.Batches.{sums-none, sums-on}
 use Rattle.ivector_update.specs.Steps.{viewModel, run}
 use Rattle.ivector_update.proofs.Turns.{run-state-none, run-gained-none, run-state, run-gained, run-state-all, run-gained-all}
 use Rattle.ivector_update.proofs.take_run.Statement.{statement}

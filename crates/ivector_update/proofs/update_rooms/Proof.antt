@@ -1,10 +1,10 @@
-use borrow.Author.Needs.{needs}
-use mathlib.Core.Path.{_≡_, refl, sym, ap, _∙_}
-use Prim.Native.Nat.{ℕ, _+_, _*_, _≤_, _<_}
+use mathlib.Core.Path.{sym, _∙_}
+use Prim.Native.Nat.{_+_}
 use native.Mathlib.Omega.{arith}
 use lib.Seq.{length-take-le}
 use Rattle.definition.specs.Kaldi.{triangle}
-use Rattle.ivector_update.proofs.Rooms.{lent-over, lent-length, sizes, ready, lent, solvable, cmvn-is, count-is, linear-is, quadratic-is, current-is}
+use Rattle.loops.proofs.Fill.{lent-over, lent-length}
+use Rattle.ivector_update.proofs.Rooms.{sizes, ready, lent, solvable, cmvn-is, count-is, linear-is, quadratic-is, current-is}
 use Rattle.ivector_update.proofs.update_rooms.Statement.{statement}
 use Rattle.ivector_update.proofs.update_rooms.Tie as tie
 

@@ -1,4 +1,3 @@
-use borrow.Author.Needs.{needs}
 use lib.Ieee.{binary64}
 use Rattle.script.proofs.Bits.{pattern-ok}
 use Rattle.leaves.proofs.double.Statement.{statement}

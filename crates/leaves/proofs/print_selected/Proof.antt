@@ -1,7 +1,5 @@
 use borrow.Author.Needs.{needs}
-use mathlib.Core.Path.{_≡_}
 use Prim.Native.Nat.{_-_, _≤_}
-use lib.ListN.{length}
 use Rattle.leaves.proofs.print_selected.Statement.{statement}
 use Rattle.leaves.proofs.print_selected.Tie as tie
 

@@ -1,7 +1,5 @@
 use borrow.Author.Needs.{needs}
-use mathlib.Core.Path.{_≡_}
-use Prim.Native.Nat.{_-_, _≤_}
-use lib.ListN.{length}
+use Prim.Native.Nat.{_-_}
 use Rattle.leaves.proofs.replay.Statement.{statement}
 use Rattle.leaves.proofs.replay.Tie as tie
 

@@ -9,7 +9,7 @@ use Rattle.definition.specs.Stream.{breaks, isBroken}
 use Rattle.limits.proofs.Listed.{holds, fails, lt-test, le-test}
 use Rattle.limits.proofs.Ranges.{dim-ranges, info-sound}
 use Rattle.limits.proofs.Records.{waiting-last}
-use Prim.Native.Nat.{ℕ, _*_, _<_, _≤_}
+use Prim.Native.Nat.{_≤_}
 use native.Mathlib.Nat.{mul-le-mul}
 use Rattle.limits.proofs.Rows.{rows-under, rows-reach, frames-few, rows-few}
 use Rattle.limits.proofs.is_broken.Statement.{statement}

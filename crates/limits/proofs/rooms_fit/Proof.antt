@@ -9,7 +9,7 @@ use Rattle.loops.proofs.Tests.{at-fail}
 use Rattle.definition.specs.Stream.{fixedSizes, fixedLengths, roomsFit}
 use Rattle.limits.proofs.Listed.{all-last, pair-fail, pair-last}
 use Rattle.limits.proofs.Ranges.{dim-ranges, dim-products}
-use Prim.Native.Nat.{ℕ, _*_, _<_}
+use Prim.Native.Nat.{ℕ}
 use native.Mathlib.Nat.{one-mul}
 use Rattle.limits.proofs.Rows.{rows-under, rows-reach}
 use Rattle.limits.proofs.rooms_fit.Statement.{statement}

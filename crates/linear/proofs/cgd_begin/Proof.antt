@@ -1,5 +1,4 @@
 use borrow.Author.Needs.{needs}
-use native.Mathlib.Omega.{arith}
 use Rattle.linear.proofs.Turns.{begin-is}
 use Rattle.linear.proofs.cgd_begin.Statement.{statement}
 use Rattle.linear.proofs.cgd_begin.Tie as tie

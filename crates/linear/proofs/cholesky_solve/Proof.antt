@@ -1,5 +1,4 @@
 use borrow.Author.Needs.{needs}
-use native.Mathlib.Omega.{arith}
 use Rattle.linear.proofs.Cells.{solve-on, solve-off}
 use Rattle.linear.proofs.cholesky_solve.Statement.{statement}
 use Rattle.linear.proofs.cholesky_solve.Tie as tie

@@ -1,12 +1,11 @@
-use borrow.Author.Needs.{needs}
 use native.Mathlib.Omega.{arith}
-use mathlib.Core.Path.{_≡_, _∙_}
+use mathlib.Core.Path.{_≡_}
 use Prim.Native.Nat.{_≤_, _-_}
 use lib.ListN.{length}
-use Rattle.floats.specs.Operators.{_-₆₄_, zero₆₄, at}
+use Rattle.floats.specs.Operators.{_-₆₄_, at}
 use Rattle.loops.specs.Steps.{fill}
 use Rattle.loops.proofs.Fill.{fills}
-use Rattle.linear.proofs.Rooms.{filled}
+use Rattle.packed_matrix.proofs.Rooms.{filled}
 use Rattle.linear.proofs.difference.Statement.{statement}
 use Rattle.linear.proofs.difference.Tie as tie
 

@@ -1,5 +1,4 @@
 use borrow.Author.Needs.{needs}
-use native.Mathlib.Omega.{arith}
 use borrow.Author.Tests.{not-true, not-false}
 use Rattle.linear.proofs.Cells.{has-exact, has-none}
 use Rattle.linear.proofs.exact_or_start.Statement.{statement}

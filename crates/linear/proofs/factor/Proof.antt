@@ -1,10 +1,8 @@
-use borrow.Author.Needs.{needs}
 use mathlib.Core.Path.{_≡_, _∙_}
-use Prim.Native.Nat.{_≤_, _<_, _+_, _-_, _*_}
+use Prim.Native.Nat.{_≤_, _+_, _-_, _*_}
 use native.Mathlib.Omega.{arith}
 use lib.ListN.{length, set}
-use Rattle.floats.specs.Operators.{_+₆₄_, _-₆₄_, _*₆₄_, _/₆₄_, zero₆₄, at, sum₆₄}
-use Rattle.loops.specs.Loop.{iter}
+use Rattle.floats.specs.Operators.{at}
 use Rattle.loops.proofs.Loop.{loops}
 use mathlib.Core.Logic.{⊎-elim}
 use mathlib.Core.Bool.{Bool, true}
@@ -16,7 +14,7 @@ use Rattle.loops.proofs.Leave.{leaves, leave-none, leave-step, leave-end, leave
 use Rattle.loops.proofs.Cells.{row-in}
 use Rattle.definition.specs.Model.{packed}
 use Rattle.definition.specs.Solve.{lessProducts, cell, factor}
-use Rattle.linear.proofs.Packing.{packed-below}
+use Rattle.packed_matrix.proofs.Packing.{packed-below}
 use Rattle.linear.proofs.Cells.{less-none, less-next, less-end, cell-diagonal, cell-left, cell-beside}
 use Rattle.linear.proofs.factor.Statement.{statement}
 use Rattle.linear.proofs.factor.Tie as tie

@@ -1,5 +1,5 @@
 use borrow.Author.Needs.{needs}
-use mathlib.Core.Path.{ap, sym, _∙_}
+use mathlib.Core.Path.{ap, _∙_}
 use lib.ListN.{length}
 use native.Mathlib.Omega.{arith}
 use mathlib.Core.List.{List}

@@ -1,5 +1,4 @@
 use borrow.Author.Needs.{needs}
-use native.Mathlib.Omega.{arith}
 use Rattle.linear.proofs.Turns.{renew-far, renew-near}
 use Rattle.linear.proofs.recompute.Statement.{statement}
 use Rattle.linear.proofs.recompute.Tie as tie

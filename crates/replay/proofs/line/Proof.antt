@@ -1,4 +1,3 @@
-use borrow.Author.Needs.{needs}
 use mathlib.Core.Path.{refl, _∙_}
 use Rattle.replay.proofs.line.Statement.{statement}
 use Rattle.replay.proofs.line.Tie as tie

@@ -1,4 +1,3 @@
-use borrow.Author.Needs.{needs}
 use mathlib.Core.Path.{refl}
 use Rattle.replay.proofs.section.Statement.{statement}
 use Rattle.replay.proofs.section.Tie as tie

@@ -1,5 +1,5 @@
 use borrow.Author.Needs.{needs}
-use mathlib.Core.Path.{sym, _∙_}
+use mathlib.Core.Path.{sym}
 use lib.Seq.{length-take-le}
 use Rattle.replay_calls.proofs.fetch_line.Statement.{statement}
 use Rattle.replay_calls.proofs.fetch_line.Tie as tie

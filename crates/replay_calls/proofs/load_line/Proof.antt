@@ -1,4 +1,3 @@
-use borrow.Author.Needs.{needs}
 use Rattle.replay_calls.proofs.load_line.Statement.{statement}
 use Rattle.replay_calls.proofs.load_line.Tie as tie
 

@@ -1,7 +1,5 @@
 use borrow.Author.Needs.{needs}
-use mathlib.Core.Path.{_≡_}
 use Prim.Native.Nat.{_-_, _≤_}
-use lib.ListN.{length}
 use Rattle.replay_session.proofs.print_floats.Statement.{statement}
 use Rattle.replay_session.proofs.print_floats.Tie as tie
 

@@ -2,7 +2,6 @@ use borrow.Author.Needs.{needs}
 use mathlib.Core.Path.{_≡_}
 use Prim.Native.Nat.{_-_, _≤_}
 use lib.ListN.{length}
-use native.Mathlib.Omega.{arith}
 use Rattle.replay_session.proofs.read_bytes.Statement.{statement}
 use Rattle.replay_session.proofs.read_bytes.Tie as tie
 

@@ -1,4 +1,3 @@
-use borrow.Author.Needs.{needs}
 use Rattle.replay_session.proofs.weights_in.Statement.{statement}
 use Rattle.replay_session.proofs.weights_in.Tie as tie
 

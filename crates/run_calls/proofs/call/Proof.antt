@@ -1,9 +1,8 @@
 use borrow.Author.Needs.{needs}
-use mathlib.Core.Path.{_≡_, refl, sym, ap, _∙_}
+use mathlib.Core.Path.{refl}
 use native.Mathlib.Omega.{arith}
 use lib.ListN.{length}
-use Rattle.ivector_stream.specs.Rooms.{Tables, Rooms}
-use Rattle.ivector_fetch.specs.Steps.{tables, rooms}
+use Rattle.ivector_stream.specs.Rooms.{Tables, Rooms, tables, rooms}
 use Rattle.run_calls.proofs.Branches.{as-call, is-fetch, called-fetch}
 use Rattle.run_calls.proofs.call.Statement.{statement}
 use Rattle.run_calls.proofs.call.Tie as tie

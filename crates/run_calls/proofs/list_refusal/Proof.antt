@@ -1,5 +1,3 @@
-use borrow.Author.Needs.{needs}
-use native.Mathlib.Omega.{arith}
 use Rattle.run_calls.proofs.Runs.{list-1, list-2, list-3, list-0}
 use Rattle.run_calls.proofs.list_refusal.Statement.{statement}
 use Rattle.run_calls.proofs.list_refusal.Tie as tie

@@ -1,10 +1,8 @@
-use borrow.Author.Needs.{needs}
-use mathlib.Core.Path.{_≡_, refl, sym, ap, _∙_}
+use mathlib.Core.Path.{_≡_, refl, _∙_}
 use native.Mathlib.Omega.{arith}
 use Prim.Native.Nat.{_-_, _≤_}
 use lib.ListN.{length}
-use Rattle.ivector_stream.specs.Rooms.{Tables, Rooms}
-use Rattle.ivector_fetch.specs.Steps.{tables, rooms}
+use Rattle.ivector_stream.specs.Rooms.{tables, rooms}
 use Rattle.keeping.specs.Keeping.{program}
 use Rattle.run_calls.specs.Listed.{calls, written}
 use Rattle.run_calls.proofs.Lists.{Left, left-again, left-end, after-again, after-end, calls-next, length-calls}

@@ -1,5 +1,5 @@
 use borrow.Author.Needs.{needs}
-use mathlib.Core.Path.{_≡_, refl, sym, ap, _∙_}
+use mathlib.Core.Path.{refl}
 use native.Mathlib.Omega.{arith}
 use Rattle.run_calls.proofs.Branches.{as-call, is-push, is-finish, is-change, is-forget, called-push, called-finish, called-change, called-forget}
 use Rattle.run_calls.proofs.ring_call.Statement.{statement}

@@ -1,8 +1,7 @@
 use borrow.Author.Needs.{needs}
-use mathlib.Core.Path.{_≡_, refl, sym, ap, _∙_}
+use mathlib.Core.Path.{refl, sym, _∙_}
 use lib.ListN.{length}
-use Rattle.ivector_stream.specs.Rooms.{Tables, Rooms}
-use Rattle.ivector_fetch.specs.Steps.{tables, rooms}
+use Rattle.ivector_stream.specs.Rooms.{Tables, Rooms, tables, rooms}
 use Rattle.loops.proofs.Refusal.{taken-old}
 use Rattle.run_calls.proofs.Runs.{list-taken, run-listed, run-refused, run-made, rooms-old, rooms-new, run-wrote, run-rooms}
 use Rattle.run_calls.proofs.run.Statement.{statement}

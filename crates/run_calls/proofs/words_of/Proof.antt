@@ -1,5 +1,4 @@
-use borrow.Author.Needs.{needs}
-use mathlib.Core.Path.{_≡_, refl, sym, ap, _∙_}
+use mathlib.Core.Path.{sym}
 use Rattle.loops.proofs.Refusal.{taken-new, taken-old}
 use Rattle.run_calls.proofs.words_of.Statement.{statement}
 use Rattle.run_calls.proofs.words_of.Tie as tie

@@ -1,6 +1,6 @@
 use borrow.Author.Needs.{needs}
 use native.Mathlib.Omega.{arith}
-use mathlib.Core.Path.{_≡_, refl, sym, ap, _∙_}
+use mathlib.Core.Path.{ap, _∙_}
 use Prim.Native.Nat.{ℕ, _+_}
 use Rattle.script.proofs.Scanning.{digit-decimal, digit-letter, digit-below, digit-between, digit-above}
 use Rattle.script.proofs.digit.Statement.{statement}

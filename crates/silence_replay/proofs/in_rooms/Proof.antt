@@ -1,4 +1,3 @@
-use borrow.Author.Needs.{needs}
 use Rattle.silence_replay.proofs.in_rooms.Statement.{statement}
 use Rattle.silence_replay.proofs.in_rooms.Tie as tie
 

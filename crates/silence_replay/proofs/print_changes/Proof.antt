@@ -1,7 +1,5 @@
 use borrow.Author.Needs.{needs}
-use mathlib.Core.Path.{_≡_}
 use Prim.Native.Nat.{_-_, _≤_}
-use lib.ListN.{length}
 use Rattle.silence_replay.proofs.print_changes.Statement.{statement}
 use Rattle.silence_replay.proofs.print_changes.Tie as tie
 

@@ -1,4 +1,3 @@
-use borrow.Author.Needs.{needs}
 use Rattle.linear.proofs.CgdState.is_far.Statement.{statement}
 use Rattle.linear.proofs.CgdState.is_far.Tie as tie
 

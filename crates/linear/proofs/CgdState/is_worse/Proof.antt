@@ -1,4 +1,3 @@
-use borrow.Author.Needs.{needs}
 use Rattle.linear.proofs.CgdState.is_worse.Statement.{statement}
 use Rattle.linear.proofs.CgdState.is_worse.Tie as tie
 

@@ -1,0 +1,107 @@
+use borrow.Author.Needs.{needs}
+use mathlib.Core.Path.{_≡_, refl}
+use Prim.Native.Nat.{_-_, _≤_}
+use native.Mathlib.Omega.{arith}
+use lib.ListN.{length}
+use Rattle.loops.specs.Lists.{over}
+use Rattle.loops.proofs.Loop.{at-end}
+use Rattle.delta_weights.specs.Waiting.{framesOf, weightsOf}
+use Rattle.delta_weights.proofs.WaitingRooms.{frames-waiting, weights-waiting}
+use Rattle.delta_weights.proofs.Inserted.{Now, call-none, call-rising, call-turn}
+use Rattle.delta_weights.proofs.insert_changes.Statement.{statement}
+use Rattle.delta_weights.proofs.insert_changes.Tie as tie
+
+abbrev Inv-loop : tie.InvT-loop
+Inv-loop frames₀ weights₀ n more by m i₀ frames weights i =
+    (i ≤ m)
+    × (length frames ≡ length frames₀)
+    × (length weights ≡ length weights₀)
+    × (frames ≡ over (framesOf (Now more by n frames₀ weights₀ i)) frames₀)
+    × (weights ≡ over (weightsOf (Now more by n frames₀ weights₀ i)) weights₀)
+
+abbrev μ-loop : tie.MeasureT-loop
+μ-loop frames₀ weights₀ n more by m i₀ frames weights i = m - i
+
+loop-holds : tie.Need-loop-holds Inv-loop μ-loop
+loop-holds c =
+    let args = c .before .before .before .before .args in
+    let f = frames-waiting (args .n) (args .frames .now) (args .weights .now) (omega arith) in
+    let w = weights-waiting (args .n) (args .frames .now) (args .weights .now) (omega arith) in
+    (omega arith, refl, refl, call-none _ _ _ _ _ (λ d. d .0) (args .frames .now) (omega arith) f, call-none _ _ _ _ _ (λ d. d .1) (args .weights .now) (omega arith) w)
+
+add-insert-change : tie.Need-add-insert-change Inv-loop μ-loop
+add-insert-change c = search needs
+
+mul-insert-change : tie.Need-mul-insert-change Inv-loop μ-loop
+mul-insert-change c = search needs
+
+shared-slice-read-insert-change : tie.Need-shared-slice-read-insert-change Inv-loop μ-loop
+shared-slice-read-insert-change c = search needs
+
+mul-insert-change-2 : tie.Need-mul-insert-change-2 Inv-loop μ-loop
+mul-insert-change-2 c = search needs
+
+shared-slice-read-insert-change-2 : tie.Need-shared-slice-read-insert-change-2 Inv-loop μ-loop
+shared-slice-read-insert-change-2 c = search needs
+
+insert-change-requires : tie.Need-insert-change-requires Inv-loop μ-loop
+insert-change-requires c κs =
+    let loop = c .before .before .before .before .before .loop in
+    let pre = c .before .before .before .before .before .before .before .before .before .before .pre in
+    let loop-test = c .before .before .before .before .loop-test in
+    let h = loop .inv in
+    (omega (arith, h .1, pre .0, loop-test .taken), omega (arith, h .2, pre .1, loop-test .taken), call-rising _ _ _ _ _ (loop .i) (h .3) (h .4) (omega (arith, pre .0)) (pre .3))
+
+add-i : tie.Need-add-i Inv-loop μ-loop
+add-i c = search needs
+
+loop-less : tie.Need-loop-less Inv-loop μ-loop
+loop-less c = search needs
+
+loop-again : tie.Need-loop-again Inv-loop μ-loop
+loop-again c =
+    let loop = c .before .before .before .before .before .before .before .before .before .before .loop in
+    let args = c .before .before .before .before .before .before .before .before .before .before .before .before .before .before .before .args in
+    let h = loop .inv in
+    let r = (c .before .before .before .before .insert-change) in (
+      omega (arith, c .before .before .before .before .before .before .before .before .before .loop-test .taken),
+      omega (arith, h .1, r .kept .0),
+      omega (arith, h .2, r .kept .1 .0),
+      call-turn _ _ _ _ _ (loop .i) (h .3) (h .4) (λ d. d .0) (args .frames .now) (h .3) (r .ensures .0),
+      call-turn _ _ _ _ _ (loop .i) (h .3) (h .4) (λ d. d .1) (args .weights .now) (h .4) (r .ensures .1),
+    )
+
+same-length : tie.Need-same-length Inv-loop μ-loop
+same-length c = search needs
+
+same-length-2 : tie.Need-same-length-2 Inv-loop μ-loop
+same-length-2 c = search needs
+
+returns : tie.Need-returns Inv-loop μ-loop
+returns c =
+    let loop = c .before .loop in
+    let args = c .before .before .before .before .before .before .args in
+    let h = loop .inv in (
+      at-end (λ j. over (framesOf (Now (args .delta-frames .now) (args .delta-weights .now) (args .n) (args .frames .now) (args .weights .now) j)) (args .frames .now)) (loop .i) _ (h .0) (c .loop-test .left) (h .3),
+      at-end (λ j. over (weightsOf (Now (args .delta-frames .now) (args .delta-weights .now) (args .n) (args .frames .now) (args .weights .now) j)) (args .weights .now)) (loop .i) _ (h .0) (c .loop-test .left) (h .4),
+    )
+
+pub insert-changes-spec : {M : Type 1} → statement M
+insert-changes-spec =
+    tie.close
+    (tie.spec
+    Inv-loop
+    μ-loop
+    loop-holds
+    add-insert-change
+    mul-insert-change
+    shared-slice-read-insert-change
+    mul-insert-change-2
+    shared-slice-read-insert-change-2
+    insert-change-requires
+    add-i
+    loop-less
+    loop-again
+    same-length
+    same-length-2
+    returns)

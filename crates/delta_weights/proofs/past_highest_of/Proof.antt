@@ -1,0 +1,65 @@
+use borrow.Author.Needs.{needs}
+use mathlib.Core.Path.{_≡_}
+use mathlib.Core.List.{foldl}
+use Prim.Native.Nat.{_+_, _-_, _≤_, max}
+use native.Mathlib.Omega.{arith}
+use borrow.Author.Tests.{leb-false}
+use lib.Dec.{leb}
+use lib.ListN.{getD, drop}
+use Rattle.loops.proofs.Folds.{fold-turn, fold-end}
+use Rattle.loops.proofs.Tests.{none-at}
+use Rattle.delta_weights.proofs.past_highest_of.Statement.{statement}
+use Rattle.delta_weights.proofs.past_highest_of.Tie as tie
+
+abbrev Inv-loop : tie.InvT-loop
+Inv-loop past₀ fs past₁ m i₀ past i =
+    (i ≤ m) × (foldl (λ n f. max n (f + 1)) past (drop i fs) ≡ foldl (λ n f. max n (f + 1)) past₀ fs)
+
+abbrev μ-loop : tie.MeasureT-loop
+μ-loop past₀ fs past₁ m i₀ past i = m - i
+
+loop-holds : tie.Need-loop-holds Inv-loop μ-loop
+loop-holds c = search needs
+
+mul-max-usize : tie.Need-mul-max-usize Inv-loop μ-loop
+mul-max-usize c = search needs
+
+shared-slice-read-max-usize : tie.Need-shared-slice-read-max-usize Inv-loop μ-loop
+shared-slice-read-max-usize c = search needs
+
+add-max-usize : tie.Need-add-max-usize Inv-loop μ-loop
+add-max-usize c =
+    let args = c .before .before .before .before .args in
+    let loop = c .before .before .loop in
+    omega (arith, leb-false 1000000000 (getD (args .delta-frames .now) (loop .i) 0) (none-at (leb 1000000000) 0 (args .delta-frames .now) (loop .i) (c .before .before .before .before .pre) (c .before .loop-test .taken)))
+
+max-usize-requires : tie.Need-max-usize-requires Inv-loop μ-loop
+max-usize-requires c κs = search needs
+
+add-i : tie.Need-add-i Inv-loop μ-loop
+add-i c = search needs
+
+loop-less : tie.Need-loop-less Inv-loop μ-loop
+loop-less c = search needs
+
+loop-again : tie.Need-loop-again Inv-loop μ-loop
+loop-again c = (omega arith, fold-turn _ 0 _ _ (c .before .before .loop-test .taken) (c .max-usize .ensures) (c .before .before .before .loop .inv .1))
+
+returns : tie.Need-returns Inv-loop μ-loop
+returns c = fold-end _ _ _ (c .loop-test .left) (c .before .loop .inv .1)
+
+pub past-highest-of-spec : {M : Type 1} → statement M
+past-highest-of-spec =
+    tie.close
+    (tie.spec
+    Inv-loop
+    μ-loop
+    loop-holds
+    mul-max-usize
+    shared-slice-read-max-usize
+    add-max-usize
+    max-usize-requires
+    add-i
+    loop-less
+    loop-again
+    returns)

@@ -1,0 +1,10 @@
+-- What inner functions leave. Not for readers.
+use Prim.Native.Nat.{ℕ}
+use mathlib.Core.List.{List, foldl}
+use lib.Ieee.{Float}
+use Rattle.definition.specs.Changes.{Change, insertChange}
+use Rattle.delta_weights.specs.Waiting.{waitingIn}
+
+-- the first m changes that a call gives, inserted
+unfoldable pub insertedTo : ℕ → List ℕ → List Float → List Change → List Change
+insertedTo m frames weights waiting = foldl insertChange waiting (waitingIn m frames weights)
