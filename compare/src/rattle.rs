@@ -619,6 +619,21 @@ impl Stream {
         a.answer
     }
 
+    /// A push as a host makes it, with nothing chosen by the kind of call.
+    #[rustfmt::skip]
+    #[inline]
+    pub fn push(&mut self, x: &[f32]) -> StreamAnswer {
+        let z = &mut self.rooms;
+        let a = unsafe {
+            c::shofrakin_push_frame(
+                self.rec, x.as_ptr(), x.len(), z.frames.all.as_mut_ptr(), z.frames.len, z.rows.all.as_mut_ptr(), z.rows.len,
+                z.waiting_frames.all.as_ptr(), z.waiting_frames.len, z.waiting_weights.all.as_ptr(), z.waiting_weights.len,
+            )
+        };
+        self.rec = a.stream;
+        a.answer
+    }
+
     /// A call, with forged parts if any. Its answer, and what is wrong: a refusal leaves record, rooms and output untouched.
     pub fn checked(&mut self, mut call: Call, al: &[Alter]) -> (StreamAnswer, Option<String>) {
         let f = forge(self.rec, al);

@@ -117,7 +117,7 @@ fn round(kind: &str, side: usize, z: &Set, info: &plain::Info) -> (Duration, usi
             let d = time(|| {
                 for s in &mut v {
                     for x in &z.frames {
-                        black_box(s.call(Call::Push(x)));
+                        black_box(s.push(x));
                     }
                 }
             });

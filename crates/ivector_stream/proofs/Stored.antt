@@ -5,15 +5,16 @@ use mathlib.Core.List.{List, [], _∷_, foldl}
 use mathlib.Core.Logic.{_⊎_, ⊎-elim}
 use Prim.Native.Nat.{ℕ, _+_, _-_, _≤_, _<_, min, max}
 use native.Mathlib.Omega.{arith}
+use lib.Dec.{leb}
 use lib.ListN.{length, getD, set, take, replicate}
 use lib.Seq.{length-take-le, getD-take}
 use lib.Ieee.{Float, nan}
-use Rattle.loops.specs.Lists.{build, over}
+use Rattle.loops.specs.Lists.{if_then_else_, build, over}
 use Rattle.loops.specs.Ring.{rowsIn}
 use Rattle.loops.specs.Steps.{fill, put, place}
 use Rattle.loops.proofs.Build.{length-build, build-list, build-same}
 use Rattle.loops.proofs.Fill.{fill-end, fill-over, put-end, put-turn, put-before, put-past}
-use Rattle.loops.proofs.Ring.{rows-apart}
+use Rattle.loops.proofs.Ring.{place-next, rows-apart}
 use Rattle.floats.specs.Operators.{_+₆₄_, at}
 use Rattle.definition.specs.declared.IvectorStream.{IvectorStream}
 use Rattle.definition.specs.Machine.{forgotten}
@@ -47,6 +48,9 @@ module _ (last next : ℕ) (frame rows : List Float) (fits : next + length frame
   sums-turn i {v = v} l e h = put-turn next sums i rows (omega arith) e (ap (λ (x : Float). x +₆₄ v) (row-stays i l e) ∙ ap (λ (x : Float). at rows (last + i) +₆₄ x) h)
 
 -- ---- a push: row t of a ring, and the row after it
+
+pub place-turned : (n w t : ℕ) {a b : ℕ} → 0 < w → 0 < rowsIn n w → a ≡ place n w t → b ≡ (if leb (w + w) (n - a) then a + w else 0) → b ≡ place n w (t + 1)
+place-turned n w t p q e f = f ∙ ap (λ (z : ℕ). if leb (w + w) (n - z) then z + w else 0) e ∙ place-next n w t p q
 
 pub place-after : (n w t : ℕ) {a b k : ℕ} → 2 ≤ rowsIn n w → k ≡ w → a ≡ place n w t → b ≡ place n w (t + 1) → (a + k ≤ b) ⊎ (b + k ≤ a)
 place-after n w t r d e f = rw (d, e, f) (rows-apart n w t (t + 1) (omega arith) (omega arith))

@@ -8,14 +8,14 @@ use definition::StreamAnswer;
 use definition::StreamCall;
 use definition::TableLengths;
 ghost use mathlib.Core.Path.{_≡_};
-ghost use mathlib.Core.Bool.{true, false, not};
+ghost use mathlib.Core.Bool.{true, false, not, _||_};
 ghost use mathlib.Core.Logic.{_⊎_};
 ghost use mathlib.Core.List.{foldl};
 ghost use Prim.Native.Nat.{ℕ, _+_, _-_, _<_, _≤_, min};
 ghost use lib.ListN.{length, take, replicate};
 ghost use lib.Dec.{leb, ltb};
 ghost use lib.Ieee.Scale.{finite};
-ghost use Rattle.loops.specs.Lists.{build, anyOf, over};
+ghost use Rattle.loops.specs.Lists.{if_then_else_, build, anyOf, over};
 ghost use Rattle.loops.specs.Refusal.{taken};
 ghost use Rattle.loops.specs.Ring.{rowsIn};
 ghost use Rattle.loops.specs.Steps.{put, place};
@@ -222,15 +222,25 @@ pub fn new(
 
 // ---- push
 
+// Whether there was one that is not finite, or x is not.
+fn or_not_finite(bad: bool, x: f32) -> bool
+    ensures { λ r. ⌜ r ≡ (bad || not (finite x)) ⌝ }
+{
+    if bad {
+        return true;
+    }
+    !floats::is_finite(x)
+}
+
+// No early exit: so the loop takes several at a time.
 fn any_not_finite(x: &[f32]) -> bool
     ensures { λ r. ⌜ r ≡ anyOf (λ v. not (finite v)) (now (x .entry)) ⌝ }
 {
+    let mut bad = false;
     for i in 0..x.len() {
-        if !floats::is_finite(x[i]) {
-            return true;
-        }
+        bad = or_not_finite(bad, x[i]);
     }
-    false
+    bad
 }
 
 fn push_refusal(
@@ -277,6 +287,18 @@ fn row_place(length: usize, dim: usize, t: usize) -> usize
     t % (length / dim) * dim
 }
 
+// Where the row after the one at `place` begins: a row further, or at the ring's beginning where no whole row is left.
+fn row_after(length: usize, dim: usize, place: usize) -> usize
+    requires { ⌜ (dim ≤ 64) × (place ≤ length) ⌝ }
+    ensures { λ r. ⌜ r ≡ (if leb (dim + dim) (length - place) then place + dim else 0) ⌝ }
+{
+    if dim + dim <= length - place {
+        place + dim
+    } else {
+        0
+    }
+}
+
 // A frame stored from place a on.
 fn put_frame(frames: &mut [f32], a: usize, frame: &[f32])
     requires { ⌜ a + length (now frame) ≤ length (now frames) ⌝ }
@@ -298,7 +320,7 @@ fn add_frame(rows: &mut [f64], last: usize, next: usize, frame: &[f32])
 }
 
 pub fn push_frame(
-    s: IvectorStream,
+    mut s: IvectorStream,
     frame: &[f32],
     frames: &mut [f32],
     rows: &mut [f64],
@@ -326,17 +348,16 @@ pub fn push_frame(
     let a = row_place(frames.len(), d.base_dim, s.accepted);
     put_frame(frames, a, frame);
     let last = row_place(rows.len(), d.base_dim, s.accepted);
-    let next = row_place(rows.len(), d.base_dim, s.accepted + 1);
+    let next = row_after(rows.len(), d.base_dim, last);
     add_frame(rows, last, next, frame);
-    let mut t = s;
-    t.accepted = s.accepted + 1;
-    reply(0, t, 0)
+    s.accepted += 1;
+    reply(0, s, 0)
 }
 
 // ---- finish
 
 pub fn set_input_finished(
-    s: IvectorStream,
+    mut s: IvectorStream,
     frames: &[f32],
     rows: &[f64],
     waiting_frames: &[usize],
@@ -356,9 +377,8 @@ pub fn set_input_finished(
     if refusal != 0 {
         return reply(refusal, s, 0);
     }
-    let mut t = s;
-    t.input_finished = true;
-    reply(0, t, 0)
+    s.input_finished = true;
+    reply(0, s, 0)
 }
 
 // ---- change
@@ -428,7 +448,7 @@ fn change_refusal(
 }
 
 pub fn update_frame_weights(
-    s: IvectorStream,
+    mut s: IvectorStream,
     delta_frames: &[usize],
     delta_weights: &[f32],
     frames: &[f32],
@@ -461,11 +481,10 @@ pub fn update_frame_weights(
         delta_frames,
         delta_weights,
     );
-    let mut t = s;
-    t.waiting = s.waiting + delta_frames.len();
-    t.past_highest = past_highest;
-    t.delta_weights_provided = true;
-    reply(0, t, 0)
+    s.waiting += delta_frames.len();
+    s.past_highest = past_highest;
+    s.delta_weights_provided = true;
+    reply(0, s, 0)
 }
 
 // ---- forget
@@ -483,7 +502,7 @@ fn lowest(low: usize, waiting_frames: &[usize], n: usize) -> usize
 
 // An utterance begins at `frame`: no weight change will reach before it.
 pub fn forget_before(
-    s: IvectorStream,
+    mut s: IvectorStream,
     frame: usize,
     frames: &[f32],
     rows: &[f64],
@@ -509,9 +528,8 @@ pub fn forget_before(
     let reached = limits::smaller(frame, s.num_frames_stats);
     let first = lowest(reached, waiting_frames, s.waiting);
     let kept = limits::less(first, o.left_context);
-    let mut t = s;
-    t.mark = limits::larger(s.mark, kept);
-    reply(0, t, 0)
+    s.mark = limits::larger(s.mark, kept);
+    reply(0, s, 0)
 }
 
 // ---- questions

@@ -35,6 +35,9 @@ module _ (a b : Bool) where
   pub or-none : a ≡ false → b ≡ false → (a || b) ≡ false
   or-none e h = rw e h
 
+  pub or-skip : a ≡ false → (a || b) ≡ b
+  or-skip e = rw e
+
   pub or-fails : (a || b) ≡ false → (a ≡ false) × (b ≡ false)
   or-fails e = by-test a (λ h. absurd (true≢false (rw h at e))) (λ h. (h, rw h at e))
 
@@ -49,3 +52,9 @@ module _ (a b : Bool) where
 
   pub and-holds : (a && b) ≡ true → (a ≡ true) × (b ≡ true)
   and-holds e = by-test a (λ h. (h, rw h at e)) (λ h. absurd (false≢true (rw h at e)))
+
+pub or-assoc : (a b c : Bool) → ((a || b) || c) ≡ (a || (b || c))
+or-assoc a b c = by-test a (λ e. rw e) (λ e. rw e)
+
+pub or-false : (a : Bool) → (a || false) ≡ a
+or-false a = by-test a (λ e. rw e) (λ e. rw e)

@@ -47,6 +47,13 @@ module _ {A : Type 0} where
   length-flat w (suc n) f h =
       omega (arith, length-append (f 0) (flat n (λ k. f (suc k))), h 0 (omega arith), length-flat w n (λ k. f (suc k)) (λ k l. h (suc k) (omega arith)), suc-mul n w)
 
+  -- rows of at most w
+  pub flat-most : (w n : ℕ) (f : ℕ → List A) → ((k : ℕ) → k < n → length (f k) ≤ w) → length (flat n f) ≤ n * w
+  unfolding flat
+  flat-most w zero f h = omega (arith, zero-mul w)
+  flat-most w (suc n) f h =
+      omega (arith, length-append (f 0) (flat n (λ k. f (suc k))), h 0 (omega arith), flat-most w n (λ k. f (suc k)) (λ k l. h (suc k) (omega arith)), suc-mul n w)
+
   pub at-flat : (d : A) (w n : ℕ) (f : ℕ → List A) → ((k : ℕ) → k < n → length (f k) ≡ w) → (i j : ℕ) → i < n → j < w → getD (flat n f) (i * w + j) d ≡ getD (f i) j d
   unfolding flat
   at-flat d w zero f h i j p q = absurd (not-suc-le-zero p)

@@ -1,6 +1,6 @@
 -- Laws of tests over lists.
 use mathlib.Core.Path.{_≡_, refl, sym, ap, _∙_}
-use mathlib.Core.Bool.{Bool, true, false, false≢true}
+use mathlib.Core.Bool.{Bool, true, false, _||_, false≢true}
 use mathlib.Core.List.{List, [], _∷_, _++_, map, append-nil}
 use Prim.Native.Nat.{ℕ, zero, suc, _+_, _≤_, _<_}
 use native.Mathlib.Nat.{not-suc-le-zero, le-of-suc-le-suc}
@@ -10,7 +10,7 @@ use lib.Seq.{getD-take, getD-drop}
 use lib.Dec.{eqb}
 use borrow.Author.Tests.{eqb-true, eq-eqb}
 use Rattle.loops.specs.Lists.{those, anyOf, allOf, pairwise}
-use Rattle.loops.proofs.Choose.{by-test, or-second, or-fails, and-second, and-both, and-holds}
+use Rattle.loops.proofs.Choose.{by-test, or-second, or-fails, or-assoc, or-false, and-second, and-both, and-holds}
 use Rattle.loops.proofs.Parts.{drop-next, take-next}
 
 -- one fact for each element, nested to the right
@@ -65,6 +65,15 @@ module _ {A : Type 0} (p : A → Bool) where
   pub any-end : (xs : List A) (i : ℕ) {b : Bool} → length xs ≤ i → anyOf p (drop i xs) ≡ b → false ≡ b
   unfolding anyOf
   any-end xs i l h = let g : anyOf p (drop i xs) ≡ false = rw (drop-of-length-le xs l) in sym g ∙ h
+
+  -- a loop over the whole list, that keeps whether one was found
+  pub any-more : (d : A) (bad : Bool) (xs : List A) (i : ℕ) {b : Bool} → i < length xs → (bad || anyOf p (drop i xs)) ≡ b → ((bad || p (getD xs i d)) || anyOf p (drop (i + 1) xs)) ≡ b
+  unfolding anyOf
+  any-more d bad xs i l h = let g : (bad || anyOf p (drop i xs)) ≡ ((bad || p (getD xs i d)) || anyOf p (drop (i + 1) xs)) = rw (drop-next d xs i l) (sym (or-assoc bad _ _)) in sym g ∙ h
+
+  pub any-kept : (bad : Bool) (xs : List A) (i : ℕ) {b : Bool} → length xs ≤ i → (bad || anyOf p (drop i xs)) ≡ b → bad ≡ b
+  unfolding anyOf
+  any-kept bad xs i l h = let g : (bad || anyOf p (drop i xs)) ≡ bad = rw (drop-of-length-le xs l) (or-false bad) in sym g ∙ h
 
   -- ---- allOf
 

@@ -1,5 +1,5 @@
 -- What the two calls on a table answer and leave. `Recorded` and `Weighs` are their contracts, over plain values.
-use Prim.Native.Nat.{ℕ, _+_, _-_, _≤_, _<_, min, max}
+use Prim.Native.Nat.{ℕ, _+_, _-_, _*_, _≤_, _<_, min, max}
 use mathlib.Core.Path.{_≡_, refl, sym, ap, _∙_}
 use mathlib.Core.Bool.{Bool, true, false, _||_}
 use mathlib.Core.List.{List, [], _∷_, map}
@@ -24,7 +24,7 @@ use Rattle.definition.specs.Silence.{FrameInfo, Table, infoAt, tableIn, segment
 use Rattle.silence_weighting.specs.Steps.{flagAt}
 use Rattle.silence_weighting.proofs.Refusals.{TracebackTaken, DeltaTaken}
 use Rattle.silence_weighting.proofs.Tables.{length-table, grown}
-use Rattle.silence_weighting.proofs.Walk.{known-at, silence-at, length-weighted}
+use Rattle.silence_weighting.proofs.Walk.{known-at, silence-at, length-weighted, few-changes}
 use Rattle.silence_weighting.proofs.Marks.{length-traced, marked-room, marked-weight}
 
 abbrev pub knowns : Table → List Bool
@@ -169,6 +169,13 @@ module _ (s : SilenceWeighting) (ks ss : List Bool) (ws : List Float) (ready fir
           pub refusal-none : c ≤ r → 0 ≡ refusal
           unfolding deltaTests
           refusal-none h = first-none _ (b, (no-23, (le-ltb (min f w) (length (asked s ready first (tableIn (s .length) ks ss ws))) (omega (arith, count-is)), tt)))
+
+          -- where a change of each input frame would find room
+          pub refusal-roomy : (b o : ℕ) → b ≡ s .length - 100 → o ≡ n - b → o * s .subsampling ≤ r → 0 ≡ refusal
+          refusal-roomy b o eb eo h =
+              let t : Table = tableIn (s .length) ks ss ws in
+              let e : o ≡ n - (length t - 100) = eo ∙ ap (λ (z : ℕ). n - z) (eb ∙ ap (λ (z : ℕ). z - 100) (sym (length-table (s .length) ks ss ws))) in
+              refusal-none (omega (arith, ec, few-changes (s .«silence_weight») (s .subsampling) first n t, ap (λ (z : ℕ). z * s .subsampling) e, h))
 
 module _ (s : SilenceWeighting) (ks ss : List Bool) (ws : List Float) (ready first : ℕ) (fs : List ℕ) (os : List Float) where
   abbrev t : Table

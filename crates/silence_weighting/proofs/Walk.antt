@@ -1,6 +1,6 @@
 -- The walk of `get_delta_weights` over a table in rooms, and the changes that it gives.
-use Prim.Native.Nat.{ℕ, suc, _+_, _-_, _≤_, _<_}
-use mathlib.Core.Path.{_≡_, refl, sym, ap, _∙_}
+use Prim.Native.Nat.{ℕ, suc, _+_, _-_, _*_, _≤_, _<_}
+use mathlib.Core.Path.{_≡_, refl, sym, ap, _∙_, subst}
 use mathlib.Core.Bool.{Bool, true, false, not, _||_}
 use mathlib.Core.List.{List, _++_, map, map-append}
 use native.Mathlib.Nat.{le-refl}
@@ -15,7 +15,7 @@ use Rattle.loops.specs.Steps.{put}
 use Rattle.loops.proofs.Loop.{iter-none, iter-step}
 use Rattle.loops.proofs.Choose.{by-test, choose-true, choose-false, choose-map, or-first, or-second, or-none}
 use Rattle.loops.proofs.Build.{length-build, map-build}
-use Rattle.loops.proofs.Flat.{flat-none, flat-more, flat-add, flat-ext}
+use Rattle.loops.proofs.Flat.{flat-none, flat-more, flat-add, flat-ext, flat-most}
 use Rattle.loops.proofs.Fill.{over-none, over-put, put-past, put-fit}
 use Rattle.floats.specs.Operators.{_-₃₂_, zero₃₂, one₃₂}
 use Rattle.definition.specs.Changes.{Change}
@@ -180,6 +180,14 @@ module _ (w : Float) (subsampling first size : ℕ) (t : Table) where
       let g : ℕ → List Change = λ i. given subsampling first (begin t + i) (difference w t i) (eqb (begin t + i + 1) size) in
       let e : m ≡ i + (m - i) = omega arith in
       omega (arith, ap (λ (k : ℕ). length (flat k g)) e ∙ ap length (flat-add i (m - i) g) ∙ length-append (flat i g) (flat (m - i) (λ k. g (i + k))))
+
+  -- a change of each input frame at most
+  few : (m : ℕ) → length (changesTo w subsampling first size t m) ≤ m * subsampling
+  unfolding changesTo
+  few m = flat-most subsampling m _ (λ i l. number-le subsampling (difference w t i) (eqb (begin t + i + 1) size) _ (length-given subsampling (difference w t i) (eqb (begin t + i + 1) size) first (begin t + i)))
+
+  pub few-changes : length (deltaWeights w subsampling first size t) ≤ (size - begin t) * subsampling
+  few-changes = subst (λ (l : List Change). length l ≤ (size - begin t) * subsampling) (changes-all (size - begin t) refl) (few (size - begin t))
 
 -- all the changes at the walk's end, and room for them on the way
 module _ {n : ℕ} {ks ss : List Bool} {ws : List Float} {w : Float} {size b out : ℕ} {blind : Bool} {q : Float} {i : ℕ} (s : Walking n ks ss ws w size b out blind q i) (subsampling first : ℕ) where

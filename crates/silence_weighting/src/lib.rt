@@ -509,8 +509,13 @@ fn delta_refusal(
         return 0;
     }
     let n = larger(s.length, wanted.0);
-    let count = count_changes(s, known, is_silence, current_weight, n);
     let room = smaller(frames, weights);
+    // where a change of each input frame would find room, the changes need not be counted
+    let frames_out = less(n, walk_begin(s));
+    if frames_out * s.subsampling <= room {
+        return 0;
+    }
+    let count = count_changes(s, known, is_silence, current_weight, n);
     if room < count {
         return 24;
     }

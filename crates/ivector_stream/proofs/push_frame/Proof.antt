@@ -6,13 +6,14 @@ use native.Mathlib.Omega.{arith}
 use lib.ListN.{length}
 use Rattle.definition.specs.declared.RoomLengths.{RoomLengths}
 use Rattle.loops.specs.Ring.{rowsIn}
+use Rattle.loops.specs.Steps.{place}
 use Rattle.loops.proofs.Ring.{place-in}
 use Rattle.ivector_stream.specs.Calls.{pushRefusal}
 use Rattle.ivector_stream.specs.Lent.{ringsOf}
 use Rattle.ivector_stream.proofs.Records.{few}
 use Rattle.ivector_stream.proofs.Refusals.{PushTaken, push-taken, push-few}
 use Rattle.ivector_stream.proofs.Replies.{refused, done, untouched, written}
-use Rattle.ivector_stream.proofs.Stored.{place-after, pushed-frames, pushed-rows}
+use Rattle.ivector_stream.proofs.Stored.{place-turned, place-after, pushed-frames, pushed-rows}
 use Rattle.ivector_stream.proofs.push_frame.Statement.{statement}
 use Rattle.ivector_stream.proofs.push_frame.Tie as tie
 
@@ -44,42 +45,52 @@ put-frame-requires c κs = let k = known (c .before .before .before .before) in 
 row-place-requires-2 : tie.Need-row-place-requires-2
 row-place-requires-2 c κs = let k = known (c .before .before .before .before .before .before .before) in (k .passed .dims-are .some-base, omega (arith, k .passed .row-room))
 
-add-row-place : tie.Need-add-row-place
-add-row-place c = omega (arith, known (c .before .before .before .before .before .before .before .before .before) .more)
+row-after-requires : tie.Need-row-after-requires
+row-after-requires c κs =
+    let k = known (c .before .before .before .before .before .before .before .before) in
+    let a = c .before .before .before .before .before .before .before .before .before .before .before .before .before .before .before .before .args in
+    (k .passed .dims-are .base-is, omega (arith, place-in (length (a .rows .now)) (a .s .info .dims .«base_dim») (a .s .accepted) (omega (arith, k .passed .row-room)), c .row-place2 .ensures))
 
-row-place-requires-3 : tie.Need-row-place-requires-3
-row-place-requires-3 c κs = let k = known (c .before .before .before .before .before .before .before .before .before) in (k .passed .dims-are .some-base, omega (arith, k .passed .row-room))
+-- the row after, as a place of the ring
+next-is : (c : tie.After-row-after) →
+    let a = c .before .before .before .before .before .before .before .before .before .before .before .before .before .before .before .before .before .args in
+    c .row-after .result ≡ place (length (a .rows .now)) (a .s .info .dims .«base_dim») (a .s .accepted + 1)
+next-is c =
+    let k = known (c .before .before .before .before .before .before .before .before .before) in
+    place-turned _ _ _ (k .passed .dims-are .some-base) (omega (arith, k .passed .row-room)) (c .before .row-place2 .ensures) (c .row-after .ensures)
 
 add-frame-requires : tie.Need-add-frame-requires
 add-frame-requires c κs =
-    let k = known (c .before .before .before .before .before .before .before .before .before .before .before) in
-    let n = length (c .before .before .before .before .before .before .before .before .before .before .before .before .before .before .before .before .before .before .before .args .rows .now) in
-    let b = c .before .before .before .before .before .before .before .before .before .before .before .before .before .before .before .before .before .before .before .args .s .info .dims .«base_dim» in
-    let t = c .before .before .before .before .before .before .before .before .before .before .before .before .before .before .before .before .before .before .before .args .s .accepted in
+    let k = known (c .before .before .before .before .before .before .before .before .before .before) in
+    let a = c .before .before .before .before .before .before .before .before .before .before .before .before .before .before .before .before .before .before .args in
+    let n = length (a .rows .now) in
+    let b = a .s .info .dims .«base_dim» in
+    let t = a .s .accepted in
     let some : 0 < rowsIn n b = omega (arith, k .passed .row-room) in (
-      omega (arith, place-in n b t some, c .before .before .before .row-place2 .ensures, k .wide),
-      omega (arith, place-in n b (t + 1) some, c .before .row-place3 .ensures, k .wide),
-      place-after n b t (k .passed .row-room) (k .wide) (c .before .before .before .row-place2 .ensures) (c .before .row-place3 .ensures),
+      omega (arith, place-in n b t some, c .before .before .row-place2 .ensures, k .wide),
+      omega (arith, place-in n b (t + 1) some, next-is (c .before), k .wide),
+      place-after n b t (k .passed .row-room) (k .wide) (c .before .before .row-place2 .ensures) (next-is (c .before)),
     )
 
-add-t : tie.Need-add-t
-add-t c = omega (arith, known (c .before .before .before .before .before .before .before .before .before .before .before .before .before .before .before) .more)
+add-s : tie.Need-add-s
+add-s c = omega (arith, known (c .before .before .before .before .before .before .before .before .before .before .before .before .before .before) .more)
 
 reply-requires-2 : tie.Need-reply-requires-2
-reply-requires-2 c κs = λ h. let k = known (c .before .before .before .before .before .before .before .before .before .before .before .before .before .before .before) in (omega (arith, k .more), few _ _ _ (k .passed) .1)
+reply-requires-2 c κs = λ h. let k = known (c .before .before .before .before .before .before .before .before .before .before .before .before .before .before) in (omega (arith, k .more), few _ _ _ (k .passed) .1)
 
 same-length : tie.Need-same-length
-same-length c = c .before .before .before .before .before .before .before .before .before .before .before .put-frame .kept .0
+same-length c = c .before .before .before .before .before .before .before .before .before .before .put-frame .kept .0
 
 same-length-2 : tie.Need-same-length-2
 same-length-2 c = c .before .before .before .before .add-frame .kept .0
 
 returns-2 : tie.Need-returns-2
 returns-2 c =
-    let e = sym (c .before .before .before .before .before .before .before .before .before .before .before .before .before .before .before .before .if1 .left) ∙ number-is (c .before .before .before .before .before .before .before .before .before .before .before .before .before .before .before .before .before) in (
+    let a = c .before .before .before .before .before .before .before .before .before .before .before .before .before .before .before .before .before .before .before .before .before .before .before .args in
+    let e = sym (c .before .before .before .before .before .before .before .before .before .before .before .before .before .before .before .if1 .left) ∙ number-is (c .before .before .before .before .before .before .before .before .before .before .before .before .before .before .before .before) in (
       c .reply2 .ensures ∙ done _ _ _ e,
-      written _ _ _ e (pushed-frames (c .before .before .before .before .before .before .before .before .before .before .before .before .before .before .before .before .before .before .before .before .before .before .before .before .args .s) (c .before .before .before .before .before .before .before .before .before .before .before .before .before .before .before .before .before .before .before .before .before .before .before .before .args .frame .now) (c .before .before .before .before .before .before .before .before .before .before .before .before .before .before .before .before .before .before .before .before .before .before .before .before .args .frames .now) (c .before .before .before .before .before .before .before .before .before .before .before .before .before .row-place .ensures) (c .before .before .before .before .before .before .before .before .before .before .before .put-frame .ensures)),
-      written _ _ _ e (pushed-rows (c .before .before .before .before .before .before .before .before .before .before .before .before .before .before .before .before .before .before .before .before .before .before .before .before .args .s) (c .before .before .before .before .before .before .before .before .before .before .before .before .before .before .before .before .before .before .before .before .before .before .before .before .args .frame .now) (c .before .before .before .before .before .before .before .before .before .before .before .before .before .before .before .before .before .before .before .before .before .before .before .before .args .rows .now) (known (c .before .before .before .before .before .before .before .before .before .before .before .before .before .before .before .before) .wide) (c .before .before .before .before .before .before .before .before .row-place2 .ensures) (c .before .before .before .before .before .before .row-place3 .ensures) (c .before .before .before .before .add-frame .ensures)),
+      written _ _ _ e (pushed-frames (a .s) (a .frame .now) (a .frames .now) (c .before .before .before .before .before .before .before .before .before .before .before .before .row-place .ensures) (c .before .before .before .before .before .before .before .before .before .before .put-frame .ensures)),
+      written _ _ _ e (pushed-rows (a .s) (a .frame .now) (a .rows .now) (known (c .before .before .before .before .before .before .before .before .before .before .before .before .before .before .before) .wide) (c .before .before .before .before .before .before .before .row-place2 .ensures) (next-is (c .before .before .before .before .before .before)) (c .before .before .before .before .add-frame .ensures)),
     )
 
 pub push-frame-spec : {M : Type 1} → statement M
@@ -93,10 +104,9 @@ push-frame-spec =
     row-place-requires
     put-frame-requires
     row-place-requires-2
-    add-row-place
-    row-place-requires-3
+    row-after-requires
     add-frame-requires
-    add-t
+    add-s
     reply-requires-2
     same-length
     same-length-2

@@ -41,8 +41,8 @@ update-frame-weights-requires c κs =
     let k = known (c .before .before) in
     (omega (arith, k .room-is, k .passed), omega (arith, k .room-is, k .passed), sym (k .even), k .passed .whole-is .in-order, k .near)
 
-add-t : tie.Need-add-t
-add-t c = let k = known (c .before .before .before .before .before .before .before .before) in omega (arith, k .room-is, k .passed)
+add-s : tie.Need-add-s
+add-s c = let k = known (c .before .before .before .before .before .before .before .before) in omega (arith, k .room-is, k .passed)
 
 reply-requires-2 : tie.Need-reply-requires-2
 reply-requires-2 c κs = λ h. few _ _ _ (known (c .before .before .before .before .before .before .before .before) .passed)
@@ -74,7 +74,7 @@ update-frame-weights-spec =
     same-length
     returns
     update-frame-weights-requires
-    add-t
+    add-s
     reply-requires-2
     same-length-2
     same-length-3

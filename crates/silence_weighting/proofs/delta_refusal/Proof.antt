@@ -1,9 +1,11 @@
 use borrow.Author.Needs.{needs}
-use mathlib.Core.Path.{sym, _∙_}
+use mathlib.Core.Path.{refl, sym, _∙_}
+use Prim.Native.Nat.{_≤_}
+use native.Mathlib.Nat.{mul-le-mul}
 use native.Mathlib.Omega.{arith}
 use lib.ListN.{length}
 use Rattle.silence_weighting.proofs.Refusals.{Sound, sound}
-use Rattle.silence_weighting.proofs.Calls.{refusal-broken, refusal-ready, refusal-first, refusal-wanted, refusal-nothing, refusal-short, refusal-none}
+use Rattle.silence_weighting.proofs.Calls.{refusal-broken, refusal-ready, refusal-first, refusal-wanted, refusal-nothing, refusal-short, refusal-none, refusal-roomy}
 use Rattle.silence_weighting.proofs.delta_refusal.Statement.{statement}
 use Rattle.silence_weighting.proofs.delta_refusal.Tie as tie
 
@@ -74,19 +76,33 @@ returns-5 c =
 larger-requires : tie.Need-larger-requires
 larger-requires c κs = search needs
 
-count-changes-requires : tie.Need-count-changes-requires
-count-changes-requires c κs =
-    let b = unbroken (c .before .before .before .before .before .before .before .before .before .before .before .before .before) in
-    (omega arith, omega arith, omega arith, omega arith, omega arith, omega arith)
-
 smaller-requires : tie.Need-smaller-requires
 smaller-requires c κs = search needs
 
+walk-begin-requires : tie.Need-walk-begin-requires
+walk-begin-requires c κs = search needs
+
+less-requires-2 : tie.Need-less-requires-2
+less-requires-2 c κs = search needs
+
+mul-if6 : tie.Need-mul-if6
+mul-if6 c =
+    let at-less2 = c .before in
+    let at-larger = at-less2 .before .before .before in
+    let at-if4 = at-larger .before .before .before .before in
+    let at-if1 = at-if4 .before .before .before .before .before .before .before .before .before in
+    let b = unbroken at-if1 in
+    let size : at-larger .larger .result ≤ 1000000 = omega (arith, at-larger .larger .ensures, at-if4 .if4 .left, at-if4 .before .before .places .ensures) in
+    let out : at-less2 .less2 .result ≤ 1000000 = omega (arith, at-less2 .less2 .ensures, size) in
+    let sub : at-if1 .before .before .before .before .before .args .s .subsampling ≤ 16 = omega arith in
+    omega (arith, mul-le-mul out sub)
+
 returns-6 : tie.Need-returns-6
 returns-6 c =
-    let at-smaller = c .before in
-    let at-count-changes = at-smaller .before in
-    let at-larger = at-count-changes .before in
+    let at-less2 = c .before .before in
+    let at-walk-begin = at-less2 .before in
+    let at-smaller = at-walk-begin .before in
+    let at-larger = at-smaller .before in
     let at-if5 = at-larger .before in
     let at-if4 = at-if5 .before .before .before in
     let at-places = at-if4 .before .before in
@@ -97,13 +113,18 @@ returns-6 c =
     let at-if1 = at-if2 .before .before in
     let at-table-broken = at-if1 .before in
     let args = at-table-broken .before .before .before .before .args in
-    refusal-short (args .s) (args .known .now) (args .is-silence .now) (args .current-weight .now) (args .ready .0) (args .first .0) (args .frames) (args .weights) (sym (at-table-broken .table-broken .ensures) ∙ at-if1 .if1 .left) (at-if2 .if2 .left) (at-if3 .if3 .left) _ _ _ (at-places .places .ensures) (at-decoder-frames .decoder-frames .ensures) (at-less .less .ensures) (at-if4 .if4 .left) (at-if5 .if5 .left) _ _ _ (at-larger .larger .ensures) (at-count-changes .count-changes .ensures (args .first .0)) (at-smaller .smaller .ensures) (c .if6 .taken)
+    refusal-roomy (args .s) (args .known .now) (args .is-silence .now) (args .current-weight .now) (args .ready .0) (args .first .0) (args .frames) (args .weights) (sym (at-table-broken .table-broken .ensures) ∙ at-if1 .if1 .left) (at-if2 .if2 .left) (at-if3 .if3 .left) _ _ _ (at-places .places .ensures) (at-decoder-frames .decoder-frames .ensures) (at-less .less .ensures) (at-if4 .if4 .left) (at-if5 .if5 .left) _ _ _ (at-larger .larger .ensures) refl (at-smaller .smaller .ensures) _ _ (at-walk-begin .walk-begin .ensures) (at-less2 .less2 .ensures) (c .if6 .taken)
+
+count-changes-requires : tie.Need-count-changes-requires
+count-changes-requires c κs =
+    let b = unbroken (c .before .before .before .before .before .before .before .before .before .before .before .before .before .before .before .before .before .before) in
+    (omega arith, omega arith, omega arith, omega arith, omega arith, omega arith)
 
 returns-7 : tie.Need-returns-7
 returns-7 c =
-    let at-smaller = c .before in
-    let at-count-changes = at-smaller .before in
-    let at-larger = at-count-changes .before in
+    let at-count-changes = c .before in
+    let at-smaller = at-count-changes .before .before .before .before .before in
+    let at-larger = at-smaller .before in
     let at-if5 = at-larger .before in
     let at-if4 = at-if5 .before .before .before in
     let at-places = at-if4 .before .before in
@@ -114,7 +135,24 @@ returns-7 c =
     let at-if1 = at-if2 .before .before in
     let at-table-broken = at-if1 .before in
     let args = at-table-broken .before .before .before .before .args in
-    refusal-none (args .s) (args .known .now) (args .is-silence .now) (args .current-weight .now) (args .ready .0) (args .first .0) (args .frames) (args .weights) (sym (at-table-broken .table-broken .ensures) ∙ at-if1 .if1 .left) (at-if2 .if2 .left) (at-if3 .if3 .left) _ _ _ (at-places .places .ensures) (at-decoder-frames .decoder-frames .ensures) (at-less .less .ensures) (at-if4 .if4 .left) (at-if5 .if5 .left) _ _ _ (at-larger .larger .ensures) (at-count-changes .count-changes .ensures (args .first .0)) (at-smaller .smaller .ensures) (c .if6 .left)
+    refusal-short (args .s) (args .known .now) (args .is-silence .now) (args .current-weight .now) (args .ready .0) (args .first .0) (args .frames) (args .weights) (sym (at-table-broken .table-broken .ensures) ∙ at-if1 .if1 .left) (at-if2 .if2 .left) (at-if3 .if3 .left) _ _ _ (at-places .places .ensures) (at-decoder-frames .decoder-frames .ensures) (at-less .less .ensures) (at-if4 .if4 .left) (at-if5 .if5 .left) _ _ _ (at-larger .larger .ensures) (at-count-changes .count-changes .ensures (args .first .0)) (at-smaller .smaller .ensures) (c .if7 .taken)
+
+returns-8 : tie.Need-returns-8
+returns-8 c =
+    let at-count-changes = c .before in
+    let at-smaller = at-count-changes .before .before .before .before .before in
+    let at-larger = at-smaller .before in
+    let at-if5 = at-larger .before in
+    let at-if4 = at-if5 .before .before .before in
+    let at-places = at-if4 .before .before in
+    let at-decoder-frames = at-places .before in
+    let at-less = at-decoder-frames .before in
+    let at-if3 = at-less .before in
+    let at-if2 = at-if3 .before .before in
+    let at-if1 = at-if2 .before .before in
+    let at-table-broken = at-if1 .before in
+    let args = at-table-broken .before .before .before .before .args in
+    refusal-none (args .s) (args .known .now) (args .is-silence .now) (args .current-weight .now) (args .ready .0) (args .first .0) (args .frames) (args .weights) (sym (at-table-broken .table-broken .ensures) ∙ at-if1 .if1 .left) (at-if2 .if2 .left) (at-if3 .if3 .left) _ _ _ (at-places .places .ensures) (at-decoder-frames .decoder-frames .ensures) (at-less .less .ensures) (at-if4 .if4 .left) (at-if5 .if5 .left) _ _ _ (at-larger .larger .ensures) (at-count-changes .count-changes .ensures (args .first .0)) (at-smaller .smaller .ensures) (c .if7 .left)
 
 pub delta-refusal-spec : {M : Type 1} → statement M
 delta-refusal-spec =
@@ -130,7 +168,11 @@ delta-refusal-spec =
     returns-4
     returns-5
     larger-requires
-    count-changes-requires
     smaller-requires
+    walk-begin-requires
+    less-requires-2
+    mul-if6
     returns-6
-    returns-7)
+    count-changes-requires
+    returns-7
+    returns-8)
