@@ -26,7 +26,7 @@ use Rattle.definition.proofs.Computed.{computed}
 -- ---- options and models
 
 -- the Rust's default options but for the contexts, the scale and the iterations
-abbrev opts : ℕ → ℕ → Float → ℕ → IvectorOptions
+abbrev pub opts : ℕ → ℕ → Float → ℕ → IvectorOptions
 opts left right scale iters =
     record {
       «left_context» = left;
@@ -57,14 +57,14 @@ one = 0 ∷ 0 ∷ 128 ∷ 63 ∷ []
 abbrev wide-one : List ℕ
 wide-one = 0 ∷ 0 ∷ 0 ∷ 0 ∷ 0 ∷ 0 ∷ 240 ∷ 63 ∷ []
 
-abbrev wide-two : List ℕ
+abbrev pub wide-two : List ℕ
 wide-two = 0 ∷ 0 ∷ 0 ∷ 0 ∷ 0 ∷ 0 ∷ 0 ∷ 64 ∷ []
 
-abbrev wide-zero : List ℕ
+abbrev pub wide-zero : List ℕ
 wide-zero = replicate 8 0
 
 -- P9's files, with M
-abbrev files : List ℕ → Files
+abbrev pub files : List ℕ → Files
 files m =
     record {
       gmm = (0 ∷ 66 ∷ []) ++ text "<DiagGMM> <WEIGHTS> FV " ++ len 1 ++ one ++ text "<MEANS_INVVARS> FM " ++ len 1 ++ len 1 ++ one
@@ -76,7 +76,7 @@ files m =
       cmvn = text " [ 50 100" ++ (10 ∷ []) ++ text "1 0 ]" ++ (10 ∷ []);
     }
 
-abbrev tables : TableLengths
+abbrev pub tables : TableLengths
 tables =
     record {
       gconsts = 1;
@@ -90,7 +90,7 @@ tables =
     }
 
 -- its model, as a load gives it: gconst is ln 1 - 0.5 ln (2 pi) + 0.5 ln 1 - 0.5, as an f32
-abbrev model : IvectorOptions → ℕ → Model
+abbrev pub model : IvectorOptions → ℕ → Model
 model o m =
     record {
       info = record {
@@ -109,7 +109,7 @@ model o m =
       global-mean-stats = count 50 ∷ count 100 ∷ [];
     }
 
-abbrev single : ℕ → IvectorOptions
+abbrev pub single : ℕ → IvectorOptions
 single iters = opts 0 0 quarter iters
 
 abbrev rooms : RoomLengths
@@ -126,7 +126,7 @@ rooms =
       scratch = 1;
     }
 
-abbrev said : ℕ → ℕ → ℕ → List ℕ → ℕ → Answer
+abbrev pub said : ℕ → ℕ → ℕ → List ℕ → ℕ → Answer
 said r f n v c = record { refusal = r; frames-held = f; rows-held = n; vector = v; not-finite = c }
 
 abbrev pair : Float → Float → List Float

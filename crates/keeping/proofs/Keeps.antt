@@ -62,22 +62,22 @@ module _ (M : Model) (z : RoomLengths) (k : Machine) where
   not-ten (K.fetch f m) e = first-not 10 _ (omega arith) (omega arith, (omega arith, (omega arith, tt))) e
 
 module _ (i : IvectorInfo) (z : RoomLengths) (n : ℕ) (t : Tables) (made : Made i t z) where
-  abbrev M : Model
+  abbrev pub M : Model
   M = modelIn i t
 
   -- the machine's number, and what it then is
-  abbrev number : Machine → Given → ℕ
+  abbrev pub number : Machine → Given → ℕ
   number k g = firstOf (tests M z k (callOf g))
 
-  abbrev then : Machine → Given → Machine
+  abbrev pub then : Machine → Given → Machine
   then k g = taken (number k g) (after M k (callOf g)) k
 
   -- ---- the state after any call
 
-  abbrev Moved : Machine → Rooms → Given → Type 0
+  abbrev pub Moved : Machine → Rooms → Given → Type 0
   Moved k w g = (w′ : Rooms) × (taken (number k g) (leaves t n (program (streamOf i z k) w) g) (program (streamOf i z k) w) ≡ program (streamOf i z (then k g)) w′) × Inv i z n (then k g) w′
 
-  moved : (k : Machine) (w : Rooms) → Inv i z n k w → (g : Given) → Moved k w g
+  pub moved : (k : Machine) (w : Rooms) → Inv i z n k w → (g : Given) → Moved k w g
   moved k w v g = go (number k g) refl
     where
       go : (r : ℕ) → number k g ≡ r → Moved k w g
@@ -194,14 +194,14 @@ made-stream zero s s′ e = (refl, cc)
 made-stream (suc r) s s′ e = let w : _≡_ {A = ℕ} 0 1 = cc in absurd (omega arith)
 
 module _ (i : IvectorInfo) (t : Tables) (z : Rooms) (n : ℕ) where
-  abbrev lengths : RoomLengths
+  abbrev pub lengths : RoomLengths
   lengths = roomLengthsOf z n
 
-  fresh-made : newRefusal i (tableLengthsOf t) lengths ≡ 0 → Made i t lengths
+  pub fresh-made : newRefusal i (tableLengthsOf t) lengths ≡ 0 → Made i t lengths
   unfolding newRefusal
   fresh-made e = let h = none-first _ tt e in record { tables-are = not-false _ (h .0); info-is = not-false _ (h .1 .0); rooms-fit = not-false _ (h .1 .1 .0) }
 
-  fresh-stream : streamOf i lengths (fresh (modelIn i t)) ≡ freshStream i lengths
+  pub fresh-stream : streamOf i lengths (fresh (modelIn i t)) ≡ freshStream i lengths
   unfolding fresh freshStream newStats
   fresh-stream = refl
 
@@ -225,7 +225,7 @@ module _ (i : IvectorInfo) (t : Tables) (z : Rooms) (n : ℕ) where
         → at (over (replicate dim zero₆₄) (z .rows)) (place (length (over (replicate dim zero₆₄) (z .rows))) dim u + d) ≡ sum₆₄ zero₆₄ u (λ k. at (getD [] k []) d)
     prefix-none u d p l = let e : u ≡ 0 = omega arith in rw e (row-none d l ∙ iter-none _ zero₆₄)
 
-    fresh-inv : Inv i lengths n (fresh (modelIn i t)) (freshRooms i z)
+    pub fresh-inv : Inv i lengths n (fresh (modelIn i t)) (freshRooms i z)
     unfolding fresh freshRooms waitingIn build rising anyOf allFrames ringAt
     fresh-inv =
         let fit : Fitting (i .dims) lengths = fitting (i .dims) lengths (made .rooms-fit) in
