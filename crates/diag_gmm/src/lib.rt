@@ -22,19 +22,6 @@ fn clear(sum: &mut [f32])
     }
 }
 
-// Dimension k of a table times v, added for each Gaussian.
-fn add_dimension(table: &[f32], k: usize, v: f32, sum: &mut [f32])
-    requires { ⌜ k * length (now sum) + length (now sum) ≤ length (now table) ⌝ }
-    ensures { λ _. ⌜ now (sum .exit) ≡ fill (length (now (sum .entry))) (λ m. at (now (sum .entry)) m +₃₂ at (now (table .entry)) (k * length (now (sum .entry)) + m) *₃₂ v) (now (sum .entry)) ⌝ }
-{
-    let start = k * sum.len();
-    let end = start + sum.len();
-    let row = &table[start..end];
-    for m in 0..sum.len() {
-        sum[m] += row[m] * v;
-    }
-}
-
 fn add_constants(gconsts: &[f32], b: &[f32], out: &mut [f32])
     requires { ⌜ (length (now out) ≤ length (now gconsts)) × (length (now b) ≡ length (now out)) ⌝ }
     ensures { λ _. ⌜ now (out .exit) ≡ fill (length (now (out .entry))) (λ m. at (now (gconsts .entry)) m +₃₂ at (now (out .entry)) m -₃₂ f32 0x3f00_0000 *₃₂ at (now (b .entry)) m) (now (out .entry)) ⌝ }
@@ -61,11 +48,8 @@ pub fn loglikes(
 {
     clear(out);
     clear(b);
-    for k in 0..d {
-        let xk = x[k];
-        add_dimension(means_invvars_t, k, xk, out);
-        add_dimension(inv_vars_t, k, xk * xk, b);
-    }
+    table_sums::add_rows(means_invvars_t, x, false, d, out);
+    table_sums::add_rows(inv_vars_t, x, true, d, b);
     add_constants(gconsts, b, out);
 }
 

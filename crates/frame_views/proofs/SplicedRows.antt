@@ -1,23 +1,21 @@
--- Laws of the spliced row and of its transform.
+-- Laws of the spliced row.
 use mathlib.Core.Path.{_≡_, refl, sym, ap, _∙_}
 use mathlib.Core.Bool.{Bool, true, false}
 use mathlib.Core.List.{List}
 use Prim.Native.Nat.{ℕ, zero, suc, _+_, _-_, _*_, _≤_, min}
 use native.Mathlib.Nat.{zero-mul, suc-mul, mul-le-mul}
 use native.Mathlib.Omega.{arith}
-use lib.ListN.{length, take, drop, length-append}
+use lib.ListN.{length, take, length-append}
 use lib.Ieee.{Float, nan}
 use Rattle.loops.specs.Loop.{iter}
 use Rattle.loops.specs.Lists.{if_then_else_, build, flat, over}
-use Rattle.loops.specs.Steps.{fill, put}
+use Rattle.loops.specs.Steps.{put}
 use Rattle.loops.proofs.Loop.{at-end, iter-more}
 use Rattle.loops.proofs.Choose.{choose-true, choose-false}
 use Rattle.loops.proofs.Build.{length-build, take-build, build-list}
-use Rattle.loops.proofs.Fill.{fill-ext, over-none, over-put, over-whole}
+use Rattle.loops.proofs.Fill.{over-none, over-put, over-whole}
 use Rattle.loops.proofs.Flat.{flat-none, flat-snoc}
-use Rattle.loops.proofs.Columns.{columns-turn}
-use Rattle.loops.proofs.Parts.{at-part, lent-is}
-use Rattle.floats.specs.Operators.{_+₃₂_, _*₃₂_, at, sum₃₂}
+use Rattle.floats.specs.Operators.{at}
 use Rattle.definition.specs.declared.IvectorOptions.{IvectorOptions}
 use Rattle.definition.specs.Options.{width}
 use Rattle.definition.specs.Views.{Frames, cmvnState, cmvnFrame, spliceAt, rawRow, normalisedRow}
@@ -105,15 +103,3 @@ spliced-row-on o dim global F false t state = raw-to o dim global F t (width o) 
 -- its length: there is room for 17 frames of 64 numbers
 pub row-small : (left right dim : ℕ) → left ≤ 8 → right ≤ 8 → dim ≤ 64 → (left + 1 + right) * dim ≤ 1088
 row-small left right dim p q h = mul-le-mul {n₁ = left + 1 + right} {n₂ = 17} (omega arith) h
-
--- ---- the transform
-
-module _ (d : ℕ) (lda offset row : List Float) where
-  -- column k, lent, times element k of the row
-  pub column-turn : (k : ℕ) {v : Float} {x y : List Float} → v ≡ at row k
-      → x ≡ build d (λ r. sum₃₂ (at offset r) k (λ c. at lda (c * d + r) *₃₂ at row c))
-      → y ≡ fill d (λ r. at x r +₃₂ at (take (k * d + d - k * d) (drop (k * d) lda)) r *₃₂ v) x
-      → y ≡ build d (λ r. sum₃₂ (at offset r) (k + 1) (λ c. at lda (c * d + r) *₃₂ at row c))
-  column-turn k {v} {x} e g h =
-      columns-turn nan d (λ r c a. a +₃₂ at lda (c * d + r) *₃₂ at row c) (at offset) k g
-      (h ∙ fill-ext d _ _ x (λ r p. rw (e, lent-is (k * d) d (k * d + d) lda refl, at-part nan (k * d) d lda r p)))

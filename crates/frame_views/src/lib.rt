@@ -10,7 +10,7 @@ ghost use lib.Ieee.{lt};
 ghost use Rattle.loops.specs.Lists.{if_then_else_, build};
 ghost use Rattle.loops.specs.Ring.{rowsIn};
 ghost use Rattle.loops.specs.Steps.{fill, put};
-ghost use Rattle.floats.specs.Operators.{_-₃₂_, _+₃₂_, _*₃₂_, _+₆₄_, _-₆₄_, _*₆₄_, _/₆₄_, at};
+ghost use Rattle.floats.specs.Operators.{_-₃₂_, _+₆₄_, _-₆₄_, _*₆₄_, _/₆₄_, at};
 ghost use Rattle.floats.specs.Narrow.{narrowed};
 ghost use Rattle.definition.specs.Options.{width};
 ghost use Rattle.definition.specs.Views.{smoothed, windowed, cmvnState, cmvnFrame, spliceAt, ldaFrame};
@@ -290,28 +290,13 @@ fn copy_offset(offset: &[f32], n: usize, out: &mut [f32])
     }
 }
 
-// One column of the LDA, times its element of the row.
-fn add_column(column: &[f32], x: f32, n: usize, out: &mut [f32])
-    requires { ⌜ (n ≤ length (now column)) × (n ≤ length (now out)) ⌝ }
-    ensures { λ _. ⌜ now (out .exit) ≡ fill n (λ r. at (now (out .entry)) r +₃₂ at (now (column .entry)) r *₃₂ x) (now (out .entry)) ⌝ }
-{
-    for r in 0..n {
-        out[r] += column[r] * x;
-    }
-}
-
 // The LDA of a spliced row, column by column.
 fn transform(lda_t: &[f32], lda_offset: &[f32], row: &[f32], d: usize, out: &mut [f32])
     requires { ⌜ (length (now row) * d ≤ length (now «lda_t»)) × (d ≤ length (now «lda_offset»)) × (length (now out) ≡ d) ⌝ }
     ensures { λ _. ⌜ now (out .exit) ≡ ldaFrame d (now («lda_t» .entry)) (now («lda_offset» .entry)) (now (row .entry)) ⌝ }
 {
     copy_offset(lda_offset, d, out);
-    let cols = row.len();
-    for k in 0..cols {
-        let start = k * d;
-        let end = start + d;
-        add_column(&lda_t[start..end], row[k], d, out);
-    }
+    table_sums::add_rows(lda_t, row, false, row.len(), out);
 }
 
 // `lda_frame` in lent rooms for the view of a frame and for the spliced row.
