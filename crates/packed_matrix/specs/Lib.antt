@@ -1,0 +1,2 @@
+-- What stands between the definitions and the code.
+pub mod Steps
