@@ -54,24 +54,23 @@ static size_t waiting_frames[1];
 
 static shofrakin_stream stream;
 
-static void take(const char *what, shofrakin_stream_call c) {
-    if (c.answer.refusal) fail(what, c.answer.refusal);
-    stream = c.stream;
+static void take(const char *what, shofrakin_stream_answer a) {
+    if (a.refusal) fail(what, a.refusal);
 }
 
 static void print_vector(size_t frame) {
-    uint32_t out[S];
+    static uint32_t out[S];
     size_t n = shofrakin_ivector_dim(stream);
-    shofrakin_stream_call c = shofrakin_get_frame(stream, frame, TABLES, RINGS, ESTIMATE, out, n);
-    take("fetch", c);
-    printf("frame %zu, held %zu and %zu:", frame, c.answer.frames_held, c.answer.rows_held);
+    shofrakin_stream_answer a = shofrakin_get_frame(&stream, frame, TABLES, RINGS, ESTIMATE, out, n);
+    take("fetch", a);
+    printf("frame %zu, held %zu and %zu:", frame, a.frames_held, a.rows_held);
     for (size_t i = 0; i < n; i++) {
         float x;
         memcpy(&x, out + i, sizeof x);
         printf(" %.6g", x);
     }
     printf("\n");
-    take("forget", shofrakin_forget_before(stream, frame + 1, RINGS));
+    take("forget", shofrakin_forget_before(&stream, frame + 1, RINGS));
 }
 
 int main(int argc, char **argv) {
@@ -101,11 +100,11 @@ int main(int argc, char **argv) {
         size_t n = 0;
         while (n < b && fscanf(f, "%f", frame + n) == 1) n++;
         if (n == 0) break;
-        take("push", shofrakin_push_frame(stream, frame, n, RINGS));
+        take("push", shofrakin_push_frame(&stream, frame, n, RINGS));
         ready = shofrakin_num_frames_ready(stream);
         if (ready % 10 == 0 && ready > shofrakin_num_frames_stats(stream)) print_vector(ready - 1);
     }
-    take("finish", shofrakin_set_input_finished(stream, RINGS));
+    take("finish", shofrakin_set_input_finished(&stream, RINGS));
     ready = shofrakin_num_frames_ready(stream);
     if (ready) print_vector(ready - 1);
     return 0;

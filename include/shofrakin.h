@@ -3,12 +3,15 @@
  *
  * What a caller sees to:
  * - A slice is a pointer and a length, two arguments. No pointer is null; where a length is 0 any aligned address will do.
+ * - What is lent is initialised memory, also a room that a call only writes.
  * - A room that a call writes overlaps nothing else that the call is lent.
+ * - A stream's record stays where the host keeps it. A call on it takes a pointer to it, first, and writes the numbers that change. During
+ *   the call nothing else reads or writes the record, and it overlaps no slice lent. A silence table's record goes in by value and comes
+ *   back by value: what comes back takes its place. A record may be copied, and is not written by hand.
  * - A bool is 0 or 1, in records and in rooms.
- * - Records go in by value and come back by value. What comes back takes the place of what went in. A record is not written by hand.
  * - A room keeps its contents from call to call; its length is the one that the record was made with.
- * The calls ask nothing else: whatever numbers they get, they return. They keep no state, allocate nothing, and may run in several
- * threads on different records and rooms.
+ * The calls ask nothing else: whatever numbers they get, they return; the questions answer any record. They keep no state, allocate
+ * nothing, and may run in several threads on different records and rooms.
  *
  * Answers: `refusal` is 0 for a call that is taken, else a number from 1 to 24. A refused call writes nowhere.
  *   1 an option is outside its range               13 push: 1,000,000,000 frames are in
@@ -146,12 +149,6 @@ typedef struct {
     size_t not_finite;
 } shofrakin_stream_answer;
 
-/* What a call on a stream returns: its answer, and the record for the next call. */
-typedef struct {
-    shofrakin_stream_answer answer;
-    shofrakin_stream stream;
-} shofrakin_stream_call;
-
 /* A fresh stream on a loaded model, in rooms for F frames (Fb numbers) and R prefix rows (Rb numbers, R above 1), lists for the changes
  * that wait, and rooms of b+1, s, s(s+1)/2 and s numbers; scratch is the larger of gd and ss. Longer rooms are taken. Refusals 10, 8.
  * F frames are as many as may be held at once, and R = F + window rows are enough. */
@@ -167,29 +164,29 @@ shofrakin_new_stream_answer shofrakin_new_stream(shofrakin_info info,
     const double *scratch, size_t scratch_len);
 
 /* Appends a frame of b numbers. Refusals 10 to 15. */
-shofrakin_stream_call shofrakin_push_frame(shofrakin_stream s, const float *frame, size_t frame_len,
+shofrakin_stream_answer shofrakin_push_frame(shofrakin_stream *s, const float *frame, size_t frame_len,
     float *frames, size_t frames_len, double *rows, size_t rows_len,
     const size_t *waiting_frames, size_t waiting_frames_len, const float *waiting_weights, size_t waiting_weights_len);
 
 /* No frame needs its right context any more: every accepted frame is ready. Refusal 10. */
-shofrakin_stream_call shofrakin_set_input_finished(shofrakin_stream s,
+shofrakin_stream_answer shofrakin_set_input_finished(shofrakin_stream *s,
     const float *frames, size_t frames_len, const double *rows, size_t rows_len,
     const size_t *waiting_frames, size_t waiting_frames_len, const float *waiting_weights, size_t waiting_weights_len);
 
 /* Changes of weights, by frame. From the first such call on, even an empty one, fetches are weighted. Refusals 10, 16 to 19. */
-shofrakin_stream_call shofrakin_update_frame_weights(shofrakin_stream s,
+shofrakin_stream_answer shofrakin_update_frame_weights(shofrakin_stream *s,
     const size_t *delta_frames, size_t delta_frames_len, const float *delta_weights, size_t delta_weights_len,
     const float *frames, size_t frames_len, const double *rows, size_t rows_len,
     size_t *waiting_frames, size_t waiting_frames_len, float *waiting_weights, size_t waiting_weights_len);
 
 /* An utterance begins at `frame`, and no change will reach before it: frees what neither it nor a waiting change can need. Refusal 10. */
-shofrakin_stream_call shofrakin_forget_before(shofrakin_stream s, size_t frame,
+shofrakin_stream_answer shofrakin_forget_before(shofrakin_stream *s, size_t frame,
     const float *frames, size_t frames_len, const double *rows, size_t rows_len,
     const size_t *waiting_frames, size_t waiting_frames_len, const float *waiting_weights, size_t waiting_weights_len);
 
 /* The vector at `frame`, the bits of s floats, NaN as 7FC00000. Brings the statistics up to the frame; below them it answers the current
  * vector. Refusals 10, 20, 21, 22. */
-shofrakin_stream_call shofrakin_get_frame(shofrakin_stream s, size_t frame,
+shofrakin_stream_answer shofrakin_get_frame(shofrakin_stream *s, size_t frame,
     const float *gconsts, size_t gconsts_len, const float *means_invvars_t, size_t means_invvars_t_len,
     const float *inv_vars_t, size_t inv_vars_t_len, const double *sigma_inv_m, size_t sigma_inv_m_len,
     const double *u, size_t u_len, const float *lda_t, size_t lda_t_len,

@@ -98,12 +98,11 @@ static size_t waiting_frames[3];
 #define ESTIMATE cmvn, 2, linear, 1, quadratic, 1, current, 1, scratch, 2
 
 static shofrakin_stream stream;
-static void took(const char *name, shofrakin_stream_call c, size_t refusal, size_t frames_held, size_t rows_held) {
-    is(name, c.answer.refusal, refusal);
-    is("frames held", c.answer.frames_held, frames_held);
-    is("rows held", c.answer.rows_held, rows_held);
-    is("not finite", c.answer.not_finite, 0);
-    stream = c.stream;
+static void took(const char *name, shofrakin_stream_answer a, size_t refusal, size_t frames_held, size_t rows_held) {
+    is(name, a.refusal, refusal);
+    is("frames held", a.frames_held, frames_held);
+    is("rows held", a.rows_held, rows_held);
+    is("not finite", a.not_finite, 0);
 }
 
 int main(void) {
@@ -135,29 +134,31 @@ int main(void) {
     is("its scratch", stream.rooms.scratch, 2);
     a = shofrakin_new_stream(info, TABLES, RINGS, cmvn, 1, linear, 1, quadratic, 1, current, 1, scratch, 2);
     is("fresh stream, short room", a.refusal, 8);
-    is("the call on the record beside it", shofrakin_set_input_finished(a.stream, RINGS).answer.refusal, 10);
+    is("the call on the record beside it", shofrakin_set_input_finished(&a.stream, RINGS).refusal, 10);
     for (int t = 0; t < 4; t++) {
         float x = 60 + t;
-        took("push", shofrakin_push_frame(stream, &x, 1, RINGS), 0, t + 1, t + 2);
+        took("push", shofrakin_push_frame(&stream, &x, 1, RINGS), 0, t + 1, t + 2);
     }
     is("prefix row 4", rows[4], 60 + 61 + 62 + 63);
+    is("accepted", stream.accepted, 4);
     float x = 1, two[2] = {1, 2};
-    took("push, full", shofrakin_push_frame(stream, &x, 1, RINGS), 14, 4, 5);
-    took("push, two numbers", shofrakin_push_frame(stream, two, 2, RINGS), 11, 4, 5);
+    took("push, full", shofrakin_push_frame(&stream, &x, 1, RINGS), 14, 4, 5);
+    is("accepted, after a refusal", stream.accepted, 4);
+    took("push, two numbers", shofrakin_push_frame(&stream, two, 2, RINGS), 11, 4, 5);
     is("ready", shofrakin_num_frames_ready(stream), 3);
-    took("finish", shofrakin_set_input_finished(stream, RINGS), 0, 4, 5);
+    took("finish", shofrakin_set_input_finished(&stream, RINGS), 0, 4, 5);
     is("ready", shofrakin_num_frames_ready(stream), 4);
     size_t at[3] = {3, 1, 2};
     float w[3] = {0.5f, 1, 0.25f};
-    took("change", shofrakin_update_frame_weights(stream, at, 3, w, 3, RINGS), 0, 4, 5);
+    took("change", shofrakin_update_frame_weights(&stream, at, 3, w, 3, RINGS), 0, 4, 5);
     is("the first that waits", waiting_frames[0], 1);
     is("its weight", waiting_weights[0], 1);
     is("the last that waits", waiting_frames[2], 3);
     is("one past the highest", stream.past_highest, 4);
     is("a change call was taken", stream.delta_weights_provided, true);
-    took("change, no room", shofrakin_update_frame_weights(stream, at, 1, w, 1, RINGS), 19, 4, 5);
-    took("change, lists", shofrakin_update_frame_weights(stream, at, 2, w, 1, RINGS), 16, 4, 5);
-    took("forget", shofrakin_forget_before(stream, 3, RINGS), 0, 4, 5);
+    took("change, no room", shofrakin_update_frame_weights(&stream, at, 1, w, 1, RINGS), 19, 4, 5);
+    took("change, lists", shofrakin_update_frame_weights(&stream, at, 2, w, 1, RINGS), 16, 4, 5);
+    took("forget", shofrakin_forget_before(&stream, 3, RINGS), 0, 4, 5);
     is("i-vector dimension", shofrakin_ivector_dim(stream), 1);
     is("next", shofrakin_num_frames_stats(stream), 0);
 
@@ -168,22 +169,23 @@ int main(void) {
     m = shofrakin_load(opts, FILES, TABLES, scratch, 2);
     a = shofrakin_new_stream(m.info, TABLES, RINGS, ESTIMATE);
     is("P9's stream", a.refusal, 0);
+    stream = a.stream;
     x = 4;
-    took("P9's push", shofrakin_push_frame(a.stream, &x, 1, RINGS), 0, 1, 2);
+    took("P9's push", shofrakin_push_frame(&stream, &x, 1, RINGS), 0, 1, 2);
     uint32_t out[1] = {0};
-    took("P9's fetch", shofrakin_get_frame(stream, 0, TABLES, RINGS, ESTIMATE, out, 1), 0, 1, 2);
+    took("P9's fetch", shofrakin_get_frame(&stream, 0, TABLES, RINGS, ESTIMATE, out, 1), 0, 1, 2);
     float half;
     memcpy(&half, out, 4);
     is("P9", half, 0.5);
     is("next", shofrakin_num_frames_stats(stream), 1);
-    took("a frame too far", shofrakin_get_frame(stream, 1, TABLES, RINGS, ESTIMATE, out, 1), 21, 1, 2);
-    took("an output too long", shofrakin_get_frame(stream, 0, TABLES, RINGS, ESTIMATE, out, 0), 20, 1, 2);
+    took("a frame too far", shofrakin_get_frame(&stream, 1, TABLES, RINGS, ESTIMATE, out, 1), 21, 1, 2);
+    took("an output too long", shofrakin_get_frame(&stream, 0, TABLES, RINGS, ESTIMATE, out, 0), 20, 1, 2);
 
     /* the scope's P12 */
     bool known[8] = {0}, is_silence[8] = {0};
-    float current_weight[8] = {0}, weights[16];
+    float current_weight[8] = {0}, weights[16] = {0};
     int32_t phones[2] = {1, 2}, path[1] = {2};
-    size_t by[16], from[1] = {0}, to[1] = {2};
+    size_t by[16] = {0}, from[1] = {0}, to[1] = {2};
     shofrakin_new_table_answer b = shofrakin_new_silence_weighting(phones, 2, 0.25f, 17, 8);
     is("table, subsampling 17", b.refusal, 9);
     b = shofrakin_new_silence_weighting(phones, 2, 0.25f, 3, 8);

@@ -106,13 +106,6 @@ pub struct StreamAnswer {
 
 #[repr(C)]
 #[derive(Clone, Copy, Debug, PartialEq)]
-pub struct StreamCall {
-    pub answer: StreamAnswer,
-    pub stream: IvectorStream,
-}
-
-#[repr(C)]
-#[derive(Clone, Copy, Debug, PartialEq)]
 pub struct InputFrame(pub usize);
 
 #[repr(C)]
@@ -172,25 +165,25 @@ mod c {
             scratch: *const f64, scratch_len: usize,
         ) -> NewStreamAnswer;
         pub fn shofrakin_push_frame(
-            s: IvectorStream, frame: *const f32, frame_len: usize,
+            s: *mut IvectorStream, frame: *const f32, frame_len: usize,
             frames: *mut f32, frames_len: usize, rows: *mut f64, rows_len: usize,
             waiting_frames: *const usize, waiting_frames_len: usize, waiting_weights: *const f32, waiting_weights_len: usize,
-        ) -> StreamCall;
+        ) -> StreamAnswer;
         pub fn shofrakin_set_input_finished(
-            s: IvectorStream, frames: *const f32, frames_len: usize, rows: *const f64, rows_len: usize,
+            s: *mut IvectorStream, frames: *const f32, frames_len: usize, rows: *const f64, rows_len: usize,
             waiting_frames: *const usize, waiting_frames_len: usize, waiting_weights: *const f32, waiting_weights_len: usize,
-        ) -> StreamCall;
+        ) -> StreamAnswer;
         pub fn shofrakin_update_frame_weights(
-            s: IvectorStream, delta_frames: *const usize, delta_frames_len: usize, delta_weights: *const f32, delta_weights_len: usize,
+            s: *mut IvectorStream, delta_frames: *const usize, delta_frames_len: usize, delta_weights: *const f32, delta_weights_len: usize,
             frames: *const f32, frames_len: usize, rows: *const f64, rows_len: usize,
             waiting_frames: *mut usize, waiting_frames_len: usize, waiting_weights: *mut f32, waiting_weights_len: usize,
-        ) -> StreamCall;
+        ) -> StreamAnswer;
         pub fn shofrakin_forget_before(
-            s: IvectorStream, frame: usize, frames: *const f32, frames_len: usize, rows: *const f64, rows_len: usize,
+            s: *mut IvectorStream, frame: usize, frames: *const f32, frames_len: usize, rows: *const f64, rows_len: usize,
             waiting_frames: *const usize, waiting_frames_len: usize, waiting_weights: *const f32, waiting_weights_len: usize,
-        ) -> StreamCall;
+        ) -> StreamAnswer;
         pub fn shofrakin_get_frame(
-            s: IvectorStream, frame: usize,
+            s: *mut IvectorStream, frame: usize,
             gconsts: *const f32, gconsts_len: usize, means_invvars_t: *const f32, means_invvars_t_len: usize,
             inv_vars_t: *const f32, inv_vars_t_len: usize, sigma_inv_m: *const f64, sigma_inv_m_len: usize,
             u: *const f64, u_len: usize, lda_t: *const f32, lda_t_len: usize,
@@ -200,7 +193,7 @@ mod c {
             cmvn_stats: *mut f64, cmvn_stats_len: usize, linear: *mut f64, linear_len: usize,
             quadratic: *mut f64, quadratic_len: usize, current: *mut f64, current_len: usize,
             scratch: *mut f64, scratch_len: usize, out: *mut u32, out_len: usize,
-        ) -> StreamCall;
+        ) -> StreamAnswer;
         pub fn shofrakin_num_frames_ready(s: IvectorStream) -> usize;
         pub fn shofrakin_ivector_dim(s: IvectorStream) -> usize;
         pub fn shofrakin_num_frames_stats(s: IvectorStream) -> usize;
@@ -509,6 +502,46 @@ fn bits(s: &IvectorStream) -> Vec<u64> {
     v
 }
 
+/// A call on the record where it lies, in rooms of other lengths if any.
+#[rustfmt::skip]
+#[inline]
+fn lend(t: &Tables, rec: &mut IvectorStream, z: &mut Rooms, call: &mut Call, l: &Lent) -> StreamAnswer {
+    let (fl, rl, wf, ww) = (z.frames.by(l[8]), z.rows.by(l[9]), z.waiting_frames.by(l[10]), z.waiting_weights.by(l[11]));
+    unsafe {
+        match call {
+            Call::Push(x) => c::shofrakin_push_frame(
+                rec, x.as_ptr(), x.len(), z.frames.all.as_mut_ptr(), fl, z.rows.all.as_mut_ptr(), rl,
+                z.waiting_frames.all.as_ptr(), wf, z.waiting_weights.all.as_ptr(), ww,
+            ),
+            Call::Finish => c::shofrakin_set_input_finished(
+                rec, z.frames.all.as_ptr(), fl, z.rows.all.as_ptr(), rl,
+                z.waiting_frames.all.as_ptr(), wf, z.waiting_weights.all.as_ptr(), ww,
+            ),
+            Call::Change(x, y) => c::shofrakin_update_frame_weights(
+                rec, x.as_ptr(), x.len(), y.as_ptr(), y.len(), z.frames.all.as_ptr(), fl, z.rows.all.as_ptr(), rl,
+                z.waiting_frames.all.as_mut_ptr(), wf, z.waiting_weights.all.as_mut_ptr(), ww,
+            ),
+            Call::Forget(n) => c::shofrakin_forget_before(
+                rec, *n, z.frames.all.as_ptr(), fl, z.rows.all.as_ptr(), rl,
+                z.waiting_frames.all.as_ptr(), wf, z.waiting_weights.all.as_ptr(), ww,
+            ),
+            Call::Fetch(n, out) => c::shofrakin_get_frame(
+                rec, *n,
+                t.gconsts.all.as_ptr(), t.gconsts.by(l[0]), t.means_invvars_t.all.as_ptr(), t.means_invvars_t.by(l[1]),
+                t.inv_vars_t.all.as_ptr(), t.inv_vars_t.by(l[2]), t.sigma_inv_m.all.as_ptr(), t.sigma_inv_m.by(l[3]),
+                t.u.all.as_ptr(), t.u.by(l[4]), t.lda_t.all.as_ptr(), t.lda_t.by(l[5]),
+                t.lda_offset.all.as_ptr(), t.lda_offset.by(l[6]), t.global_mean_stats.all.as_ptr(), t.global_mean_stats.by(l[7]),
+                z.frames.all.as_ptr(), fl, z.rows.all.as_ptr(), rl,
+                z.waiting_frames.all.as_mut_ptr(), wf, z.waiting_weights.all.as_mut_ptr(), ww,
+                z.cmvn_stats.all.as_mut_ptr(), z.cmvn_stats.by(l[12]), z.linear.all.as_mut_ptr(), z.linear.by(l[13]),
+                z.quadratic.all.as_mut_ptr(), z.quadratic.by(l[14]), z.current.all.as_mut_ptr(), z.current.by(l[15]),
+                z.scratch.all.as_mut_ptr(), z.scratch.by(l[16]),
+                out.as_mut_ptr(), out.len(),
+            ),
+        }
+    }
+}
+
 impl Stream {
     /// A fresh stream in rooms of the lengths `lens`. The refusal, and what was wrong.
     #[rustfmt::skip]
@@ -543,15 +576,15 @@ impl Stream {
             let wrong = (z != before).then(|| "a refused fresh stream wrote into a room".to_string());
             // the record beside a refusal is refused by every call
             let mut s = Stream { model: m.clone(), rec: a.stream, rooms: z };
-            let b = s.raw(&mut Call::Finish, &Forged { rec: a.stream, lent: [0; 17], waiting: None });
-            let wrong = wrong.or_else(|| (b.answer.refusal != 10).then(|| "the record beside a refusal is taken".to_string()));
+            let (b, _) = s.raw(&mut Call::Finish, &Forged { rec: a.stream, lent: [0; 17], waiting: None });
+            let wrong = wrong.or_else(|| (b.refusal != 10).then(|| "the record beside a refusal is taken".to_string()));
             return (n, None, wrong);
         }
         (0, Some(Stream { model: m.clone(), rec: a.stream, rooms: z }), None)
     }
 
-    /// The call with a forged record and forged lengths.
-    fn raw(&mut self, call: &mut Call, f: &Forged) -> StreamCall {
+    /// The call with a forged record and forged lengths. Its answer, and the record that it leaves.
+    fn raw(&mut self, call: &mut Call, f: &Forged) -> (StreamAnswer, IvectorStream) {
         let saved = f.waiting.as_ref().map(|w| {
             let old = (self.rooms.waiting_frames.clone(), self.rooms.waiting_weights.clone());
             for (i, (x, y)) in w.iter().enumerate() {
@@ -564,59 +597,18 @@ impl Stream {
             }
             old
         });
-        let a = self.lend(call, f.rec, &f.lent);
+        let mut rec = f.rec;
+        let a = lend(&self.model.tables, &mut rec, &mut self.rooms, call, &f.lent);
         if let Some((x, y)) = saved {
             self.rooms.waiting_frames = x;
             self.rooms.waiting_weights = y;
         }
-        a
-    }
-
-    #[rustfmt::skip]
-    #[inline]
-    fn lend(&mut self, call: &mut Call, rec: IvectorStream, l: &Lent) -> StreamCall {
-        let (t, z) = (&self.model.tables, &mut self.rooms);
-        let (fl, rl, wf, ww) = (z.frames.by(l[8]), z.rows.by(l[9]), z.waiting_frames.by(l[10]), z.waiting_weights.by(l[11]));
-        unsafe {
-            match call {
-                Call::Push(x) => c::shofrakin_push_frame(
-                    rec, x.as_ptr(), x.len(), z.frames.all.as_mut_ptr(), fl, z.rows.all.as_mut_ptr(), rl,
-                    z.waiting_frames.all.as_ptr(), wf, z.waiting_weights.all.as_ptr(), ww,
-                ),
-                Call::Finish => c::shofrakin_set_input_finished(
-                    rec, z.frames.all.as_ptr(), fl, z.rows.all.as_ptr(), rl,
-                    z.waiting_frames.all.as_ptr(), wf, z.waiting_weights.all.as_ptr(), ww,
-                ),
-                Call::Change(x, y) => c::shofrakin_update_frame_weights(
-                    rec, x.as_ptr(), x.len(), y.as_ptr(), y.len(), z.frames.all.as_ptr(), fl, z.rows.all.as_ptr(), rl,
-                    z.waiting_frames.all.as_mut_ptr(), wf, z.waiting_weights.all.as_mut_ptr(), ww,
-                ),
-                Call::Forget(n) => c::shofrakin_forget_before(
-                    rec, *n, z.frames.all.as_ptr(), fl, z.rows.all.as_ptr(), rl,
-                    z.waiting_frames.all.as_ptr(), wf, z.waiting_weights.all.as_ptr(), ww,
-                ),
-                        Call::Fetch(n, out) => c::shofrakin_get_frame(
-                    rec, *n,
-                    t.gconsts.all.as_ptr(), t.gconsts.by(l[0]), t.means_invvars_t.all.as_ptr(), t.means_invvars_t.by(l[1]),
-                    t.inv_vars_t.all.as_ptr(), t.inv_vars_t.by(l[2]), t.sigma_inv_m.all.as_ptr(), t.sigma_inv_m.by(l[3]),
-                    t.u.all.as_ptr(), t.u.by(l[4]), t.lda_t.all.as_ptr(), t.lda_t.by(l[5]),
-                    t.lda_offset.all.as_ptr(), t.lda_offset.by(l[6]), t.global_mean_stats.all.as_ptr(), t.global_mean_stats.by(l[7]),
-                    z.frames.all.as_ptr(), fl, z.rows.all.as_ptr(), rl,
-                    z.waiting_frames.all.as_mut_ptr(), wf, z.waiting_weights.all.as_mut_ptr(), ww,
-                    z.cmvn_stats.all.as_mut_ptr(), z.cmvn_stats.by(l[12]), z.linear.all.as_mut_ptr(), z.linear.by(l[13]),
-                    z.quadratic.all.as_mut_ptr(), z.quadratic.by(l[14]), z.current.all.as_mut_ptr(), z.current.by(l[15]),
-                    z.scratch.all.as_mut_ptr(), z.scratch.by(l[16]),
-                    out.as_mut_ptr(), out.len(),
-                ),
-            }
-        }
+        (a, rec)
     }
 
     /// A call without looking at what it leaves untouched: the caller times it, or compares later.
     pub fn call(&mut self, mut call: Call) -> StreamAnswer {
-        let a = self.lend(&mut call, self.rec, &[0; 17]);
-        self.rec = a.stream;
-        a.answer
+        lend(&self.model.tables, &mut self.rec, &mut self.rooms, &mut call, &[0; 17])
     }
 
     /// A push as a host makes it, with nothing chosen by the kind of call.
@@ -624,14 +616,25 @@ impl Stream {
     #[inline]
     pub fn push(&mut self, x: &[f32]) -> StreamAnswer {
         let z = &mut self.rooms;
-        let a = unsafe {
+        unsafe {
             c::shofrakin_push_frame(
-                self.rec, x.as_ptr(), x.len(), z.frames.all.as_mut_ptr(), z.frames.len, z.rows.all.as_mut_ptr(), z.rows.len,
+                &mut self.rec, x.as_ptr(), x.len(), z.frames.all.as_mut_ptr(), z.frames.len, z.rows.all.as_mut_ptr(), z.rows.len,
                 z.waiting_frames.all.as_ptr(), z.waiting_frames.len, z.waiting_weights.all.as_ptr(), z.waiting_weights.len,
             )
-        };
-        self.rec = a.stream;
-        a.answer
+        }
+    }
+
+    /// A finish, likewise: the record's test and one store.
+    #[rustfmt::skip]
+    #[inline]
+    pub fn finish(&mut self) -> StreamAnswer {
+        let z = &mut self.rooms;
+        unsafe {
+            c::shofrakin_set_input_finished(
+                &mut self.rec, z.frames.all.as_ptr(), z.frames.len, z.rows.all.as_ptr(), z.rows.len,
+                z.waiting_frames.all.as_ptr(), z.waiting_frames.len, z.waiting_weights.all.as_ptr(), z.waiting_weights.len,
+            )
+        }
     }
 
     /// A call, with forged parts if any. Its answer, and what is wrong: a refusal leaves record, rooms and output untouched.
@@ -642,10 +645,10 @@ impl Stream {
             Call::Fetch(_, o) => Some(o.to_vec()),
             _ => None,
         };
-        let a = self.raw(&mut call, &f);
+        let (a, rec) = self.raw(&mut call, &f);
         let mut wrong = None;
-        if a.answer.refusal != 0 {
-            if bits(&a.stream) != bits(&f.rec) {
+        if a.refusal != 0 {
+            if bits(&rec) != bits(&f.rec) {
                 wrong = Some("a refused call changed the record".to_string());
             }
             if !same_rooms(&self.rooms, &before) {
@@ -657,12 +660,12 @@ impl Stream {
                 }
             }
         } else {
-            self.rec = a.stream;
+            self.rec = rec;
             if let Some(k) = past_end(&self.rooms, &self.rec) {
                 wrong = Some(format!("a call wrote past what it keeps: {k}"));
             }
         }
-        (a.answer, wrong)
+        (a, wrong)
     }
 
     pub fn ready(&self) -> usize {

@@ -1,7 +1,7 @@
 //! bench [ROUNDS]               the same calls on the library and on the original Rust, in turn, in one process: the time of a call on
 //!                              each side, and their ratio with its spread over the rounds (7; at least 5)
 //! bench once KIND SIDE SIZE    one round of one kind on one side, for callgrind: --toggle-collect=measured
-//! KIND: load push change silence fetch weighted. SIDE: library original. SIZE: small large.
+//! KIND: load push finish change silence fetch weighted. SIDE: library original. SIZE: small large.
 //! Both sides have the scope's exponential and logarithm (build.rs).
 use compare::gen::Rng;
 use compare::machine::{self, model_needs, stream_needs, Options, DEFAULT};
@@ -136,6 +136,22 @@ fn round(kind: &str, side: usize, z: &Set, info: &plain::Info) -> (Duration, usi
             assert!(v.iter().all(|p| p.x_held().0 == FRAMES as u64));
             (d, z.times * FRAMES)
         }
+        "finish" => {
+            let mut v: Vec<_> = (0..z.times).map(|_| (z.ours(), plain::Stream::new(info))).collect();
+            let d = time(|| {
+                for (s, p) in &mut v {
+                    for _ in 0..FRAMES {
+                        if ours {
+                            black_box(s.finish());
+                        } else {
+                            black_box(&mut *p).set_input_finished();
+                        }
+                    }
+                }
+            });
+            assert!(v.iter().all(|(s, _)| s.rec.input_finished == ours));
+            (d, z.times * FRAMES)
+        }
         "change" => {
             let mut v: Vec<_> = (0..20).map(|_| z.pushed(info)).collect();
             let (fs, ws): (Vec<usize>, Vec<f32>) = z.delta.iter().copied().unzip();
@@ -228,7 +244,7 @@ fn load(z: &Set) -> (Duration, usize) {
 }
 fn main() {
     let a: Vec<String> = std::env::args().collect();
-    let kinds = ["load", "push", "change", "silence", "fetch", "weighted"];
+    let kinds = ["load", "push", "finish", "change", "silence", "fetch", "weighted"];
     if a.get(1).map(|s| s.as_str()) == Some("once") {
         let size = if a[4] == "large" { model::LARGE } else { model::SMALL };
         let z = set(size, 1);

@@ -1,5 +1,6 @@
-// The library that Rust and C link: each call of the product under a plain name, with records by value and every slice as a
-// pointer and a length. A call's contract is the plain call's. Enums stay inside: an answer is a record with the refusal's number.
+// The library that Rust and C link: each call of the product under a plain name, every slice as a pointer and a length. A call's contract
+// is the plain call's. A stream's record stays where the host keeps it: a call on it takes it behind a reference and stores the numbers
+// that can change, and its contract says the whole record at exit. Enums stay inside: an answer is a record with the refusal's number.
 // The C side is include/shofrakin.h.
 use definition::DecoderFrame;
 use definition::Dimensions;
@@ -13,7 +14,7 @@ use definition::NewTable;
 use definition::RoomLengths;
 use definition::SilenceAnswer;
 use definition::SilenceWeighting;
-use definition::StreamCall;
+use definition::StreamAnswer;
 use definition::TableLengths;
 ghost use mathlib.Core.Path.{_≡_};
 ghost use mathlib.Core.List.{_∷_, map};
@@ -263,88 +264,102 @@ pub extern "C" fn shofrakin_new_stream(
 // `ivector_stream::push_frame`.
 #[no_mangle]
 pub extern "C" fn shofrakin_push_frame(
-    s: IvectorStream,
+    s: &mut IvectorStream,
     frame: &[f32],
     frames: &mut [f32],
     rows: &mut [f64],
     waiting_frames: &[usize],
     waiting_weights: &[f32],
-) -> StreamCall
+) -> StreamAnswer
     ensures { λ r. ⌜ (
-        let n : ℕ = pushRefusal s (ringsOf (length (now (frames .entry))) (length (now (rows .entry))) (length (now («waiting_frames» .entry))) (length (now («waiting_weights» .entry)))) (now («waiting_frames» .entry)) (now (frame .entry)) in
-        (r ≡ callOf n (taken n (withAccepted s (s .accepted + 1)) s) 0)
-        × (now (frames .exit) ≡ taken n (pushedFrames s (now (frames .entry)) (now (frame .entry))) (now (frames .entry)))
-        × (now (rows .exit) ≡ taken n (pushedRows s (now (rows .entry)) (now (frame .entry))) (now (rows .entry)))) ⌝ }
+        let n : ℕ = pushRefusal (now (s .entry)) (ringsOf (length (now (frames .entry))) (length (now (rows .entry))) (length (now («waiting_frames» .entry))) (length (now («waiting_weights» .entry)))) (now («waiting_frames» .entry)) (now (frame .entry)) in
+        let call = callOf n (taken n (withAccepted (now (s .entry)) (now (s .entry) .accepted + 1)) (now (s .entry))) 0 in
+        ((r ≡ call .answer) × (now (s .exit) ≡ call .stream))
+        × (now (frames .exit) ≡ taken n (pushedFrames (now (s .entry)) (now (frames .entry)) (now (frame .entry))) (now (frames .entry)))
+        × (now (rows .exit) ≡ taken n (pushedRows (now (s .entry)) (now (rows .entry)) (now (frame .entry))) (now (rows .entry)))) ⌝ }
 {
-    ivector_stream::push_frame(s, frame, frames, rows, waiting_frames, waiting_weights)
+    let c = ivector_stream::push_frame(*s, frame, frames, rows, waiting_frames, waiting_weights);
+    s.accepted = c.stream.accepted;
+    c.answer
 }
 
 // `ivector_stream::set_input_finished`.
 #[no_mangle]
 pub extern "C" fn shofrakin_set_input_finished(
-    s: IvectorStream,
+    s: &mut IvectorStream,
     frames: &[f32],
     rows: &[f64],
     waiting_frames: &[usize],
     waiting_weights: &[f32],
-) -> StreamCall
+) -> StreamAnswer
     ensures { λ r. ⌜ (
-        let n : ℕ = plainRefusal s (ringsOf (length (now (frames .entry))) (length (now (rows .entry))) (length (now («waiting_frames» .entry))) (length (now («waiting_weights» .entry)))) (now («waiting_frames» .entry)) in
-        r ≡ callOf n (taken n (withFinished s) s) 0) ⌝ }
+        let n : ℕ = plainRefusal (now (s .entry)) (ringsOf (length (now (frames .entry))) (length (now (rows .entry))) (length (now («waiting_frames» .entry))) (length (now («waiting_weights» .entry)))) (now («waiting_frames» .entry)) in
+        let call = callOf n (taken n (withFinished (now (s .entry))) (now (s .entry))) 0 in
+        (r ≡ call .answer) × (now (s .exit) ≡ call .stream)) ⌝ }
 {
-    ivector_stream::set_input_finished(s, frames, rows, waiting_frames, waiting_weights)
+    let c = ivector_stream::set_input_finished(*s, frames, rows, waiting_frames, waiting_weights);
+    s.input_finished = c.stream.input_finished;
+    c.answer
 }
 
 // `ivector_stream::update_frame_weights`.
 #[no_mangle]
 pub extern "C" fn shofrakin_update_frame_weights(
-    s: IvectorStream,
+    s: &mut IvectorStream,
     delta_frames: &[usize],
     delta_weights: &[f32],
     frames: &[f32],
     rows: &[f64],
     waiting_frames: &mut [usize],
     waiting_weights: &mut [f32],
-) -> StreamCall
+) -> StreamAnswer
     ensures { λ r. ⌜ (
-        let n : ℕ = changeRefusal s (ringsOf (length (now (frames .entry))) (length (now (rows .entry))) (length (now («waiting_frames» .entry))) (length (now («waiting_weights» .entry)))) (now («waiting_frames» .entry)) (now («delta_frames» .entry)) (now («delta_weights» .entry)) in
-        let c : Changes = changed (changesIn s (now («waiting_frames» .entry)) (now («waiting_weights» .entry))) (now («delta_frames» .entry)) (now («delta_weights» .entry)) in
-        (r ≡ callOf n (taken n (withChanges s c (s .«num_frames_stats») (s .«num_frames»)) s) 0)
+        let n : ℕ = changeRefusal (now (s .entry)) (ringsOf (length (now (frames .entry))) (length (now (rows .entry))) (length (now («waiting_frames» .entry))) (length (now («waiting_weights» .entry)))) (now («waiting_frames» .entry)) (now («delta_frames» .entry)) (now («delta_weights» .entry)) in
+        let c : Changes = changed (changesIn (now (s .entry)) (now («waiting_frames» .entry)) (now («waiting_weights» .entry))) (now («delta_frames» .entry)) (now («delta_weights» .entry)) in
+        let call = callOf n (taken n (withChanges (now (s .entry)) c (now (s .entry) .«num_frames_stats») (now (s .entry) .«num_frames»)) (now (s .entry))) 0 in
+        ((r ≡ call .answer) × (now (s .exit) ≡ call .stream))
         × (now («waiting_frames» .exit) ≡ taken n (overFrames c (now («waiting_frames» .entry))) (now («waiting_frames» .entry)))
         × (now («waiting_weights» .exit) ≡ taken n (overWeights c (now («waiting_weights» .entry))) (now («waiting_weights» .entry)))) ⌝ }
 {
-    ivector_stream::update_frame_weights(
-        s,
+    let c = ivector_stream::update_frame_weights(
+        *s,
         delta_frames,
         delta_weights,
         frames,
         rows,
         waiting_frames,
         waiting_weights,
-    )
+    );
+    s.waiting = c.stream.waiting;
+    s.past_highest = c.stream.past_highest;
+    s.delta_weights_provided = c.stream.delta_weights_provided;
+    c.answer
 }
 
 // `ivector_stream::forget_before`: an utterance begins at `frame`, and no weight change will reach before it.
 #[no_mangle]
 pub extern "C" fn shofrakin_forget_before(
-    s: IvectorStream,
+    s: &mut IvectorStream,
     frame: usize,
     frames: &[f32],
     rows: &[f64],
     waiting_frames: &[usize],
     waiting_weights: &[f32],
-) -> StreamCall
+) -> StreamAnswer
     ensures { λ r. ⌜ (
-        let n : ℕ = plainRefusal s (ringsOf (length (now (frames .entry))) (length (now (rows .entry))) (length (now («waiting_frames» .entry))) (length (now («waiting_weights» .entry)))) (now («waiting_frames» .entry)) in
-        r ≡ callOf n (taken n (withMark s (forgetMark s (now («waiting_frames» .entry)) frame)) s) 0) ⌝ }
+        let n : ℕ = plainRefusal (now (s .entry)) (ringsOf (length (now (frames .entry))) (length (now (rows .entry))) (length (now («waiting_frames» .entry))) (length (now («waiting_weights» .entry)))) (now («waiting_frames» .entry)) in
+        let call = callOf n (taken n (withMark (now (s .entry)) (forgetMark (now (s .entry)) (now («waiting_frames» .entry)) frame)) (now (s .entry))) 0 in
+        (r ≡ call .answer) × (now (s .exit) ≡ call .stream)) ⌝ }
 {
-    ivector_stream::forget_before(s, frame, frames, rows, waiting_frames, waiting_weights)
+    let c = ivector_stream::forget_before(*s, frame, frames, rows, waiting_frames, waiting_weights);
+    s.mark = c.stream.mark;
+    c.answer
 }
 
 // `ivector_fetch::get_frame`.
 #[no_mangle]
 pub extern "C" fn shofrakin_get_frame(
-    s: IvectorStream,
+    s: &mut IvectorStream,
     frame: usize,
     gconsts: &[f32],
     means_invvars_t: &[f32],
@@ -364,23 +379,24 @@ pub extern "C" fn shofrakin_get_frame(
     current: &mut [f64],
     scratch: &mut [f64],
     out: &mut [u32],
-) -> StreamCall
+) -> StreamAnswer
     ensures { λ r. ⌜ (
         let t : Tables = (tables (now (gconsts .entry)) (now («means_invvars_t» .entry)) (now («inv_vars_t» .entry)) (now («sigma_inv_m» .entry)) (now (u .entry)) (now («lda_t» .entry)) (now («lda_offset» .entry)) (now («global_mean_stats» .entry))) in
         let z : Rooms = (rooms (now (frames .entry)) (now (rows .entry)) (now («waiting_frames» .entry)) (now («waiting_weights» .entry)) (now («cmvn_stats» .entry)) (now (linear .entry)) (now (quadratic .entry)) (now (current .entry))) in
-        let n : ℕ = fetchRefusal s (tableLengthsOf t) (roomLengthsOf z (length (now (scratch .entry)))) (now («waiting_frames» .entry)) frame (length (now (out .entry))) in
-        (r ≡ callOf n (taken n (fetchStream s t z frame) s) (taken n (notFinite (fetchVector s t z frame)) 0))
-        × (now («waiting_frames» .exit) ≡ taken n (fetchRooms s t z frame .waiting-frames) (now («waiting_frames» .entry)))
-        × (now («waiting_weights» .exit) ≡ taken n (fetchRooms s t z frame .waiting-weights) (now («waiting_weights» .entry)))
-        × (now («cmvn_stats» .exit) ≡ taken n (fetchRooms s t z frame .cmvn) (now («cmvn_stats» .entry)))
-        × (now (linear .exit) ≡ taken n (fetchRooms s t z frame .linear) (now (linear .entry)))
-        × (now (quadratic .exit) ≡ taken n (fetchRooms s t z frame .quadratic) (now (quadratic .entry)))
-        × (now (current .exit) ≡ taken n (fetchRooms s t z frame .current) (now (current .entry)))
+        let n : ℕ = fetchRefusal (now (s .entry)) (tableLengthsOf t) (roomLengthsOf z (length (now (scratch .entry)))) (now («waiting_frames» .entry)) frame (length (now (out .entry))) in
+        let call = callOf n (taken n (fetchStream (now (s .entry)) t z frame) (now (s .entry))) (taken n (notFinite (fetchVector (now (s .entry)) t z frame)) 0) in
+        ((r ≡ call .answer) × (now (s .exit) ≡ call .stream))
+        × (now («waiting_frames» .exit) ≡ taken n (fetchRooms (now (s .entry)) t z frame .waiting-frames) (now («waiting_frames» .entry)))
+        × (now («waiting_weights» .exit) ≡ taken n (fetchRooms (now (s .entry)) t z frame .waiting-weights) (now («waiting_weights» .entry)))
+        × (now («cmvn_stats» .exit) ≡ taken n (fetchRooms (now (s .entry)) t z frame .cmvn) (now («cmvn_stats» .entry)))
+        × (now (linear .exit) ≡ taken n (fetchRooms (now (s .entry)) t z frame .linear) (now (linear .entry)))
+        × (now (quadratic .exit) ≡ taken n (fetchRooms (now (s .entry)) t z frame .quadratic) (now (quadratic .entry)))
+        × (now (current .exit) ≡ taken n (fetchRooms (now (s .entry)) t z frame .current) (now (current .entry)))
         × ((n ≡ 0 → ⊥) → now (scratch .exit) ≡ now (scratch .entry))
-        × (now (out .exit) ≡ taken n (over (bitsOf (fetchVector s t z frame)) (now (out .entry))) (now (out .entry)))) ⌝ }
+        × (now (out .exit) ≡ taken n (over (bitsOf (fetchVector (now (s .entry)) t z frame)) (now (out .entry))) (now (out .entry)))) ⌝ }
 {
-    ivector_fetch::get_frame(
-        s,
+    let c = ivector_fetch::get_frame(
+        *s,
         frame,
         gconsts,
         means_invvars_t,
@@ -400,7 +416,13 @@ pub extern "C" fn shofrakin_get_frame(
         current,
         scratch,
         out,
-    )
+    );
+    s.num_frames_stats = c.stream.num_frames_stats;
+    s.waiting = c.stream.waiting;
+    s.past_highest = c.stream.past_highest;
+    s.delta_weights_provided = c.stream.delta_weights_provided;
+    s.num_frames = c.stream.num_frames;
+    c.answer
 }
 
 // ---- questions
