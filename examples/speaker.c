@@ -60,7 +60,7 @@ static void take(const char *what, shofrakin_stream_answer a) {
 
 static void print_vector(size_t frame) {
     static uint32_t out[S];
-    size_t n = shofrakin_ivector_dim(stream);
+    size_t n = shofrakin_ivector_dim(&stream);
     shofrakin_stream_answer a = shofrakin_get_frame(&stream, frame, TABLES, RINGS, ESTIMATE, out, n);
     take("fetch", a);
     printf("frame %zu, held %zu and %zu:", frame, a.frames_held, a.rows_held);
@@ -101,11 +101,11 @@ int main(int argc, char **argv) {
         while (n < b && fscanf(f, "%f", frame + n) == 1) n++;
         if (n == 0) break;
         take("push", shofrakin_push_frame(&stream, frame, n, RINGS));
-        ready = shofrakin_num_frames_ready(stream);
-        if (ready % 10 == 0 && ready > shofrakin_num_frames_stats(stream)) print_vector(ready - 1);
+        ready = shofrakin_num_frames_ready(&stream);
+        if (ready % 10 == 0 && ready > shofrakin_num_frames_stats(&stream)) print_vector(ready - 1);
     }
     take("finish", shofrakin_set_input_finished(&stream, RINGS));
-    ready = shofrakin_num_frames_ready(stream);
+    ready = shofrakin_num_frames_ready(&stream);
     if (ready) print_vector(ready - 1);
     return 0;
 }

@@ -5,9 +5,9 @@
  * - A slice is a pointer and a length, two arguments. No pointer is null; where a length is 0 any aligned address will do.
  * - What is lent is initialised memory, also a room that a call only writes.
  * - A room that a call writes overlaps nothing else that the call is lent.
- * - A stream's record stays where the host keeps it. A call on it takes a pointer to it, first, and writes the numbers that change. During
- *   the call nothing else reads or writes the record, and it overlaps no slice lent. A silence table's record goes in by value and comes
- *   back by value: what comes back takes its place. A record may be copied, and is not written by hand.
+ * - The record of a stream or of a silence table stays where the host keeps it. A call on it takes a pointer to it, first, and writes the
+ *   numbers that change; a question only reads. During a call nothing else reads or writes the record, during a question nothing writes
+ *   it, and it overlaps no slice lent. A model's record goes in by value. Records may be copied, and are not written by hand.
  * - A bool is 0 or 1, in records and in rooms.
  * - A room keeps its contents from call to call; its length is the one that the record was made with.
  * The calls ask nothing else: whatever numbers they get, they return; the questions answer any record. They keep no state, allocate
@@ -198,13 +198,13 @@ shofrakin_stream_answer shofrakin_get_frame(shofrakin_stream *s, size_t frame,
     double *scratch, size_t scratch_len, uint32_t *out, size_t out_len);
 
 /* How many frames can be fetched: those accepted, less the right context until the input is finished. */
-size_t shofrakin_num_frames_ready(shofrakin_stream s);
+size_t shofrakin_num_frames_ready(const shofrakin_stream *s);
 
 /* The length of a fetch's output. */
-size_t shofrakin_ivector_dim(shofrakin_stream s);
+size_t shofrakin_ivector_dim(const shofrakin_stream *s);
 
 /* The first frame that is not in the statistics. */
-size_t shofrakin_num_frames_stats(shofrakin_stream s);
+size_t shofrakin_num_frames_stats(const shofrakin_stream *s);
 
 /* ---- the silence table */
 
@@ -234,22 +234,21 @@ typedef struct {
     shofrakin_silence silence;
 } shofrakin_new_table_answer;
 
-/* The answer of a call on a silence table: how many changes it gives, and the record for the next call. */
+/* The answer of a call on a silence table: the refusal, and how many changes it gives. */
 typedef struct {
     size_t refusal;
     size_t changes;
-    shofrakin_silence silence;
-} shofrakin_silence_answer;
+} shofrakin_silence_counts;
 
 /* A table of no frames yet, for three rooms of `table` places each: at most 64 phones, subsampling 1..16, a finite weight. Refusal 9. */
 shofrakin_new_table_answer shofrakin_new_silence_weighting(
     const int32_t *silence_phones, size_t silence_phones_len, float silence_weight, size_t subsampling, size_t table);
 
 /* Whether the weighting changes anything: there are phones, and the weight is not 1. */
-bool shofrakin_silence_active(shofrakin_silence s);
+bool shofrakin_silence_active(const shofrakin_silence *s);
 
 /* Notes which of the decoded frames are silence, from the best path's segments (phone, start, end). Refusals 10, 23, 24. */
-shofrakin_silence_answer shofrakin_compute_current_traceback(shofrakin_silence s,
+shofrakin_silence_counts shofrakin_compute_current_traceback(shofrakin_silence *s,
     const int32_t *silence_phones, size_t silence_phones_len,
     bool *known, size_t known_len, bool *is_silence, size_t is_silence_len, float *current_weight, size_t current_weight_len,
     const int32_t *segment_phones, size_t segment_phones_len, const size_t *starts, size_t starts_len,
@@ -257,7 +256,7 @@ shofrakin_silence_answer shofrakin_compute_current_traceback(shofrakin_silence s
 
 /* The changes of weight up to `num_frames_ready`, by input frame, decoder frame 0 beginning at `first_decoder_frame`: the first
  * `changes` places of two lists, for shofrakin_update_frame_weights. Refusals 10, 23, 24. */
-shofrakin_silence_answer shofrakin_get_delta_weights(shofrakin_silence s,
+shofrakin_silence_counts shofrakin_get_delta_weights(shofrakin_silence *s,
     bool *known, size_t known_len, bool *is_silence, size_t is_silence_len, float *current_weight, size_t current_weight_len,
     shofrakin_input_frame num_frames_ready, shofrakin_input_frame first_decoder_frame,
     size_t *frames, size_t frames_len, float *weights, size_t weights_len);

@@ -145,9 +145,9 @@ int main(void) {
     took("push, full", shofrakin_push_frame(&stream, &x, 1, RINGS), 14, 4, 5);
     is("accepted, after a refusal", stream.accepted, 4);
     took("push, two numbers", shofrakin_push_frame(&stream, two, 2, RINGS), 11, 4, 5);
-    is("ready", shofrakin_num_frames_ready(stream), 3);
+    is("ready", shofrakin_num_frames_ready(&stream), 3);
     took("finish", shofrakin_set_input_finished(&stream, RINGS), 0, 4, 5);
-    is("ready", shofrakin_num_frames_ready(stream), 4);
+    is("ready", shofrakin_num_frames_ready(&stream), 4);
     size_t at[3] = {3, 1, 2};
     float w[3] = {0.5f, 1, 0.25f};
     took("change", shofrakin_update_frame_weights(&stream, at, 3, w, 3, RINGS), 0, 4, 5);
@@ -159,8 +159,8 @@ int main(void) {
     took("change, no room", shofrakin_update_frame_weights(&stream, at, 1, w, 1, RINGS), 19, 4, 5);
     took("change, lists", shofrakin_update_frame_weights(&stream, at, 2, w, 1, RINGS), 16, 4, 5);
     took("forget", shofrakin_forget_before(&stream, 3, RINGS), 0, 4, 5);
-    is("i-vector dimension", shofrakin_ivector_dim(stream), 1);
-    is("next", shofrakin_num_frames_stats(stream), 0);
+    is("i-vector dimension", shofrakin_ivector_dim(&stream), 1);
+    is("next", shofrakin_num_frames_stats(&stream), 0);
 
     /* the scope's P9: no context, scale 0.25, prior 1, one frame 4 */
     opts = (shofrakin_options){.left_context = 0, .right_context = 0, .cmn_window = 600, .global_frames = 200, .num_gselect = 5,
@@ -177,7 +177,7 @@ int main(void) {
     float half;
     memcpy(&half, out, 4);
     is("P9", half, 0.5);
-    is("next", shofrakin_num_frames_stats(stream), 1);
+    is("next", shofrakin_num_frames_stats(&stream), 1);
     took("a frame too far", shofrakin_get_frame(&stream, 1, TABLES, RINGS, ESTIMATE, out, 1), 21, 1, 2);
     took("an output too long", shofrakin_get_frame(&stream, 0, TABLES, RINGS, ESTIMATE, out, 0), 20, 1, 2);
 
@@ -190,8 +190,9 @@ int main(void) {
     is("table, subsampling 17", b.refusal, 9);
     b = shofrakin_new_silence_weighting(phones, 2, 0.25f, 3, 8);
     is("table", b.refusal, 0);
-    is("active", shofrakin_silence_active(b.silence), true);
-    shofrakin_silence_answer d = shofrakin_get_delta_weights(b.silence, known, 8, is_silence, 8, current_weight, 8,
+    shofrakin_silence table = b.silence;
+    is("active", shofrakin_silence_active(&table), true);
+    shofrakin_silence_counts d = shofrakin_get_delta_weights(&table, known, 8, is_silence, 8, current_weight, 8,
         (shofrakin_input_frame){4}, (shofrakin_input_frame){0}, by, 16, weights, 16);
     is("weights", d.refusal, 0);
     is("changes", d.changes, 6);
@@ -199,19 +200,20 @@ int main(void) {
         is("frame", by[i], i);
         is("weight", weights[i], 0.25f);
     }
-    d = shofrakin_get_delta_weights(d.silence, known, 8, is_silence, 8, current_weight, 8,
+    d = shofrakin_get_delta_weights(&table, known, 8, is_silence, 8, current_weight, 8,
         (shofrakin_input_frame){4}, (shofrakin_input_frame){0}, by, 16, weights, 16);
     is("changes, repeated", d.changes, 3);
     is("frame", by[0], 3);
     is("weight", weights[2], 0);
-    d = shofrakin_compute_current_traceback(d.silence, phones, 2, known, 8, is_silence, 8, current_weight, 8,
+    d = shofrakin_compute_current_traceback(&table, phones, 2, known, 8, is_silence, 8, current_weight, 8,
         path, 1, from, 1, to, 1, (shofrakin_decoder_frame){3});
     is("traceback", d.refusal, 0);
-    is("length", d.silence.length, 3);
+    is("length", table.length, 3);
     is("known", known[1] && is_silence[1] && !known[2], true);
-    d = shofrakin_compute_current_traceback(d.silence, phones, 2, known, 8, is_silence, 8, current_weight, 8,
+    d = shofrakin_compute_current_traceback(&table, phones, 2, known, 8, is_silence, 8, current_weight, 8,
         path, 1, from, 1, to, 1, (shofrakin_decoder_frame){9});
     is("traceback past the table", d.refusal, 23);
+    is("length, after a refusal", table.length, 3);
     printf(wrong ? "%d differ\n" : "the header fits the library\n", wrong);
     return wrong != 0;
 }

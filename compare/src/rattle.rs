@@ -131,10 +131,9 @@ pub struct NewTableAnswer {
 
 #[repr(C)]
 #[derive(Clone, Copy, Debug, PartialEq)]
-pub struct SilenceAnswer {
+pub struct SilenceCounts {
     pub refusal: usize,
     pub changes: usize,
-    pub silence: SilenceWeighting,
 }
 
 /// A slice is a pointer and a length, two arguments.
@@ -194,25 +193,25 @@ mod c {
             quadratic: *mut f64, quadratic_len: usize, current: *mut f64, current_len: usize,
             scratch: *mut f64, scratch_len: usize, out: *mut u32, out_len: usize,
         ) -> StreamAnswer;
-        pub fn shofrakin_num_frames_ready(s: IvectorStream) -> usize;
-        pub fn shofrakin_ivector_dim(s: IvectorStream) -> usize;
-        pub fn shofrakin_num_frames_stats(s: IvectorStream) -> usize;
+        pub fn shofrakin_num_frames_ready(s: *const IvectorStream) -> usize;
+        pub fn shofrakin_ivector_dim(s: *const IvectorStream) -> usize;
+        pub fn shofrakin_num_frames_stats(s: *const IvectorStream) -> usize;
         pub fn shofrakin_new_silence_weighting(
             silence_phones: *const i32, silence_phones_len: usize, silence_weight: f32, subsampling: usize, table: usize,
         ) -> NewTableAnswer;
-        pub fn shofrakin_silence_active(s: SilenceWeighting) -> bool;
+        pub fn shofrakin_silence_active(s: *const SilenceWeighting) -> bool;
         pub fn shofrakin_compute_current_traceback(
-            s: SilenceWeighting, silence_phones: *const i32, silence_phones_len: usize,
+            s: *mut SilenceWeighting, silence_phones: *const i32, silence_phones_len: usize,
             known: *mut bool, known_len: usize, is_silence: *mut bool, is_silence_len: usize,
             current_weight: *mut f32, current_weight_len: usize,
             segment_phones: *const i32, segment_phones_len: usize, starts: *const usize, starts_len: usize,
             ends: *const usize, ends_len: usize, num_frames_decoded: DecoderFrame,
-        ) -> SilenceAnswer;
+        ) -> SilenceCounts;
         pub fn shofrakin_get_delta_weights(
-            s: SilenceWeighting, known: *mut bool, known_len: usize, is_silence: *mut bool, is_silence_len: usize,
+            s: *mut SilenceWeighting, known: *mut bool, known_len: usize, is_silence: *mut bool, is_silence_len: usize,
             current_weight: *mut f32, current_weight_len: usize, num_frames_ready: InputFrame, first_decoder_frame: InputFrame,
             frames: *mut usize, frames_len: usize, weights: *mut f32, weights_len: usize,
-        ) -> SilenceAnswer;
+        ) -> SilenceCounts;
     }
 }
 
@@ -669,13 +668,13 @@ impl Stream {
     }
 
     pub fn ready(&self) -> usize {
-        unsafe { c::shofrakin_num_frames_ready(self.rec) }
+        unsafe { c::shofrakin_num_frames_ready(&self.rec) }
     }
     pub fn ivector_dim(&self) -> usize {
-        unsafe { c::shofrakin_ivector_dim(self.rec) }
+        unsafe { c::shofrakin_ivector_dim(&self.rec) }
     }
     pub fn next(&self) -> usize {
-        unsafe { c::shofrakin_num_frames_stats(self.rec) }
+        unsafe { c::shofrakin_num_frames_stats(&self.rec) }
     }
 
     /// CMVN state, linear, quadratic, frame count, current.
@@ -775,7 +774,7 @@ impl Silence {
             return (a.refusal as u32, None, (n != 10).then(|| "the record beside a refusal is taken".to_string()));
         }
         let want = !phones.is_empty() && weight != 1.0;
-        let wrong = (unsafe { c::shofrakin_silence_active(s.rec) } != want).then(|| format!("active is not {want}"));
+        let wrong = (unsafe { c::shofrakin_silence_active(&s.rec) } != want).then(|| format!("active is not {want}"));
         (0, Some(s), wrong)
     }
 
@@ -817,21 +816,27 @@ impl Silence {
         (self.known[..n].to_vec(), self.is_silence[..n].to_vec(), self.current_weight[..n].iter().map(|x| x.to_bits()).collect())
     }
 
-    fn after(&mut self, a: SilenceAnswer, given: SilenceWeighting, before: (Vec<bool>, Vec<bool>, Vec<u32>)) -> Option<String> {
+    fn after(
+        &mut self,
+        a: SilenceCounts,
+        left: SilenceWeighting,
+        given: SilenceWeighting,
+        before: (Vec<bool>, Vec<bool>, Vec<u32>),
+    ) -> Option<String> {
         let same = |p: &SilenceWeighting, q: &SilenceWeighting| {
             (p.subsampling, p.phones, p.table) == (q.subsampling, q.phones, q.table)
                 && (p.silence_weight.to_bits() == q.silence_weight.to_bits() || p.silence_weight.is_nan() && q.silence_weight.is_nan())
         };
-        if !same(&a.silence, &given) {
+        if !same(&left, &given) {
             return Some("a silence call changed its settings".into());
         }
         if a.refusal != 0 {
-            if a.silence.length != given.length || self.part() != before {
+            if left.length != given.length || self.part() != before {
                 return Some("a refused silence call wrote".into());
             }
             return None;
         }
-        self.rec = a.silence;
+        self.rec = left;
         let n = self.rec.table;
         if self.known[n..].iter().any(|x| *x) || self.is_silence[n..].iter().any(|x| *x) || self.current_weight[n..].iter().any(|x| x.to_bits() != 0)
         {
@@ -841,11 +846,12 @@ impl Silence {
     }
 
     pub fn trace(&mut self, decoded: usize, ph: &[i32], st: &[usize], en: &[usize], al: &[SAlter], turn: usize) -> (u32, Option<String>) {
-        let (r, l) = self.forged(al, turn);
+        let (given, l) = self.forged(al, turn);
         let before = self.part();
+        let mut r = given;
         let a = unsafe {
             c::shofrakin_compute_current_traceback(
-                r,
+                &mut r,
                 self.phones.as_ptr(),
                 self.phones.len(),
                 self.known.as_mut_ptr(),
@@ -863,7 +869,7 @@ impl Silence {
                 DecoderFrame(decoded),
             )
         };
-        let mut wrong = self.after(a, r, before);
+        let mut wrong = self.after(a, r, given, before);
         if a.changes != 0 {
             wrong = Some("a traceback gives changes".into());
         }
@@ -880,12 +886,13 @@ impl Silence {
         al: &[SAlter],
         turn: usize,
     ) -> (Result<Vec<(u64, f32)>, u32>, Option<String>) {
-        let (r, l) = self.forged(al, turn);
+        let (given, l) = self.forged(al, turn);
         let before = self.part();
+        let mut r = given;
         let (mut fs, mut ws) = (vec![0usize; lf + MORE], vec![0f32; lw + MORE]);
         let a = unsafe {
             c::shofrakin_get_delta_weights(
-                r,
+                &mut r,
                 self.known.as_mut_ptr(),
                 l[0],
                 self.is_silence.as_mut_ptr(),
@@ -900,7 +907,7 @@ impl Silence {
                 lw,
             )
         };
-        let mut wrong = self.after(a, r, before);
+        let mut wrong = self.after(a, r, given, before);
         let n = a.changes;
         if n > lf
             || n > lw
@@ -924,12 +931,11 @@ impl Silence {
         let n = self.rec.table;
         let a = unsafe {
             c::shofrakin_compute_current_traceback(
-                self.rec, self.phones.as_ptr(), self.phones.len(),
+                &mut self.rec, self.phones.as_ptr(), self.phones.len(),
                 self.known.as_mut_ptr(), n, self.is_silence.as_mut_ptr(), n, self.current_weight.as_mut_ptr(), n,
                 ph.as_ptr(), ph.len(), st.as_ptr(), st.len(), en.as_ptr(), en.len(), DecoderFrame(decoded),
             )
         };
-        self.rec = a.silence;
         a.refusal
     }
     #[rustfmt::skip]
@@ -937,11 +943,10 @@ impl Silence {
         let n = self.rec.table;
         let a = unsafe {
             c::shofrakin_get_delta_weights(
-                self.rec, self.known.as_mut_ptr(), n, self.is_silence.as_mut_ptr(), n, self.current_weight.as_mut_ptr(), n,
+                &mut self.rec, self.known.as_mut_ptr(), n, self.is_silence.as_mut_ptr(), n, self.current_weight.as_mut_ptr(), n,
                 InputFrame(ready), InputFrame(first), fs.as_mut_ptr(), fs.len(), ws.as_mut_ptr(), ws.len(),
             )
         };
-        self.rec = a.silence;
         a.changes
     }
 

@@ -8,12 +8,14 @@ use Rattle.definition.specs.declared.Loaded.{Loaded}
 use Rattle.definition.specs.declared.Loaded.the-variants as L
 use Rattle.definition.specs.declared.NewStream.{NewStream}
 use Rattle.definition.specs.declared.NewStream.the-variants as N
+use Rattle.definition.specs.declared.SilenceAnswer.{SilenceAnswer}
 use Rattle.definition.specs.declared.SilenceWeighting.{SilenceWeighting}
 use Rattle.definition.specs.declared.NewTable.{NewTable}
 use Rattle.definition.specs.declared.NewTable.the-variants as T
 use Rattle.exports.specs.declared.LoadAnswer.{LoadAnswer}
 use Rattle.exports.specs.declared.NewStreamAnswer.{NewStreamAnswer}
 use Rattle.exports.specs.declared.NewTableAnswer.{NewTableAnswer}
+use Rattle.exports.specs.declared.SilenceCounts.{SilenceCounts}
 
 -- no window is 0
 abbrev pub noInfo : IvectorInfo
@@ -86,3 +88,7 @@ noTable = record { «silence_weight» = zero₃₂; subsampling = 0; phones = 0;
 unfoldable pub newTableAnswer : NewTable → NewTableAnswer
 newTableAnswer (T.Table s) = record { refusal = 0; silence = s }
 newTableAnswer (T.Refused n) = record { refusal = n; silence = noTable }
+
+-- what a call on a silence table answers, less the record
+abbrev pub silenceCounts : SilenceAnswer → SilenceCounts
+silenceCounts a = record { refusal = a .refusal; changes = a .changes }

@@ -1,6 +1,6 @@
 // The library that Rust and C link: each call of the product under a plain name, every slice as a pointer and a length. A call's contract
-// is the plain call's. A stream's record stays where the host keeps it: a call on it takes it behind a reference and stores the numbers
-// that can change, and its contract says the whole record at exit. Enums stay inside: an answer is a record with the refusal's number.
+// is the plain call's. A record stays where the host keeps it: a call on it takes it behind a reference and stores the numbers that can
+// change, and its contract says the whole record at exit. Enums stay inside: an answer is a record with the refusal's number.
 // The C side is include/shofrakin.h.
 use definition::DecoderFrame;
 use definition::Dimensions;
@@ -12,7 +12,6 @@ use definition::Loaded;
 use definition::NewStream;
 use definition::NewTable;
 use definition::RoomLengths;
-use definition::SilenceAnswer;
 use definition::SilenceWeighting;
 use definition::StreamAnswer;
 use definition::TableLengths;
@@ -30,7 +29,7 @@ ghost use Rattle.ivector_info.specs.Load.{filesOf, lengthsOf, scratchKept};
 ghost use Rattle.ivector_stream.specs.Rooms.{Tables, tableLengthsOf, Rooms, roomLengthsOf, changesIn, tables, rooms};
 ghost use Rattle.ivector_stream.specs.Calls.{newRefusal, newAnswer, freshRooms, callOf, withAccepted, withFinished, withMark, withChanges, pushRefusal, pushedFrames, pushedRows, plainRefusal, changeRefusal, overFrames, overWeights, forgetMark, fetchRefusal, fetchStream, fetchVector, fetchRooms, bitsOf, notFinite};
 ghost use Rattle.ivector_stream.specs.Lent.{ringsOf};
-ghost use Rattle.exports.specs.Answers.{loadAnswer, noInfo, newStreamAnswer, newTableAnswer, noStream, noTable};
+ghost use Rattle.exports.specs.Answers.{loadAnswer, noInfo, newStreamAnswer, newTableAnswer, silenceCounts, noStream, noTable};
 
 // The answer of a load: the record where the refusal is 0, else one that no fresh stream takes.
 #[repr(C)]
@@ -51,6 +50,13 @@ pub struct NewStreamAnswer {
 pub struct NewTableAnswer {
     pub refusal: usize,
     pub silence: SilenceWeighting,
+}
+
+// The answer of a call on a silence table: the refusal, and how many changes it gives.
+#[repr(C)]
+pub struct SilenceCounts {
+    pub refusal: usize,
+    pub changes: usize,
 }
 
 // ---- load
@@ -429,26 +435,26 @@ pub extern "C" fn shofrakin_get_frame(
 
 // Frames that can be fetched.
 #[no_mangle]
-pub extern "C" fn shofrakin_num_frames_ready(s: IvectorStream) -> usize
-    ensures { λ r. ⌜ r ≡ framesReady (s .info .opts) (s .«input_finished») (s .accepted) ⌝ }
+pub extern "C" fn shofrakin_num_frames_ready(s: &IvectorStream) -> usize
+    ensures { λ r. ⌜ r ≡ framesReady (now (s .entry) .info .opts) (now (s .entry) .«input_finished») (now (s .entry) .accepted) ⌝ }
 {
-    ivector_stream::num_frames_ready(s)
+    ivector_stream::num_frames_ready(*s)
 }
 
 // The length of a fetch's output.
 #[no_mangle]
-pub extern "C" fn shofrakin_ivector_dim(s: IvectorStream) -> usize
-    ensures { λ r. ⌜ r ≡ s .info .dims .«ivector_dim» ⌝ }
+pub extern "C" fn shofrakin_ivector_dim(s: &IvectorStream) -> usize
+    ensures { λ r. ⌜ r ≡ now (s .entry) .info .dims .«ivector_dim» ⌝ }
 {
-    ivector_stream::ivector_dim(s)
+    ivector_stream::ivector_dim(*s)
 }
 
 // The first frame that is not in the statistics.
 #[no_mangle]
-pub extern "C" fn shofrakin_num_frames_stats(s: IvectorStream) -> usize
-    ensures { λ r. ⌜ r ≡ s .«num_frames_stats» ⌝ }
+pub extern "C" fn shofrakin_num_frames_stats(s: &IvectorStream) -> usize
+    ensures { λ r. ⌜ r ≡ now (s .entry) .«num_frames_stats» ⌝ }
 {
-    ivector_stream::num_frames_stats(s)
+    ivector_stream::num_frames_stats(*s)
 }
 
 // ---- the silence table
@@ -499,16 +505,16 @@ pub extern "C" fn shofrakin_new_silence_weighting(
 
 // Whether the weighting changes anything.
 #[no_mangle]
-pub extern "C" fn shofrakin_silence_active(s: SilenceWeighting) -> bool
-    ensures { λ r. ⌜ r ≡ active s ⌝ }
+pub extern "C" fn shofrakin_silence_active(s: &SilenceWeighting) -> bool
+    ensures { λ r. ⌜ r ≡ active (now (s .entry)) ⌝ }
 {
-    silence_weighting::active(s)
+    silence_weighting::active(*s)
 }
 
 // `silence_weighting::compute_current_traceback`.
 #[no_mangle]
 pub extern "C" fn shofrakin_compute_current_traceback(
-    s: SilenceWeighting,
+    s: &mut SilenceWeighting,
     silence_phones: &[i32],
     known: &mut [bool],
     is_silence: &mut [bool],
@@ -517,7 +523,7 @@ pub extern "C" fn shofrakin_compute_current_traceback(
     starts: &[usize],
     ends: &[usize],
     num_frames_decoded: DecoderFrame,
-) -> SilenceAnswer
+) -> SilenceCounts
     ensures { λ r. ⌜ (
         let phones = now («silence_phones» .entry) in
         let ks = now (known .entry) in
@@ -525,15 +531,16 @@ pub extern "C" fn shofrakin_compute_current_traceback(
         let ws = now («current_weight» .entry) in
         let ps = now («segment_phones» .entry) in
         let decoded = «num_frames_decoded» .0 in
-        let n : ℕ = firstOf ((tableBroken s (length ks) (length ss) (length ws), 10) ∷ tracebackTests s (length phones) decoded (length ps) (length (now (starts .entry))) (length (now (ends .entry)))) in
-        let t : Table = traced phones decoded (segments ps (now (starts .entry)) (now (ends .entry))) (tableIn (s .length) ks ss ws) in
-        (r ≡ silenceAnswer n s 0 (length t))
+        let n : ℕ = firstOf ((tableBroken (now (s .entry)) (length ks) (length ss) (length ws), 10) ∷ tracebackTests (now (s .entry)) (length phones) decoded (length ps) (length (now (starts .entry))) (length (now (ends .entry)))) in
+        let t : Table = traced phones decoded (segments ps (now (starts .entry)) (now (ends .entry))) (tableIn (now (s .entry) .length) ks ss ws) in
+        let call = silenceAnswer n (now (s .entry)) 0 (length t) in
+        ((r ≡ silenceCounts call) × (now (s .exit) ≡ call .silence))
         × (now (known .exit) ≡ taken n (over (map (λ f. f .known) t) ks) ks)
         × (now («is_silence» .exit) ≡ taken n (over (map (λ f. f .is-silence) t) ss) ss)
         × (now («current_weight» .exit) ≡ taken n (over (map (λ f. f .current-weight) t) ws) ws)) ⌝ }
 {
-    silence_weighting::compute_current_traceback(
-        s,
+    let a = silence_weighting::compute_current_traceback(
+        *s,
         silence_phones,
         known,
         is_silence,
@@ -542,13 +549,18 @@ pub extern "C" fn shofrakin_compute_current_traceback(
         starts,
         ends,
         num_frames_decoded,
-    )
+    );
+    s.length = a.silence.length;
+    SilenceCounts {
+        refusal: a.refusal,
+        changes: a.changes,
+    }
 }
 
 // `silence_weighting::get_delta_weights`.
 #[no_mangle]
 pub extern "C" fn shofrakin_get_delta_weights(
-    s: SilenceWeighting,
+    s: &mut SilenceWeighting,
     known: &mut [bool],
     is_silence: &mut [bool],
     current_weight: &mut [f32],
@@ -556,24 +568,25 @@ pub extern "C" fn shofrakin_get_delta_weights(
     first_decoder_frame: InputFrame,
     frames: &mut [usize],
     weights: &mut [f32],
-) -> SilenceAnswer
+) -> SilenceCounts
     ensures { λ r. ⌜ (
         let ks = now (known .entry) in
         let ss = now («is_silence» .entry) in
         let ws = now («current_weight» .entry) in
         let ready = «num_frames_ready» .0 in
         let first = «first_decoder_frame» .0 in
-        let t : Table = tableIn (s .length) ks ss ws in
-        let n : ℕ = firstOf ((tableBroken s (length ks) (length ss) (length ws), 10) ∷ deltaTests s ready first t (length (now (frames .entry))) (length (now (weights .entry)))) in
-        (r ≡ silenceAnswer n s (length (asked s ready first t)) (length (askedTable s ready first t)))
-        × (now (known .exit) ≡ taken n (over (map (λ f. f .known) (askedTable s ready first t)) ks) ks)
-        × (now («is_silence» .exit) ≡ taken n (over (map (λ f. f .is-silence) (askedTable s ready first t)) ss) ss)
-        × (now («current_weight» .exit) ≡ taken n (over (map (λ f. f .current-weight) (askedTable s ready first t)) ws) ws)
-        × (now (frames .exit) ≡ taken n (over (map (λ x. x .0) (asked s ready first t)) (now (frames .entry))) (now (frames .entry)))
-        × (now (weights .exit) ≡ taken n (over (map (λ x. x .1) (asked s ready first t)) (now (weights .entry))) (now (weights .entry)))) ⌝ }
+        let t : Table = tableIn (now (s .entry) .length) ks ss ws in
+        let n : ℕ = firstOf ((tableBroken (now (s .entry)) (length ks) (length ss) (length ws), 10) ∷ deltaTests (now (s .entry)) ready first t (length (now (frames .entry))) (length (now (weights .entry)))) in
+        let call = silenceAnswer n (now (s .entry)) (length (asked (now (s .entry)) ready first t)) (length (askedTable (now (s .entry)) ready first t)) in
+        ((r ≡ silenceCounts call) × (now (s .exit) ≡ call .silence))
+        × (now (known .exit) ≡ taken n (over (map (λ f. f .known) (askedTable (now (s .entry)) ready first t)) ks) ks)
+        × (now («is_silence» .exit) ≡ taken n (over (map (λ f. f .is-silence) (askedTable (now (s .entry)) ready first t)) ss) ss)
+        × (now («current_weight» .exit) ≡ taken n (over (map (λ f. f .current-weight) (askedTable (now (s .entry)) ready first t)) ws) ws)
+        × (now (frames .exit) ≡ taken n (over (map (λ x. x .0) (asked (now (s .entry)) ready first t)) (now (frames .entry))) (now (frames .entry)))
+        × (now (weights .exit) ≡ taken n (over (map (λ x. x .1) (asked (now (s .entry)) ready first t)) (now (weights .entry))) (now (weights .entry)))) ⌝ }
 {
-    silence_weighting::get_delta_weights(
-        s,
+    let a = silence_weighting::get_delta_weights(
+        *s,
         known,
         is_silence,
         current_weight,
@@ -581,5 +594,10 @@ pub extern "C" fn shofrakin_get_delta_weights(
         first_decoder_frame,
         frames,
         weights,
-    )
+    );
+    s.length = a.silence.length;
+    SilenceCounts {
+        refusal: a.refusal,
+        changes: a.changes,
+    }
 }
