@@ -13,8 +13,8 @@ use Rattle.definition.specs.Options.{maxFeat, maxIvector}
 use Rattle.definition.specs.Reader.{read, refused, numbers, times, Parser}
 use Rattle.definition.specs.Kaldi.{Matrix, Packed, matrix, packedMatrix, matrixAt, triangle}
 use Rattle.definition.specs.Model.{quadraticTerm}
-use Rattle.kaldi_io.specs.Answers.{Ready, MatrixIn, PackedIn}
-use Rattle.kaldi_io.proofs.Chain.{not-read, same-value, placeOf}
+use Rattle.kaldi_io.specs.Answers.{placeOf, Ready, MatrixIn, PackedIn}
+use Rattle.kaldi_io.proofs.Chain.{not-read, same-value}
 use Rattle.kaldi_files.specs.Answers.{means, inverses, items, sizedAs, squareAs, ExtractorIn}
 use Rattle.kaldi_files.proofs.Runs.{item-there, rest-there, times-length}
 use Rattle.kaldi_files.proofs.ExtractorParts.{sized-is}

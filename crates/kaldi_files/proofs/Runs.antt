@@ -9,7 +9,8 @@ use lib.ListN.{length, drop, getD}
 use lib.Seq.{getD-drop, drop-drop}
 use Rattle.loops.specs.Lists.{allOf}
 use Rattle.definition.specs.Reader.{Got, Parser, after, give, times, refused, read}
-use Rattle.kaldi_io.proofs.Chain.{not-read, same-value, placeOf, same-place, same-refusal}
+use Rattle.kaldi_io.specs.Answers.{placeOf}
+use Rattle.kaldi_io.proofs.Chain.{not-read, same-value, same-place, same-refusal}
 use Rattle.kaldi_files.specs.Answers.{items}
 use Rattle.kaldi_files.specs.Steps.{tally}
 

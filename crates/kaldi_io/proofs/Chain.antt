@@ -5,6 +5,7 @@ use mathlib.Core.List.{List}
 use Prim.Native.Nat.{ℕ}
 use Rattle.loops.specs.Lists.{if_then_else_}
 use Rattle.definition.specs.Reader.{Got, Parser, after, need, refused, read}
+use Rattle.kaldi_io.specs.Answers.{placeOf}
 
 module _ {R A : Type 0} (of : R → Got A) {r c : R} {g : Got A} where
   -- what the last answer says
@@ -56,11 +57,6 @@ valueOf d (read a next) = a
 
 pub same-value : {A : Type 0} {a b : A} {p q : ℕ} → read a p ≡ read b q → a ≡ b
 same-value {a = a} e = ap (valueOf a) e
-
--- the position that an answer gives
-abbrev pub placeOf : {A : Type 0} → Got A → ℕ
-placeOf (refused n) = n
-placeOf (read a next) = next
 
 pub same-place : {A : Type 0} {a b : A} {p q : ℕ} → read a p ≡ read b q → p ≡ q
 same-place e = ap placeOf e

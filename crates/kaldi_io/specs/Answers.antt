@@ -27,6 +27,11 @@ use Rattle.kaldi_io.specs.declared.Matrix.the-variants as M
 use Rattle.kaldi_io.specs.declared.Packed.{Packed}
 use Rattle.kaldi_io.specs.declared.Packed.the-variants as P
 
+-- the position that an answer gives, or its refusal's number
+abbrev pub placeOf : {A : Type 0} → Got A → ℕ
+placeOf (refused n) = n
+placeOf (read a next) = next
+
 -- ---- items
 
 abbrev pub nextOf : Next → Got (Unit {0})

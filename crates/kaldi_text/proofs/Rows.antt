@@ -16,7 +16,8 @@ use Rattle.loops.proofs.Fill.{fill-list}
 use Rattle.floats.specs.Operators.{zero₆₄, at}
 use Rattle.definition.specs.Reader.{Got, after, give, run, here, refused, read}
 use Rattle.definition.specs.Text.{number, space, stop, skip, row, line, byte, bracket, ending, last}
-use Rattle.kaldi_io.proofs.Chain.{not-read, same-value, placeOf, same-place, same-refusal}
+use Rattle.kaldi_io.specs.Answers.{placeOf}
+use Rattle.kaldi_io.proofs.Chain.{not-read, same-value, same-place, same-refusal}
 use Rattle.kaldi_text.specs.Answers.{cells, RowIn}
 use Rattle.kaldi_text.specs.Steps.{Outline, outline}
 use Rattle.kaldi_text.proofs.Sorting.{here-inside}

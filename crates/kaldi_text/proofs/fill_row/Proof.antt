@@ -10,8 +10,8 @@ use Rattle.loops.proofs.Fill.{fill-none, fill-turn, fill-end}
 use Rattle.floats.specs.Operators.{at}
 use Rattle.definition.specs.Reader.{read}
 use Rattle.definition.specs.Text.{space, row, line}
-use Rattle.kaldi_io.specs.Answers.{numberOf}
-use Rattle.kaldi_io.proofs.Chain.{told, placeOf}
+use Rattle.kaldi_io.specs.Answers.{placeOf, numberOf}
+use Rattle.kaldi_io.proofs.Chain.{told}
 use Rattle.kaldi_text.specs.Answers.{cells}
 use Rattle.kaldi_text.proofs.Numbers.{run-within}
 use Rattle.kaldi_text.proofs.Rows.{line-is, row-place, row-filled, number-there, number-value, row-rest, rest-inside}
