@@ -2,3 +2,4 @@
 pub mod Chain
 pub mod Bytes
 pub mod Numbers
+pub mod Readers

@@ -142,7 +142,8 @@ fn skip_word(s: &[u8], at: usize) -> usize
     i
 }
 
-pub fn read_token(s: &[u8], at: usize) -> Word
+// The next word, blanks before it skipped: where it stands, once it has ended.
+fn word_at(s: &[u8], at: usize) -> Word
     ensures { λ r. ⌜ wordOf (now (s .entry)) r ≡ word (now (s .entry)) at ⌝ }
     ensures { λ r. ⌜ wordIn (now (s .entry)) r ⌝ }
 {
@@ -177,10 +178,11 @@ pub fn same_at(s: &[u8], from: usize, len: usize, want: &[u8]) -> bool
     true
 }
 
-pub fn expect_token(s: &[u8], at: usize, want: &[u8]) -> Next
+// The next word, if it is `want`.
+fn token_at(s: &[u8], at: usize, want: &[u8]) -> Next
     ensures { λ r. ⌜ nextOf r ≡ token (now (want .entry)) (now (s .entry)) at ⌝ }
 {
-    match read_token(s, at) {
+    match word_at(s, at) {
         Word::Refused(n) => Next::Refused(n),
         Word::Is { from, len, next } => {
             if same_at(s, from, len, want) {
@@ -190,6 +192,70 @@ pub fn expect_token(s: &[u8], at: usize, want: &[u8]) -> Next
             }
         }
     }
+}
+
+// ---- the reader
+
+// The lent bytes and a position. Each method takes the reader apart, and leaves the work to a function above.
+pub struct KaldiReader<'a> {
+    pub src: &'a [u8],
+    pub at: usize,
+}
+
+impl<'a> KaldiReader<'a> {
+    pub fn new(src: &'a [u8]) -> KaldiReader<'a>
+        ensures { λ r. ⌜ (r .src ≡ src .entry) × (r .at ≡ 0) ⌝ }
+    {
+        KaldiReader { src, at: 0 }
+    }
+
+    // The reader at another place.
+    pub fn moved(self, at: usize) -> KaldiReader<'a>
+        ensures { λ r. ⌜ (r .src ≡ self .entry .src) × (r .at ≡ at) ⌝ }
+    {
+        KaldiReader { src: self.src, at }
+    }
+
+    pub fn expect_binary(self) -> Next
+        ensures { λ r. ⌜ nextOf r ≡ binary (now (self .entry .src)) (self .entry .at) ⌝ }
+    {
+        expect_binary(self.src, self.at)
+    }
+
+    pub fn read_token(self) -> Word
+        ensures { λ r. ⌜ wordOf (now (self .entry .src)) r ≡ word (now (self .entry .src)) (self .entry .at) ⌝ }
+        ensures { λ r. ⌜ wordIn (now (self .entry .src)) r ⌝ }
+    {
+        word_at(self.src, self.at)
+    }
+
+    pub fn expect_token(self, want: &[u8]) -> Next
+        ensures { λ r. ⌜ nextOf r ≡ token (now (want .entry)) (now (self .entry .src)) (self .entry .at) ⌝ }
+    {
+        token_at(self.src, self.at, want)
+    }
+}
+
+// What the files' checks call: a reader is made, moved to the place, and asked. Here the mark at the start of a file.
+pub fn open_binary(s: &[u8]) -> Next
+    ensures { λ r. ⌜ nextOf r ≡ binary (now (s .entry)) 0 ⌝ }
+{
+    KaldiReader::new(s).expect_binary()
+}
+
+// The next word from a place on.
+pub fn read_token(s: &[u8], at: usize) -> Word
+    ensures { λ r. ⌜ wordOf (now (s .entry)) r ≡ word (now (s .entry)) at ⌝ }
+    ensures { λ r. ⌜ wordIn (now (s .entry)) r ⌝ }
+{
+    KaldiReader::new(s).moved(at).read_token()
+}
+
+// The same, where one word alone will do.
+pub fn expect_token(s: &[u8], at: usize, want: &[u8]) -> Next
+    ensures { λ r. ⌜ nextOf r ≡ token (now (want .entry)) (now (s .entry)) at ⌝ }
+{
+    KaldiReader::new(s).moved(at).expect_token(want)
 }
 
 // ---- numbers
@@ -519,40 +585,4 @@ pub fn skip_double_vec(s: &[u8], at: usize) -> Next
             }
         }
     }
-}
-
-// ---- the reader
-
-// The lent bytes and a position. Each function takes the reader apart, and leaves the work to one above.
-pub struct KaldiReader<'a> {
-    pub src: &'a [u8],
-    pub at: usize,
-}
-
-impl<'a> KaldiReader<'a> {
-    pub fn new(src: &'a [u8]) -> KaldiReader<'a>
-        ensures { λ r. ⌜ (r .src ≡ src .entry) × (r .at ≡ 0) ⌝ }
-    {
-        KaldiReader { src, at: 0 }
-    }
-
-    // The reader at another place.
-    pub fn moved(self, at: usize) -> KaldiReader<'a>
-        ensures { λ r. ⌜ (r .src ≡ self .entry .src) × (r .at ≡ at) ⌝ }
-    {
-        KaldiReader { src: self.src, at }
-    }
-
-    pub fn expect_binary(self) -> Next
-        ensures { λ r. ⌜ nextOf r ≡ binary (now (self .entry .src)) (self .entry .at) ⌝ }
-    {
-        expect_binary(self.src, self.at)
-    }
-}
-
-// The mark at the start of a file.
-pub fn open_binary(s: &[u8]) -> Next
-    ensures { λ r. ⌜ nextOf r ≡ binary (now (s .entry)) 0 ⌝ }
-{
-    KaldiReader::new(s).expect_binary()
 }

@@ -1,5 +1,5 @@
 -- `kaldi_io::KaldiReader::expect_binary` meets its contract: a walk of its MIR, by hand. The struct is taken apart, and `expect_binary` is called on the slice and the number. All that the proof knows of `expect_binary` is that it meets its contract.
--- The struct is Copy: what it owns is had twice, one copy is kept whole for the exit, and of the other what src owns goes to the callee, beside the lifetime's token, which comes back.
+-- What the struct owns gives what src owns, which goes to the callee beside the lifetime's token, which comes back; the struct's own is kept whole for the exit.
 use mathlib.Core.Path.{_≡_, refl}
 use Prim.Native.Nat.{_<_, _^_}
 use mathlib.Core.List.{[], _∷_}
@@ -17,7 +17,7 @@ use ghost.Atoms.{Atoms, sem}
 use contract.Lifetimes.{Lfts}
 use contract.Monad.{Fun, fact}
 use contract.Running.{givenOf, tables, tablesOf}
-use types.Kit.{Given, ‵, raw, _⊛_, given, ⋆, some, later, _$_, _∵_, !, qed, by, move, drop, use1, use2, split, join, learn, pick, fsplit, fjoin, suffices, frame, await, done}
+use types.Kit.{Given, ‵, raw, _⊛_, ⋆, some, later, _$_, _∵_, !, qed, by, move, drop, use1, use2, split, join, pick, fsplit, fjoin, suffices, frame, await, done}
 use types.Part.{whole, sub, look-in}
 use types.Run.{look, init, forget, stop, fld, from, load, of-opd, and-then, no-more, assigns, land, returns, enter, alloc1, alloc0, params1, pass1, pass0, free1, free0}
 use sound.WpLaws.{FmC, fmOf, WpFn-mono}
@@ -30,10 +30,7 @@ use denote.Signature.{namedLft}
 use denote.Slice.{sliceVal, ShrSlice}
 use denote.Steps.{owned, peeks, heard, nothing}
 use denote.Enum.Laws as EL
-use denote.Struct.Declared.{Declared}
 use denote.Struct.Laws as LL
-use denote.Struct.Rest.{all-own, ownAt, rest, own-open, own-out}
-use denote.Struct.Values.{Values}
 use denote.Triple.Statement.{Contract, Triple}
 use denote.Triple.Call.{calls-at}
 use denote.Triple.Entry.{Vals, onEntry}
@@ -49,6 +46,7 @@ use Rattle.kaldi_io.specs.declared.KaldiReader.{KaldiReader}
 use Rattle.kaldi_io.specs.declared.Next.{Next}
 use Rattle.kaldi_io.proofs.KaldiReader as T
 use Rattle.kaldi_io.proofs.KaldiReader.Laws as T′
+use Rattle.kaldi_io.proofs.Readers.{src-of}
 use Rattle.kaldi_io.proofs.Next as S
 use Rattle.kaldi_io.proofs.Next.Laws as S′
 use Rattle.kaldi_io.proofs.expect_binary as step
@@ -89,15 +87,8 @@ module _ {M : Type 1} (𝓤 : URA M) (H : Heap 𝓤) (A : Atoms 𝓤) (W : Given
   abbrev Own : Fml
   Own = B (κ, tt) .own d (mach ∷ [])
 
-  -- the struct's type and laws, and d's fields' values
-  abbrev D : Declared
-  D = T.the-type (namedLft 1 0 tt (κ, tt))
-
-  abbrev L : LL.Laws D
-  L = T′.the-laws (namedLft 1 0 tt (κ, tt))
-
-  abbrev vd : Values (D .parts)
-  vd = (d .src, (d .at, tt))
+  abbrev Src : Fml
+  Src = ShrSlice (named 0) κ u8 .own (d .src) (v ∷ [])
 
   -- what the callee is passed
   abbrev passed : Vals step.signature (κ, tt)
@@ -113,11 +104,10 @@ module _ {M : Type 1} (𝓤 : URA M) (H : Heap 𝓤) (A : Atoms 𝓤) (W : Given
   apart : d .at < 2 ^ 64 → ent 𝓤 (onEntry 𝓤 H A method.signature (κ, tt) (q, tt) (d, tt) (mach ∷ [], tt)) (sep 𝓤 (ExpectBinary 𝓤 H A mem run .pre to) (sem 𝓤 H A Own))
   apart fits =
       qed W ((‵ (flft κ q) ⊛ ‵ ftrue) ∷ ‵ (owns (B (κ, tt) ∷ []) (d, tt) (mach ∷ [], tt)) ∷ []) ∵
-      move ! (1 ∷ []) $ fsplit ! $ move ! (1 ∷ []) $ drop ! $ use1 W (‵ Own ⊛ ‵ Own) (LL.copy D (T′.the-copy (namedLft 1 0 tt (κ, tt))) 𝓤 H A W .twice d (mach ∷ [])) $ split ! $
-      use1 W (given (mach ∷ [] ≡ mach ∷ []) (‵ (all-own (D .parts) L vd))) (own-open 𝓤 H A W D L vd mach) $ learn ! (λ _. use1 W (‵ (ownAt (D .parts) L 0 (d .src)) ⊛ ‵ (rest (D .parts) L 0 vd)) (own-out 𝓤 H A W (D .parts) L 0 vd) $ split ! $
-      -- [what src owns; what at owns; what the struct owns; the token]
-      move ! (1 ∷ []) $ drop ! $ nothing ! $ owned ! usize (Is usize) (uint-makes 𝓤 H A W w64) (d .at) _ (refl, fits) $ fjoin ! $ move ! (1 ∷ 0 ∷ []) $ fjoin ! $
-      move ! (2 ∷ 0 ∷ []) $ use2 W (raw (ExpectBinary 𝓤 H A mem run .pre to)) asked $ frame ! $ done !)
+      move ! (1 ∷ []) $ fsplit ! $ move ! (1 ∷ []) $ drop ! $ use1 W (‵ Src ⊛ ‵ Own) (src-of 𝓤 H A W κ d) $ split ! $
+      -- [what src owns; what the struct owns; the token]
+      nothing ! $ owned ! usize (Is usize) (uint-makes 𝓤 H A W w64) (d .at) _ (refl, fits) $ fjoin ! $ move ! (1 ∷ 0 ∷ []) $ fjoin ! $
+      move ! (2 ∷ 0 ∷ []) $ use2 W (raw (ExpectBinary 𝓤 H A mem run .pre to)) asked $ frame ! $ done !
 
   -- of the callee's `ensured`, the clause alone: it has no `&mut`, so what is said of last values is dropped
   said : (r : Next) → ent 𝓤 (ensured 𝓤 H A step.ended (step.clauses 𝓤 H A mem run) (κ, tt) (d .src, (d .at, tt)) tt r) (fact 𝓤 (nextOf r ≡ found))
