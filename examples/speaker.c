@@ -86,7 +86,7 @@ int main(int argc, char **argv) {
         text.len, TABLES, LEN(load_scratch));
     if (m.refusal) fail("load", m.refusal);
     shofrakin_new_stream_answer a = shofrakin_new_stream(m.info, TABLES, RINGS, ESTIMATE);
-    if (a.refusal) fail("stream", a.refusal);
+    if (a.answer.refusal) fail("stream", a.answer.refusal);
     stream = a.stream;
 
     FILE *f = fopen(argv[2], "r");

@@ -106,17 +106,27 @@ shofrakin_load_answer shofrakin_load(shofrakin_options opts,
 
 /* ---- the stream */
 
-/* The lengths of the rooms that a stream works in. */
+/* The lengths of the rings that every call on a stream is lent: of frames, of prefix rows, and of the changes that wait. */
 typedef struct {
     size_t frames;
     size_t rows;
     size_t waiting_frames;
     size_t waiting_weights;
+} shofrakin_ring_lengths;
+
+/* The lengths of the rooms that a fetch is lent besides. */
+typedef struct {
     size_t cmvn_stats;
     size_t linear;
     size_t quadratic;
     size_t current;
     size_t scratch;
+} shofrakin_estimate_lengths;
+
+/* The lengths of the rooms that a stream works in. */
+typedef struct {
+    shofrakin_ring_lengths rings;
+    shofrakin_estimate_lengths estimate;
 } shofrakin_room_lengths;
 
 /* A stream's record: its model's record, the lengths of its rooms, frames accepted, the first frame not in the statistics, the mark below
@@ -134,12 +144,6 @@ typedef struct {
     double num_frames;
 } shofrakin_stream;
 
-/* The answer of a fresh stream: the record where the refusal is 0, else one that every call refuses with 10. */
-typedef struct {
-    size_t refusal;
-    shofrakin_stream stream;
-} shofrakin_new_stream_answer;
-
 /* The answer of a call on a stream: the refusal, frames and prefix rows held (0 with a refusal 10), and, of a fetch, how many elements
  * of its vector are not finite. */
 typedef struct {
@@ -148,6 +152,13 @@ typedef struct {
     size_t rows_held;
     size_t not_finite;
 } shofrakin_stream_answer;
+
+/* The answer of a fresh stream: its numbers (no frame is held, and one row), and the record, which is one that every call refuses with 10 where the
+ * refusal is not 0. */
+typedef struct {
+    shofrakin_stream_answer answer;
+    shofrakin_stream stream;
+} shofrakin_new_stream_answer;
 
 /* A fresh stream on a loaded model, in rooms for F frames (Fb numbers) and R prefix rows (Rb numbers, R above 1), lists for the changes
  * that wait, and rooms of b+1, s, s(s+1)/2 and s numbers; scratch is the larger of gd and ss. Longer rooms are taken. Refusals 10, 8.

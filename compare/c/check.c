@@ -113,7 +113,7 @@ int main(void) {
     is("load, short scratch", m.refusal, 8);
     is("a table of a refused load", u[0], 0);
     shofrakin_new_stream_answer a = shofrakin_new_stream(m.info, TABLES, RINGS, ESTIMATE);
-    is("a fresh stream on the record beside it", a.refusal, 10);
+    is("a fresh stream on the record beside it", a.answer.refusal, 10);
     m = shofrakin_load(opts, FILES, TABLES, scratch, 2);
     is("load", m.refusal, 0);
     is("sigma_inv_m", sigma_inv_m[0], 2);
@@ -126,14 +126,14 @@ int main(void) {
     is("its last length", m.info.tables.global_mean_stats, 2);
     shofrakin_info info = m.info;
     a = shofrakin_new_stream(info, TABLES, RINGS, ESTIMATE);
-    is("fresh stream", a.refusal, 0);
+    took("fresh stream", a.answer, 0, 0, 1);
     is("its prior", current[0], 1.5);
     is("its quadratic", quadratic[0], 1);
     stream = a.stream;
     is("its record", memcmp(&stream.info.dims, &info.dims, sizeof info.dims), 0);
-    is("its scratch", stream.rooms.scratch, 2);
+    is("its scratch", stream.rooms.estimate.scratch, 2);
     a = shofrakin_new_stream(info, TABLES, RINGS, cmvn, 1, linear, 1, quadratic, 1, current, 1, scratch, 2);
-    is("fresh stream, short room", a.refusal, 8);
+    is("fresh stream, short room", a.answer.refusal, 8);
     is("the call on the record beside it", shofrakin_set_input_finished(&a.stream, RINGS).refusal, 10);
     for (int t = 0; t < 4; t++) {
         float x = 60 + t;
@@ -168,7 +168,7 @@ int main(void) {
     model(1, 1);
     m = shofrakin_load(opts, FILES, TABLES, scratch, 2);
     a = shofrakin_new_stream(m.info, TABLES, RINGS, ESTIMATE);
-    is("P9's stream", a.refusal, 0);
+    is("P9's stream", a.answer.refusal, 0);
     stream = a.stream;
     x = 4;
     took("P9's push", shofrakin_push_frame(&stream, &x, 1, RINGS), 0, 1, 2);

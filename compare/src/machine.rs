@@ -1041,8 +1041,10 @@ impl Stream {
         } {
             return Err(10);
         }
-        let b = m.dims.base as u64;
-        if lens[0] / b == 0 || lens[1] / b < 2 || made[12..].iter().zip(&needs).any(|(l, n)| l < n) {
+        // what the record says, forged or not
+        let b = rec.dims.base as u64;
+        let short = |lens: &[u64], needs: &[u64]| lens.iter().zip(needs).any(|(l, n)| l < n);
+        if short(model_lens, &model_needs(&rec.dims, &rec.opts)) || lens[0] / b == 0 || lens[1] / b < 2 || short(&made[12..], &stream_needs(&rec.dims)) {
             return Err(8);
         }
         let mut current = vec![0f64; m.dims.ivec];

@@ -61,16 +61,28 @@ pub struct LoadAnswer {
 
 #[repr(C)]
 #[derive(Clone, Copy, Debug, PartialEq)]
-pub struct RoomLengths {
+pub struct RingLengths {
     pub frames: usize,
     pub rows: usize,
     pub waiting_frames: usize,
     pub waiting_weights: usize,
+}
+
+#[repr(C)]
+#[derive(Clone, Copy, Debug, PartialEq)]
+pub struct EstimateLengths {
     pub cmvn_stats: usize,
     pub linear: usize,
     pub quadratic: usize,
     pub current: usize,
     pub scratch: usize,
+}
+
+#[repr(C)]
+#[derive(Clone, Copy, Debug, PartialEq)]
+pub struct RoomLengths {
+    pub rings: RingLengths,
+    pub estimate: EstimateLengths,
 }
 
 #[repr(C)]
@@ -91,7 +103,7 @@ pub struct IvectorStream {
 #[repr(C)]
 #[derive(Clone, Copy, Debug, PartialEq)]
 pub struct NewStreamAnswer {
-    pub refusal: usize,
+    pub answer: StreamAnswer,
     pub stream: IvectorStream,
 }
 
@@ -484,12 +496,12 @@ pub enum Call<'a> {
 
 #[rustfmt::skip]
 fn bits(s: &IvectorStream) -> Vec<u64> {
-    let (o, d, t, z) = (&s.info.opts, &s.info.dims, &s.info.tables, &s.rooms);
+    let (o, d, t, r, e) = (&s.info.opts, &s.info.dims, &s.info.tables, &s.rooms.rings, &s.rooms.estimate);
     let mut v: Vec<u64> = [
         o.left_context, o.right_context, o.cmn_window, o.global_frames, o.num_gselect, o.num_cg_iters,
         d.num_gauss, d.ext_gauss, d.feat_dim, d.ivector_dim, d.base_dim, d.lda_cols,
         t.gconsts, t.means_invvars_t, t.inv_vars_t, t.sigma_inv_m, t.u, t.lda_t, t.lda_offset, t.global_mean_stats,
-        z.frames, z.rows, z.waiting_frames, z.waiting_weights, z.cmvn_stats, z.linear, z.quadratic, z.current, z.scratch,
+        r.frames, r.rows, r.waiting_frames, r.waiting_weights, e.cmvn_stats, e.linear, e.quadratic, e.current, e.scratch,
         s.accepted, s.num_frames_stats, s.mark, s.waiting, s.past_highest,
         usize::from(s.delta_weights_provided), usize::from(s.input_finished),
     ]
@@ -549,7 +561,10 @@ impl Stream {
         let before = z.clone();
         let t = &m.tables;
         // the record of a stream carries the model's: forge that
-        let none = RoomLengths { frames: 0, rows: 0, waiting_frames: 0, waiting_weights: 0, cmvn_stats: 0, linear: 0, quadratic: 0, current: 0, scratch: 0 };
+        let none = RoomLengths {
+            rings: RingLengths { frames: 0, rows: 0, waiting_frames: 0, waiting_weights: 0 },
+            estimate: EstimateLengths { cmvn_stats: 0, linear: 0, quadratic: 0, current: 0, scratch: 0 },
+        };
         let rec = IvectorStream {
             info: m.info, rooms: none, accepted: 0, num_frames_stats: 0, mark: 0, waiting: 0, past_highest: 0,
             delta_weights_provided: false, input_finished: false, num_frames: 0.0,
@@ -570,7 +585,7 @@ impl Stream {
                 z.scratch.all.as_ptr(), z.scratch.len,
             )
         };
-        let n = a.refusal as u32;
+        let n = a.answer.refusal as u32;
         if n != 0 {
             let wrong = (z != before).then(|| "a refused fresh stream wrote into a room".to_string());
             // the record beside a refusal is refused by every call
@@ -579,7 +594,9 @@ impl Stream {
             let wrong = wrong.or_else(|| (b.refusal != 10).then(|| "the record beside a refusal is taken".to_string()));
             return (n, None, wrong);
         }
-        (0, Some(Stream { model: m.clone(), rec: a.stream, rooms: z }), None)
+        // no frame is held, and one row
+        let wrong = ((a.answer.frames_held, a.answer.rows_held, a.answer.not_finite) != (0, 1, 0)).then(|| format!("a fresh stream answers {:?}", a.answer));
+        (0, Some(Stream { model: m.clone(), rec: a.stream, rooms: z }), wrong)
     }
 
     /// The call with a forged record and forged lengths. Its answer, and the record that it leaves.

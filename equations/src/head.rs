@@ -22,20 +22,16 @@ use Rattle.definition.specs.Reader.{Got, read, refused}
 use Rattle.definition.specs.Model.{Model, Files, load}
 use Rattle.definition.specs.Changes.{Change}
 use Rattle.definition.specs.Machine.{Call, push, finish, change, forget, fetch, Answer, pushTests, answers}
-use Rattle.definition.specs.Stream.{infoSound, sameTables, roomsFit, isBroken, sameRooms}
-use Rattle.definition.specs.Silence.{Table, segments, traced, settingsRefusal, newTable, tableBroken, tracebackTests, asked, askedTable, deltaTests}
+use Rattle.definition.specs.Stream.{newRefusal, sameTables, isBroken, sameRooms}
+use Rattle.definition.specs.Silence.{Table, input, decoder, segments, traced, settingsRefusal, newTable, tableBroken, tracebackTests, asked, askedTable, deltaTests}
 use Rattle.definition.proofs.Computed.{computed}
 
 abbrev said : ℕ → ℕ → ℕ → List ℕ → ℕ → Answer
-said r f n v c = record { refusal = r; frames-held = f; rows-held = n; vector = v; not-finite = c }
+said r f n v c = record { told = record { refusal = r; «frames_held» = f; «rows_held» = n; «not_finite» = c }; vector = v }
 
 -- refusal 10 of a call on a stream: waiting frames, table lengths and room lengths are what is lent
 abbrev declined : IvectorStream → List ℕ → TableLengths → RoomLengths → Bool
 declined s waiting tables rooms = isBroken s waiting || not (sameTables tables (s .info .tables)) || not (sameRooms rooms (s .rooms))
-
--- the refusal of a fresh stream, 10 before 8
-abbrev freshRefusal : IvectorInfo → TableLengths → RoomLengths → ℕ
-freshRefusal i tables rooms = firstOf ((not (infoSound i) || not (sameTables tables (i .tables)), 10) ∷ (not (roomsFit (i .dims) rooms), 8) ∷ [])
 
 -- the calls on a silence table, and their answers, as those of a stream
 data Query : Type 0 where
@@ -43,20 +39,20 @@ data Query : Type 0 where
   weights : ℕ → ℕ → ℕ → ℕ → Query
 
 abbrev ofLength : SilenceWeighting → ℕ → SilenceWeighting
-ofLength s n = record { «silence_weight» = s .«silence_weight»; subsampling = s .subsampling; phones = s .phones; table = s .table; length = n }
+ofLength s n = record { «silence_weight» = s .«silence_weight»; subsampling = s .subsampling; phones = s .phones; table = s .table; length = decoder n }
 
 abbrev broken : SilenceWeighting → Bool
 broken s = tableBroken s (s .table) (s .table) (s .table)
 
 unfoldable heard : SilenceWeighting → List ℤ → Table → List Query → List (ℕ × List Change)
 heard s phones t [] = []
-heard s phones t (traceback decoded ps starts ends ∷ qs) =
-    let r = firstOf ((broken (ofLength s (length t)), 10) ∷ tracebackTests s (length phones) decoded (length ps) (length starts) (length ends)) in
-    let t′ : Table = taken r (traced phones decoded (segments ps starts ends) t) t in
+heard s phones t (traceback n ps starts ends ∷ qs) =
+    let r = firstOf ((broken (ofLength s (length t)), 10) ∷ tracebackTests s (length phones) (decoder n) (length ps) (length starts) (length ends)) in
+    let t′ : Table = taken r (traced phones (decoder n) (segments ps starts ends) t) t in
     (r, []) ∷ heard s phones t′ qs
 heard s phones t (weights ready first f w ∷ qs) =
-    let r = firstOf ((broken (ofLength s (length t)), 10) ∷ deltaTests s ready first t f w) in
-    let given : List Change = taken r (asked s ready first t) [] in
-    let t′ : Table = taken r (askedTable s ready first t) t in
+    let r = firstOf ((broken (ofLength s (length t)), 10) ∷ deltaTests s (input ready) (input first) t f w) in
+    let given : List Change = taken r (asked s (input ready) (input first) t) [] in
+    let t′ : Table = taken r (askedTable s (input ready) (input first) t) t in
     (r, given) ∷ heard s phones t′ qs
 ";

@@ -18,7 +18,8 @@ const OPTIONS: [&str; 10] = [
 ];
 const DIMENSIONS: [&str; 6] = ["num_gauss", "ext_gauss", "feat_dim", "ivector_dim", "base_dim", "lda_cols"];
 const TABLES: [&str; 8] = ["gconsts", "means_invvars_t", "inv_vars_t", "sigma_inv_m", "u", "lda_t", "lda_offset", "global_mean_stats"];
-const ROOMS: [&str; 9] = ["frames", "rows", "waiting_frames", "waiting_weights", "cmvn_stats", "linear", "quadratic", "current", "scratch"];
+const RINGS: [&str; 4] = ["frames", "rows", "waiting_frames", "waiting_weights"];
+const ESTIMATE: [&str; 5] = ["cmvn_stats", "linear", "quadratic", "current", "scratch"];
 #[rustfmt::skip]
 const STREAM: [&str; 10] = [
     "info", "rooms", "accepted", "num_frames_stats", "mark", "waiting", "past_highest", "delta_weights_provided", "input_finished", "num_frames",
@@ -36,6 +37,10 @@ const FIELDS: [&str; 19] = [
 fn record<T: Display>(names: &[&str], values: impl IntoIterator<Item = T>) -> String {
     let field = |(n, v): (&&str, T)| if n.contains('_') { format!("«{n}» = {v}") } else { format!("{n} = {v}") };
     format!("(record {{ {} }})", names.iter().zip(values).map(field).collect::<Vec<_>>().join("; "))
+}
+/// A stream's nine lengths.
+fn rooms(lengths: &[i128]) -> String {
+    record(&["rings", "estimate"], [record(&RINGS, &lengths[..4]), record(&ESTIMATE, &lengths[4..])])
 }
 fn list<T: Display>(items: impl IntoIterator<Item = T>) -> String {
     items.into_iter().fold("(".to_string(), |s, x| s + &format!("{x} ∷ ")) + "[])"
@@ -115,13 +120,16 @@ impl Record {
         record(&["opts", "dims", "prior_offset", "tables"], [self.options(), dims, float(&self.prior), record(&TABLES, &self.lengths)])
     }
     fn rooms(&self) -> String {
-        record(&ROOMS, &self.lengths[8..])
+        rooms(&self.lengths[8..])
+    }
+    fn rings(&self) -> String {
+        record(&RINGS, &self.lengths[8..12])
     }
     /// Refusal 10 of a call with this record. The fields at the end are not judged.
     fn declined(&self, lent: &[i128]) -> String {
         let (n, rest) = (self.waiting.len().to_string(), ["0", "false", "false", "f64 0"].map(String::from));
         let values = [self.info(), self.rooms()].into_iter().chain(self.fields[16..].to_vec()).chain([n]).chain(rest);
-        format!("declined {} {} {} {}", record(&STREAM, values), list(&self.waiting), record(&TABLES, lent), record(&ROOMS, &lent[8..]))
+        format!("declined {} {} {} {}", record(&STREAM, values), list(&self.waiting), record(&TABLES, lent), rooms(&lent[8..]))
     }
     /// The record that `x` lines make of this one, and the lengths that are lent with it.
     fn forged(&self, lines: &[Vec<&str>]) -> (Record, Vec<i128>) {
@@ -248,8 +256,8 @@ impl<'a> Session<'a> {
             if q[0] == "0" {
                 let (names, mut words) = (TABLES.map(|n| n.replace('_', "-")), &k[7..]);
                 let tables = tables.map(|n| floats(cut(&mut words, n)));
-                let names: Vec<&str> = ["info"].into_iter().chain(names.iter().map(|n| &n[..])).collect();
-                let name = m.abbrev("model", "Model", &record(&names, [r.info()].into_iter().chain(tables)));
+                let names: Vec<&str> = names.iter().map(|n| &n[..]).collect();
+                let name = m.abbrev("model", "Model", &record(&["info", "tables"], [r.info(), record(&names, tables)]));
                 right = format!("read {name} 0");
                 self.model = Some((name, r.clone()));
             }
@@ -268,9 +276,9 @@ impl<'a> Session<'a> {
         r.lengths.extend(v[1..5].iter().map(|x| number(x)));
         r.lengths.extend(lengths(&r.needs().1, &v[5..]));
         let (f, lent) = r.forged(forging);
-        m.equation(&format!("freshRefusal {} {} {}", f.info(), record(&TABLES, lent), r.rooms()), q[0], &format!("fresh streams {}", outcome(q[0])));
+        m.equation(&format!("newRefusal {} {} {}", f.info(), record(&TABLES, lent), r.rooms()), q[0], &format!("fresh streams {}", outcome(q[0])));
         if q[0] == "0" {
-            let calls = Calls { name: m.new_name("calls"), on: format!("answers {name} {}", r.rooms()), calls: vec![] };
+            let calls = Calls { name: m.new_name("calls"), on: format!("answers {name} {}", r.rings()), calls: vec![] };
             self.stream = Some((r, calls));
         }
     }
@@ -281,7 +289,7 @@ impl<'a> Session<'a> {
             m.equation(&f.declined(&lent), if q[0] == "10" { "true" } else { "false" }, &format!("forged stream calls {}", outcome(q[0])));
             if v[0] == "p" && q[0] != "10" {
                 let (info, numbers) = (m.abbrev("info", "IvectorInfo", &f.info()), floats(&v[2..]));
-                let tests = format!("pushTests ({info} .opts) ({info} .dims) {} {} {} {numbers}", f.rooms(), f.field("accepted"), f.field("mark"));
+                let tests = format!("pushTests ({info} .opts) ({info} .dims) {} {} {} {numbers}", f.rings(), f.field("accepted"), f.field("mark"));
                 m.equation(&format!("firstOf ({tests})"), q[0], "forged pushes past 10");
             }
             return;
@@ -320,7 +328,7 @@ impl<'a> Session<'a> {
         calls.calls.push((text, format!("said {} {} {} {vector}", q[0], q[1], q[2]), counts));
     }
     fn table(&mut self, m: &mut Module, (v, q): &Line) {
-        let fields = [&float(v[2]), v[3], v[4], v[1], "0"].map(String::from);
+        let fields = [&float(v[2]), v[3], v[4], v[1], "(decoder 0)"].map(String::from);
         let settings = format!("{} ({}) {}", v[4], fields[0], v[3]);
         let table = record(&SILENCE, &fields);
         let right = if q[0] == "0" { format!("N.Table {table}") } else { format!("N.Refused {}", q[0]) };
@@ -341,7 +349,7 @@ impl<'a> Session<'a> {
                     "w" => f[0] = float(y[2]),
                     "s" => f[1] = y[2].into(),
                     "p" => f[2] = y[2].into(),
-                    _ => f[4] = y[2].into(),
+                    _ => f[4] = format!("(decoder {})", y[2]),
                 }
             }
             let left = format!("tableBroken {} {lent} {lent} {lent}", record(&SILENCE, &f));

@@ -7,7 +7,8 @@ use lib.ListN.{length, getD, set, take, drop, replicate, length-replicate}
 use lib.Ieee.{Float, nan}
 use Rattle.loops.specs.Loop.{iter}
 use Rattle.loops.specs.Lists.{build}
-use Rattle.loops.specs.Steps.{fill, put}
+use Rattle.loops.specs.Steps.{fill}
+use Rattle.loops.specs.Ring.{put}
 use Rattle.loops.proofs.Loop.{iter-end}
 use Rattle.loops.proofs.Build.{length-build, build-ext, build-same}
 use Rattle.loops.proofs.Fill.{fill-end, fill-same, fill-ext, fill-whole, iter-fill, put-back}

@@ -11,7 +11,7 @@ use lib.Dec.{eqb, ltb}
 use borrow.Author.Tests.{eqb-true, eqb-false, eq-eqb, ne-eqb, ltb-true, ltb-false}
 use lib.Ieee.{Float, nan}
 use Rattle.loops.specs.Lists.{build, anyOf}
-use Rattle.loops.specs.Steps.{put}
+use Rattle.loops.specs.Ring.{put}
 use Rattle.loops.proofs.Choose.{by-test}
 use Rattle.loops.proofs.Build.{length-build, at-build, build-same}
 use Rattle.loops.proofs.Fill.{put-at, put-before, put-past}

@@ -71,8 +71,8 @@ module _ (M : Model) (F G : Frames) (mark : ℕ) (some : 0 < M .info .dims .«ba
   entries-ext (b ∷ bs) c h =
       rw (
         raw-ext (M .info .opts) (M .info .dims .«base_dim») F G mark some a (b .0) (h .0) (h .1),
-        row-ext (M .info .opts) (M .info .dims .«base_dim») F G mark some a (b .0) (h .0) (h .1) (M .global-mean-stats) c,
-        entries-ext bs (normalisedRow (M .info .opts) (M .info .dims .«base_dim») (M .global-mean-stats) G (b .0) c .0) (h .2),
+        row-ext (M .info .opts) (M .info .dims .«base_dim») F G mark some a (b .0) (h .0) (h .1) (M .tables .global-mean-stats) c,
+        entries-ext bs (normalisedRow (M .info .opts) (M .info .dims .«base_dim») (M .tables .global-mean-stats) G (b .0) c .0) (h .2),
       )
 
   pub updated-ext : (bs : Batch) (e : Estimate) → Inside (M .info .opts) mark (F .accepted) bs → updated M F bs e ≡ updated M G bs e

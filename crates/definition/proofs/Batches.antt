@@ -18,10 +18,10 @@ module _ (M : Model) (F : Frames) where
   pub entries-state : (bs cs : Batch) (c : List Float) → state (bs ++ cs) c ≡ state cs (state bs c)
   unfolding entries
   entries-state [] cs c = refl
-  entries-state (b ∷ bs) cs c = entries-state bs cs (normalisedRow (M .info .opts) (M .info .dims .«base_dim») (M .global-mean-stats) F (b .0) c .0)
+  entries-state (b ∷ bs) cs c = entries-state bs cs (normalisedRow (M .info .opts) (M .info .dims .«base_dim») (M .tables .global-mean-stats) F (b .0) c .0)
 
   pub entries-gained : (bs cs : Batch) (c : List Float) → gained (bs ++ cs) c ≡ gained bs c ++ gained cs (state bs c)
   unfolding entries
   entries-gained [] cs c = refl
   entries-gained (b ∷ bs) cs c =
-      rw (entries-gained bs cs (normalisedRow (M .info .opts) (M .info .dims .«base_dim») (M .global-mean-stats) F (b .0) c .0)) (simp append-assoc)
+      rw (entries-gained bs cs (normalisedRow (M .info .opts) (M .info .dims .«base_dim») (M .tables .global-mean-stats) F (b .0) c .0)) (simp append-assoc)

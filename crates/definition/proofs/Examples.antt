@@ -5,6 +5,7 @@ use mathlib.Core.Bool.{true, false}
 use mathlib.Core.List.{List, [], _∷_, _++_}
 use lib.ListN.{replicate}
 use lib.Ieee.{Float, neg}
+use Rattle.loops.specs.Lists.{flat}
 use Rattle.floats.specs.Operators.{f32, f64, count, zero₃₂, zero₆₄, one₃₂, _+₆₄_}
 use Rattle.floats.specs.Narrow.{narrowed}
 use Rattle.floats.specs.Ln.{lnOf}
@@ -12,15 +13,18 @@ use Rattle.floats.specs.Exp.{expOf}
 use Rattle.definition.specs.declared.IvectorOptions.{IvectorOptions}
 use Rattle.definition.specs.declared.TableLengths.{TableLengths}
 use Rattle.definition.specs.declared.RoomLengths.{RoomLengths}
+use Rattle.definition.specs.declared.StreamAnswer.{StreamAnswer}
 use Rattle.definition.specs.declared.SilenceWeighting.{SilenceWeighting}
+use Rattle.definition.specs.declared.NewTable.the-variants as N
+use Rattle.definition.specs.declared.SilenceAnswer.{SilenceAnswer}
 use Rattle.definition.specs.Reader.{read, refused, text}
 use Rattle.definition.specs.Text.{number}
-use Rattle.definition.specs.Model.{Model, Files, load}
+use Rattle.definition.specs.Model.{tablesFrom, Model, Files, load}
 use Rattle.definition.specs.Views.{cmvnState, cmvnFrame, normalisedRow}
 use Rattle.definition.specs.Posteriors.{minPostFor}
 use Rattle.definition.specs.Statistics.{newStats}
-use Rattle.definition.specs.Machine.{Call, push, change, forget, fetch, Answer, Machine, machine, allFrames, answersFrom, answers}
-use Rattle.definition.specs.Silence.{Table, asked, askedTable}
+use Rattle.definition.specs.Machine.{Call, push, change, forget, fetch, Answer, Machine, machine, allFrames, fresh, toldBy, machineAfter, answersFrom, answers}
+use Rattle.definition.specs.Silence.{input, decoder, TableRooms, tableRooms, newTable, getDeltaWeights, TableCall, tableDone}
 use Rattle.definition.proofs.Computed.{computed}
 
 -- ---- options and models
@@ -63,51 +67,54 @@ wide-two = 0 ∷ 0 ∷ 0 ∷ 0 ∷ 0 ∷ 0 ∷ 0 ∷ 64 ∷ []
 abbrev pub wide-zero : List ℕ
 wide-zero = replicate 8 0
 
--- P9's files, with M
-abbrev pub files : List ℕ → Files
-files m =
+-- P9's files, with M and an LDA of n columns
+abbrev filesOf : ℕ → List ℕ → Files
+filesOf n m =
     record {
       gmm = (0 ∷ 66 ∷ []) ++ text "<DiagGMM> <WEIGHTS> FV " ++ len 1 ++ one ++ text "<MEANS_INVVARS> FM " ++ len 1 ++ len 1 ++ one
           ++ text "<INV_VARS> FM " ++ len 1 ++ len 1 ++ one;
       extractor = (0 ∷ 66 ∷ []) ++ text "<IvectorExtractor> <w> DM " ++ len 0 ++ len 0 ++ text "<w_vec> DV " ++ len 0 ++ text "<M> " ++ len 1
           ++ text "DM " ++ len 1 ++ len 1 ++ m ++ text "<SigmaInv> DP " ++ len 1 ++ wide-one ++ text "<IvectorOffset> " ++ (8 ∷ []) ++ wide-one
           ++ text "</IvectorExtractor> ";
-      lda = (0 ∷ 66 ∷ []) ++ text "FM " ++ len 1 ++ len 1 ++ one;
+      lda = (0 ∷ 66 ∷ []) ++ text "FM " ++ len 1 ++ len n ++ flat n (λ i. one);
       cmvn = text " [ 50 100" ++ (10 ∷ []) ++ text "1 0 ]" ++ (10 ∷ []);
     }
 
-abbrev pub tables : TableLengths
-tables =
+abbrev pub files : List ℕ → Files
+files = filesOf 1
+
+abbrev tablesOf : ℕ → TableLengths
+tablesOf n =
     record {
       gconsts = 1;
       «means_invvars_t» = 1;
       «inv_vars_t» = 1;
       «sigma_inv_m» = 1;
       u = 1;
-      «lda_t» = 1;
+      «lda_t» = n;
       «lda_offset» = 1;
       «global_mean_stats» = 2;
     }
 
--- its model, as a load gives it: gconst is ln 1 - 0.5 ln (2 pi) + 0.5 ln 1 - 0.5, as an f32
-abbrev pub model : IvectorOptions → ℕ → Model
-model o m =
+abbrev pub tables : TableLengths
+tables = tablesOf 1
+
+-- their model, as a load gives it: gconst is ln 1 - 0.5 ln (2 pi) + 0.5 ln 1 - 0.5, as an f32
+abbrev modelOf : ℕ → IvectorOptions → ℕ → Model
+modelOf n o m =
     record {
       info = record {
         opts = o;
-        dims = record { «num_gauss» = 1; «ext_gauss» = 1; «feat_dim» = 1; «ivector_dim» = 1; «base_dim» = 1; «lda_cols» = 1 };
+        dims = record { «num_gauss» = 1; «ext_gauss» = 1; «feat_dim» = 1; «ivector_dim» = 1; «base_dim» = 1; «lda_cols» = n };
         «prior_offset» = count 1;
-        tables = tables;
+        tables = tablesOf n;
       };
-      gconsts = f32 0xbfb5_9fc7 ∷ [];
-      means-invvars-t = one₃₂ ∷ [];
-      inv-vars-t = one₃₂ ∷ [];
-      sigma-inv-m = count m ∷ [];
-      u = count (m * m) ∷ [];
-      lda-t = one₃₂ ∷ [];
-      lda-offset = zero₃₂ ∷ [];
-      global-mean-stats = count 50 ∷ count 100 ∷ [];
+      tables = tablesFrom (f32 0xbfb5_9fc7 ∷ []) (one₃₂ ∷ []) (one₃₂ ∷ []) (count m ∷ []) (count (m * m) ∷ []) (replicate n one₃₂) (zero₃₂ ∷ [])
+          (count 50 ∷ count 100 ∷ []);
     }
+
+abbrev pub model : IvectorOptions → ℕ → Model
+model = modelOf 1
 
 abbrev pub single : ℕ → IvectorOptions
 single iters = opts 0 0 quarter iters
@@ -115,19 +122,15 @@ single iters = opts 0 0 quarter iters
 abbrev rooms : RoomLengths
 rooms =
     record {
-      frames = 100;
-      rows = 1000;
-      «waiting_frames» = 64;
-      «waiting_weights» = 64;
-      «cmvn_stats» = 2;
-      linear = 1;
-      quadratic = 1;
-      current = 1;
-      scratch = 1;
+      rings = record { frames = 100; rows = 1000; «waiting_frames» = 64; «waiting_weights» = 64 };
+      estimate = record { «cmvn_stats» = 2; linear = 1; quadratic = 1; current = 1; scratch = 1 };
     }
 
+abbrev told : ℕ → ℕ → ℕ → ℕ → StreamAnswer
+told r f n c = record { refusal = r; «frames_held» = f; «rows_held» = n; «not_finite» = c }
+
 abbrev pub said : ℕ → ℕ → ℕ → List ℕ → ℕ → Answer
-said r f n v c = record { refusal = r; frames-held = f; rows-held = n; vector = v; not-finite = c }
+said r f n v c = record { told = told r f n c; vector = v }
 
 abbrev pair : Float → Float → List Float
 pair a b = a ∷ b ∷ []
@@ -139,18 +142,36 @@ state x = cmvnState (single 15) 1 (pair (count 50) (count 100)) (allFrames ((cou
 abbrev four : List Call
 four = push (count 4 ∷ []) ∷ fetch 0 1 ∷ []
 
--- P11's stream
+-- P11's options, model and stream
+abbrev late : IvectorOptions
+late = opts 3 0 quarter 15
+
+abbrev late-model : Model
+late-model = modelOf 4 late 2
+
 abbrev twelve : Machine
 twelve =
     machine (replicate 12 (count 4 ∷ [])) 8 (record { waiting = (7, count 1) ∷ (9, count 1) ∷ []; past-highest = 10; called = true }) false
     (record { cmvn = pair zero₆₄ zero₆₄; stats = newStats 1 (count 1); current = count 1 ∷ [] }) 0
 
--- P12's table
-abbrev silence : SilenceWeighting
-silence = record { «silence_weight» = quarter; subsampling = 3; phones = 1; table = 100; length = 0 }
+-- P12's table, of n frames, its rooms, and a call with 4 inputs ready: the answer's lists have 6 places
+abbrev silence : ℕ → SilenceWeighting
+silence n = record { «silence_weight» = quarter; subsampling = 3; phones = 1; table = 100; length = decoder n }
 
-abbrev empty : Table
-empty = []
+abbrev empty : TableRooms
+empty = tableRooms (replicate 100 false) (replicate 100 false) (replicate 100 zero₃₂)
+
+abbrev asks : SilenceWeighting → TableRooms → TableCall
+asks s z = tableDone s z (replicate 6 0) (replicate 6 one₃₂) (getDeltaWeights s z (input 4) (input 0) 6 6)
+
+abbrev first : TableCall
+first = asks (silence 0) empty
+
+abbrev second : TableCall
+second = asks (first .answer .silence) (first .rooms)
+
+abbrev changes : ℕ → SilenceAnswer
+changes n = record { refusal = 0; changes = n; silence = silence 2 }
 
 -- ---- the examples
 
@@ -175,14 +196,22 @@ pub record Examples : Type 0 where
   pub P8-loud : state 60 ≡ pair (count 160) (count 201)
   pub P8-quiet : state 50 ≡ pair (count 100) (count 200)
   pub P9-load : load (single 15) (files wide-two) tables 2 ≡ read (model (single 15) 2) 0
-  pub P9-half : answers (model (single 15) 2) rooms four ≡ said 0 1 2 [] 0 ∷ said 0 1 2 (0x3f00_0000 ∷ []) 0 ∷ []
-  pub P9-none : answers (model (single 0) 2) rooms four ≡ said 0 1 2 [] 0 ∷ said 0 1 2 (0 ∷ []) 0 ∷ []
+  pub P9-fresh : toldBy (model (single 15) 2) 0 (fresh (model (single 15) 2)) 0 ≡ told 0 0 1 0
+  pub P9-half : answers (model (single 15) 2) (rooms .rings) four ≡ said 0 1 2 [] 0 ∷ said 0 1 2 (0x3f00_0000 ∷ []) 0 ∷ []
+  pub P9-none : answers (model (single 0) 2) (rooms .rings) four ≡ said 0 1 2 [] 0 ∷ said 0 1 2 (0 ∷ []) 0 ∷ []
   pub P10-load : load (single 15) (files wide-zero) tables 2 ≡ read (model (single 15) 0) 0
-  pub P10 : answers (model (single 15) 0) rooms four ≡ said 0 1 2 [] 0 ∷ said 0 1 2 (0x7fc0_0000 ∷ []) 1 ∷ []
-  pub P11 : answersFrom (model (opts 3 0 quarter 15) 2) rooms twelve (forget 10 ∷ change (6 ∷ []) (count 1 ∷ []) ∷ change (7 ∷ []) (count 1 ∷ []) ∷ [])
+  pub P10 : answers (model (single 15) 0) (rooms .rings) four ≡ said 0 1 2 [] 0 ∷ said 0 1 2 (0x7fc0_0000 ∷ []) 1 ∷ []
+  pub P11-load : load late (filesOf 4 wide-two) (tablesOf 4) 2 ≡ read late-model 0
+  pub P11-mark : machineAfter late-model (rooms .rings) twelve (forget 10 ∷ []) .mark ≡ 4
+  pub P11 : answersFrom late-model (rooms .rings) twelve (forget 10 ∷ change (6 ∷ []) (count 1 ∷ []) ∷ change (7 ∷ []) (count 1 ∷ []) ∷ [])
       ≡ said 0 8 13 [] 0 ∷ said 18 8 13 [] 0 ∷ said 0 8 13 [] 0 ∷ []
-  pub P12 : asked silence 4 0 empty ≡ (0, quarter) ∷ (1, quarter) ∷ (2, quarter) ∷ (3, quarter) ∷ (4, quarter) ∷ (5, quarter) ∷ []
-  pub P12-again : asked silence 4 0 (askedTable silence 4 0 empty) ≡ (3, zero₃₂) ∷ (4, zero₃₂) ∷ (5, zero₃₂) ∷ []
+  pub P12-new : newTable 1 quarter 3 100 ≡ N.Table (silence 0)
+  pub P12 : first .answer ≡ changes 6
+  pub P12-frames : first .frames ≡ 0 ∷ 1 ∷ 2 ∷ 3 ∷ 4 ∷ 5 ∷ []
+  pub P12-weights : first .weights ≡ replicate 6 quarter
+  pub P12-again : second .answer ≡ changes 3
+  pub P12-again-frames : second .frames ≡ 3 ∷ 4 ∷ 5 ∷ 0 ∷ 0 ∷ 0 ∷ []
+  pub P12-again-weights : second .weights ≡ replicate 3 zero₃₂ ++ replicate 3 one₃₂
 
 pub P1-to-P12 : Examples
 unfolding computed
@@ -206,11 +235,19 @@ P1-to-P12 =
       P8-loud = refl;
       P8-quiet = refl;
       P9-load = refl;
+      P9-fresh = refl;
       P9-half = refl;
       P9-none = refl;
       P10-load = refl;
       P10 = refl;
+      P11-load = refl;
+      P11-mark = refl;
       P11 = refl;
+      P12-new = refl;
       P12 = refl;
+      P12-frames = refl;
+      P12-weights = refl;
       P12-again = refl;
+      P12-again-frames = refl;
+      P12-again-weights = refl;
     }

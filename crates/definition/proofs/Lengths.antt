@@ -169,7 +169,7 @@ module _ (M : Model) (F : Frames) where
   length-entries : (bs : Batch) (c : List Float) → length c ≡ dim + 1 → length (entries M F bs c .0) ≡ dim + 1
   unfolding entries
   length-entries [] c h = h
-  length-entries (b ∷ bs) c h = length-entries bs _ (length-row (M .info .opts) dim F (M .global-mean-stats) (b .0) c h)
+  length-entries (b ∷ bs) c h = length-entries bs _ (length-row (M .info .opts) dim F (M .tables .global-mean-stats) (b .0) c h)
 
   length-accumulated : (bs : Batch) (es : List Entry) (st : Stats) → length (st .linear) ≡ s → length (st .quadratic) ≡ triangle s
       → (length (accumulated M bs es st .linear) ≡ s) × (length (accumulated M bs es st .quadratic) ≡ triangle s)

@@ -4,3 +4,4 @@ pub mod Examples
 pub mod Agree
 pub mod Lengths
 pub mod Batches
+pub mod Ranges

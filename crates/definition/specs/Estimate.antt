@@ -3,7 +3,7 @@ use mathlib.Core.List.{List, [], _∷_, _++_, map}
 use lib.Ieee.{Float}
 use Rattle.definition.specs.declared.IvectorInfo.{IvectorInfo}
 use Rattle.definition.specs.declared.Dimensions.{Dimensions}
-use Rattle.definition.specs.Model.{Model}
+use Rattle.definition.specs.Model.{Tables, Model}
 use Rattle.definition.specs.Views.{Frames, normalisedRow, rawRow, ldaFrame}
 use Rattle.definition.specs.Posteriors.{loglikes, posteriors}
 use Rattle.definition.specs.Statistics.{Stats, Entry, acc}
@@ -17,7 +17,7 @@ pub record Estimate : Type 0 where
   pub current : List Float  -- the current vector
 
 module _ (M : Model) where
-  open Model M using (gconsts, means-invvars-t, inv-vars-t, sigma-inv-m, u, lda-t, lda-offset, global-mean-stats)
+  open Tables (M .tables) using (gconsts, means-invvars-t, inv-vars-t, sigma-inv-m, u, lda-t, lda-offset, global-mean-stats)
   open IvectorInfo (M .info) using (opts as o, «prior_offset» as prior)
   open Dimensions (M .info .dims) using («num_gauss» as g, «feat_dim» as d, «ivector_dim» as s, «base_dim» as dim)
 

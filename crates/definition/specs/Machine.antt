@@ -15,7 +15,8 @@ use Rattle.floats.specs.Narrow.{narrowed}
 use Rattle.definition.specs.declared.IvectorInfo.{IvectorInfo}
 use Rattle.definition.specs.declared.IvectorOptions.{IvectorOptions}
 use Rattle.definition.specs.declared.Dimensions.{Dimensions}
-use Rattle.definition.specs.declared.RoomLengths.{RoomLengths}
+use Rattle.definition.specs.declared.RingLengths.{RingLengths}
+use Rattle.definition.specs.declared.StreamAnswer.{StreamAnswer}
 use Rattle.definition.specs.Model.{Model}
 use Rattle.definition.specs.Views.{Frames}
 use Rattle.definition.specs.Statistics.{newStats}
@@ -30,13 +31,11 @@ pub data Call : Type 0 where
   forget : ℕ → Call
   fetch : ℕ → ℕ → Call  -- a frame, and the output's length
 
--- only a fetch that is taken gives the vector's bits, and the count of its elements that are not finite
+-- the numbers of an answer (refusal, frames held, rows held, elements of the vector not finite), and the vector's bits: only a fetch that is
+-- taken has a vector
 pub record Answer : Type 0 where
-  pub refusal : ℕ
-  pub frames-held : ℕ
-  pub rows-held : ℕ
+  pub told : StreamAnswer
   pub vector : List ℕ
-  pub not-finite : ℕ
 
 pub record Machine : Type 0 where
   pub history : List (List Float)  -- all accepted frames
@@ -66,7 +65,7 @@ unfoldable pub rowsHeld : ℕ → ℕ → ℕ → ℕ
 rowsHeld window accepted mark = accepted + 1 - (mark + 1 - window)
 
 -- whole changes that the waiting room has places for
-abbrev pub waitingRoom : RoomLengths → ℕ
+abbrev pub waitingRoom : RingLengths → ℕ
 waitingRoom z = min (z .«waiting_frames») (z .«waiting_weights»)
 
 -- `num_frames_ready`
@@ -78,7 +77,7 @@ unfoldable pub forgotten : ℕ → ℕ → ℕ → List ℕ → ℕ → ℕ
 forgotten left next mark waiting f = max mark (foldl min (min f next) waiting - left)
 
 -- "When a call is declined", 11 to 22: tests in checking order, each with its number
-unfoldable pub pushTests : IvectorOptions → Dimensions → RoomLengths → ℕ → ℕ → List Float → List (Bool × ℕ)
+unfoldable pub pushTests : IvectorOptions → Dimensions → RingLengths → ℕ → ℕ → List Float → List (Bool × ℕ)
 pushTests o d z accepted mark x =
     (not (eqb (length x) (d .«base_dim»)), 11)
     ∷ (anyOf (λ v. not (finite v)) x, 12)
@@ -87,7 +86,7 @@ pushTests o d z accepted mark x =
     ∷ (eqb (rowsHeld (o .«cmn_window») accepted mark) (rowsIn (z .rows) (d .«base_dim»)), 15) ∷ []
 
 -- n changes wait
-unfoldable pub changeTests : IvectorOptions → RoomLengths → ℕ → ℕ → List ℕ → List Float → List (Bool × ℕ)
+unfoldable pub changeTests : IvectorOptions → RingLengths → ℕ → ℕ → List ℕ → List Float → List (Bool × ℕ)
 changeTests o z mark n fs ws =
     (not (eqb (length fs) (length ws)) || ltb 1024 (length fs), 16)
     ∷ (anyOf (leb 1000000000) fs || anyOf (λ w. not (finite w)) ws, 17)
@@ -101,9 +100,29 @@ fetchTests d ready next called past-highest f n =
     ∷ (leb ready f, 21)
     ∷ (leb next f && called && leb past-highest f, 22) ∷ []
 
+-- what a call does to the machine: its refusal number, and where that is 0 the machine afterwards and what is given out
+pub record Move : Type 0 where
+  pub refusal : ℕ
+  pub left : Machine
+  pub gives : List Float
+
+abbrev pub move : List (Bool × ℕ) → Machine → List Float → Move
+move tests k v = record { refusal = firstOf tests; left = k; gives = v }
+
+-- the machine after a call, refused or not
+abbrev pub moved : Machine → Move → Machine
+moved k x = taken (x .refusal) (x .left) k
+
+-- a vector's bits, and the count of its elements that are not finite
+abbrev pub bitsOf : List Float → List ℕ
+bitsOf v = map (toBits binary32) v
+
+unfoldable pub notFinite : List Float → ℕ
+notFinite v = length (those (λ x. not (finite x)) v)
+
 module _ (M : Model) where
   open IvectorInfo (M .info) using (opts as o, dims as d, «prior_offset» as prior)
-  open IvectorOptions o using («left_context» as left, «cmn_window» as window)
+  open IvectorOptions o using («left_context» as left-context, «cmn_window» as window)
   open Dimensions d using («ivector_dim» as s, «base_dim» as dim)
 
   -- `IvectorStream::new`
@@ -112,57 +131,52 @@ module _ (M : Model) where
       let estimate : Estimate = record { cmvn = replicate (dim + 1) zero₆₄; stats = newStats s prior; current = priorVector s prior } in
       machine [] 0 (record { waiting = []; past-highest = 0; called = false }) false estimate 0
 
-  unfoldable pub tests : RoomLengths → Machine → Call → List (Bool × ℕ)
-  tests z k (push x) = pushTests o d z (accepted k) (k .mark) x
-  tests z k finish = []
-  tests z k (change fs ws) = changeTests o z (k .mark) (length (k .changes .waiting)) fs ws
-  tests z k (forget f) = []
-  tests z k (fetch f n) =
-      fetchTests d (framesReady o (k .finished) (accepted k)) (k .next) (k .changes .called) (k .changes .past-highest) f n
-
-  -- the machine after a call that is taken
-  unfoldable pub after : Machine → Call → Machine
-  after k (push x) = machine (k .history ++ (x ∷ [])) (k .next) (k .changes) (k .finished) (k .estimate) (k .mark)
-  after k finish = machine (k .history) (k .next) (k .changes) true (k .estimate) (k .mark)
-  after k (change fs ws) = machine (k .history) (k .next) (changed (k .changes) fs ws) (k .finished) (k .estimate) (k .mark)
-  after k (forget f) =
-      machine (k .history) (k .next) (k .changes) (k .finished) (k .estimate) (forgotten left (k .next) (k .mark) (map (λ c. c .0) (k .changes .waiting)) f)
-  after k (fetch f n) =
-      let e = updated M (allFrames (k .history)) (batch o (k .changes) (k .next) f) (k .estimate) in
-      if leb (k .next) f then machine (k .history) (f + 1) (reached (k .changes) f) (k .finished) e (k .mark) else k
-
-  -- what a fetch answers: the current vector, narrowed, the prior taken off element 0
+  -- what a fetch gives out: the current vector, narrowed, the prior taken off element 0
   unfoldable pub fetched : List Float → List Float
   fetched current = let v = map narrowed current in set v 0 (at v 0 -₃₂ narrowed prior)
 
-  -- what a call that is taken gives out, k being the machine afterwards
-  unfoldable pub given : Machine → Call → List Float
-  given k (push x) = []
-  given k finish = []
-  given k (change fs ws) = []
-  given k (forget f) = []
-  given k (fetch f n) = fetched (k .estimate .current)
+  -- the machine after a fetch of frame f that is taken: where f is not in the statistics yet, they are brought up to it
+  unfoldable pub caughtUp : Machine → ℕ → Machine
+  caughtUp k f =
+      let e = updated M (allFrames (k .history)) (batch o (k .changes) (k .next) f) (k .estimate) in
+      if leb (k .next) f then machine (k .history) (f + 1) (reached (k .changes) f) (k .finished) e (k .mark) else k
 
-  -- the answer to a call with refusal number r
-  unfoldable pub answer : ℕ → Machine → Call → Answer
-  answer r k c =
-      let v = taken r (given k c) [] in
-      record {
-        refusal = r;
-        frames-held = framesHeld (accepted k) (k .mark);
-        rows-held = rowsHeld window (accepted k) (k .mark);
-        vector = map (toBits binary32) v;
-        not-finite = length (those (λ x. not (finite x)) v);
-      }
+  -- the calls, with rings of lengths z
+  unfoldable pub does : RingLengths → Machine → Call → Move
+  does z k (push x) =
+      move (pushTests o d z (accepted k) (k .mark) x)
+      (machine (k .history ++ (x ∷ [])) (k .next) (k .changes) (k .finished) (k .estimate) (k .mark)) []
+  does z k finish = move [] (machine (k .history) (k .next) (k .changes) true (k .estimate) (k .mark)) []
+  does z k (change fs ws) =
+      move (changeTests o z (k .mark) (length (k .changes .waiting)) fs ws)
+      (machine (k .history) (k .next) (changed (k .changes) fs ws) (k .finished) (k .estimate) (k .mark)) []
+  does z k (forget f) =
+      let mark = forgotten left-context (k .next) (k .mark) (map (λ c. c .0) (k .changes .waiting)) f in
+      move [] (machine (k .history) (k .next) (k .changes) (k .finished) (k .estimate) mark) []
+  does z k (fetch f n) =
+      move (fetchTests d (framesReady o (k .finished) (accepted k)) (k .next) (k .changes .called) (k .changes .past-highest) f n)
+      (caughtUp k f) (fetched (caughtUp k f .estimate .current))
 
-  -- with lent lengths z
-  unfoldable pub answersFrom : RoomLengths → Machine → List Call → List Answer
+  -- the numbers of an answer: refusal r, the held counts of machine k, n elements not finite
+  unfoldable pub toldBy : ℕ → Machine → ℕ → StreamAnswer
+  toldBy r k n =
+      record { refusal = r; «frames_held» = framesHeld (accepted k) (k .mark); «rows_held» = rowsHeld window (accepted k) (k .mark); «not_finite» = n }
+
+  -- the answer to a call
+  unfoldable pub answer : Machine → Move → Answer
+  answer k x =
+      let v = taken (x .refusal) (x .gives) [] in
+      record { told = toldBy (x .refusal) (moved k x) (notFinite v); vector = bitsOf v }
+
+  -- the machine after a list of calls, and its answers to them
+  unfoldable pub machineAfter : RingLengths → Machine → List Call → Machine
+  machineAfter z k [] = k
+  machineAfter z k (c ∷ cs) = machineAfter z (moved k (does z k c)) cs
+
+  unfoldable pub answersFrom : RingLengths → Machine → List Call → List Answer
   answersFrom z k [] = []
-  answersFrom z k (c ∷ cs) =
-      let r = firstOf (tests z k c) in
-      let k′ = taken r (after k c) k in
-      answer r k′ c ∷ answersFrom z k′ cs
+  answersFrom z k (c ∷ cs) = answer k (does z k c) ∷ answersFrom z (moved k (does z k c)) cs
 
   -- the keeping machine's answers to a list of calls, from a fresh stream
-  unfoldable pub answers : RoomLengths → List Call → List Answer
+  unfoldable pub answers : RingLengths → List Call → List Answer
   answers z cs = answersFrom z fresh cs

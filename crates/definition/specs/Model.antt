@@ -2,7 +2,7 @@
 use Prim.Native.Nat.{ℕ, _+_, _-_, _*_, _/_}
 use mathlib.Core.Bool.{Bool, _&&_}
 use mathlib.Core.List.{List, [], _∷_}
-use lib.ListN.{length, getD}
+use lib.ListN.{length, getD, take}
 use lib.Dec.{leb, ltb, eqb}
 use lib.Ieee.{Float, neg}
 use Rattle.loops.specs.Lists.{if_then_else_, build, flat, allTrue, pairwise, over}
@@ -74,9 +74,8 @@ dimsOf c =
 unfoldable pub contentsAgree : IvectorOptions → Contents → Bool
 contentsAgree o c = allTrue (dimsAgree o (dimsOf c) ∷ eqb (c .lda .rows) (c .extractor .feat-dim) ∷ eqb (c .gmm .inv-vars .cols) (c .extractor .feat-dim) ∷ [])
 
--- a loaded model: its record, and its tables
-pub record Model : Type 0 where
-  pub info : IvectorInfo
+-- a model's tables
+pub record Tables : Type 0 where
   pub gconsts : List Float  -- by Gaussian
   pub means-invvars-t : List Float  -- by dimension, then Gaussian
   pub inv-vars-t : List Float  -- by dimension, then Gaussian
@@ -86,43 +85,103 @@ pub record Model : Type 0 where
   pub lda-offset : List Float  -- by row
   pub global-mean-stats : List Float  -- sums, then the count
 
-unfoldable pub modelOf : IvectorOptions → Contents → TableLengths → Model
-modelOf o c z =
+-- in that order
+abbrev pub tablesFrom : List Float → List Float → List Float → List Float → List Float → List Float → List Float → List Float → Tables
+tablesFrom gconsts means-invvars-t inv-vars-t sigma-inv-m u lda-t lda-offset global-mean-stats =
+    record {
+      gconsts = gconsts;
+      means-invvars-t = means-invvars-t;
+      inv-vars-t = inv-vars-t;
+      sigma-inv-m = sigma-inv-m;
+      u = u;
+      lda-t = lda-t;
+      lda-offset = lda-offset;
+      global-mean-stats = global-mean-stats;
+    }
+
+-- the tables that the files define
+unfoldable pub tablesOf : IvectorOptions → Contents → Tables
+tablesOf o c =
     let x = c .extractor in
     let d = x .feat-dim in
     let s = x .ivector-dim in
     let n = spliced o (dimsOf c) in
     let m : ℕ → List Float = λ i. matrixAt (x .m) i .nums in
     let sim : ℕ → List Float = λ i. sigmaInvM d s (getD (x .sigma-inv) i (record { size = 0; nums = [] }) .nums) (m i) in
-    record {
-      info = record { opts = o; dims = dimsOf c; «prior_offset» = x .prior-offset; tables = z };
-      gconsts = build (c .gmm .inv-vars .rows) (gconst (c .gmm));
-      means-invvars-t = transposed d (c .gmm .means-invvars);
-      inv-vars-t = transposed d (c .gmm .inv-vars);
-      sigma-inv-m = flat (x .num-gauss) sim;
-      u = flat (x .num-gauss) (λ i. quadraticTerm d s (m i) (sim i));
-      lda-t = transposed n (c .lda);
-      lda-offset = build d (λ r. if ltb n (c .lda .cols) then at (c .lda .nums) (r * c .lda .cols + n) else zero₃₂);
-      global-mean-stats = c .global-row;
-    }
+    tablesFrom (build (c .gmm .inv-vars .rows) (gconst (c .gmm)))
+    (transposed d (c .gmm .means-invvars))
+    (transposed d (c .gmm .inv-vars))
+    (flat (x .num-gauss) sim)
+    (flat (x .num-gauss) (λ i. quadraticTerm d s (m i) (sim i)))
+    (transposed n (c .lda))
+    (build d (λ r. if ltb n (c .lda .cols) then at (c .lda .nums) (r * c .lda .cols + n) else zero₃₂))
+    (c .global-row)
+
+-- a loaded model: its record, and its tables
+pub record Model : Type 0 where
+  pub info : IvectorInfo
+  pub tables : Tables
+
+abbrev pub model : IvectorInfo → Tables → Model
+model i t = record { info = i; tables = t }
+
+abbrev pub modelOf : IvectorOptions → Contents → TableLengths → Model
+modelOf o c z = model (record { opts = o; dims = dimsOf c; «prior_offset» = c .extractor .prior-offset; tables = z }) (tablesOf o c)
 
 -- ---- the load
 
--- how many numbers each table keeps, and how many it was lent for
-abbrev pub tableSizes : IvectorOptions → Dimensions → List ℕ
+-- lengths of the tables, in their order
+abbrev pub lengthsFrom : ℕ → ℕ → ℕ → ℕ → ℕ → ℕ → ℕ → ℕ → TableLengths
+lengthsFrom gconsts means-invvars-t inv-vars-t sigma-inv-m u lda-t lda-offset global-mean-stats =
+    record {
+      gconsts = gconsts;
+      «means_invvars_t» = means-invvars-t;
+      «inv_vars_t» = inv-vars-t;
+      «sigma_inv_m» = sigma-inv-m;
+      u = u;
+      «lda_t» = lda-t;
+      «lda_offset» = lda-offset;
+      «global_mean_stats» = global-mean-stats;
+    }
+
+-- how many numbers each table keeps
+abbrev pub tableSizes : IvectorOptions → Dimensions → TableLengths
 tableSizes o d =
     let g = d .«num_gauss» in
     let e = d .«ext_gauss» in
     let f = d .«feat_dim» in
     let s = d .«ivector_dim» in
-    g ∷ (g * f) ∷ (g * f) ∷ (e * f * s) ∷ (e * triangle s) ∷ (spliced o d * f) ∷ f ∷ (d .«base_dim» + 1) ∷ []
+    lengthsFrom g (g * f) (g * f) (e * f * s) (e * triangle s) (spliced o d * f) f (d .«base_dim» + 1)
+
+-- how many numbers lent tables have
+abbrev pub tableLengthsOf : Tables → TableLengths
+tableLengthsOf t =
+    lengthsFrom (length (t .gconsts)) (length (t .means-invvars-t)) (length (t .inv-vars-t)) (length (t .sigma-inv-m)) (length (t .u)) (length (t .lda-t))
+    (length (t .lda-offset)) (length (t .global-mean-stats))
 
 abbrev pub tableLengths : TableLengths → List ℕ
 tableLengths z =
     z .gconsts ∷ z .«means_invvars_t» ∷ z .«inv_vars_t» ∷ z .«sigma_inv_m» ∷ z .u ∷ z .«lda_t» ∷ z .«lda_offset» ∷ z .«global_mean_stats» ∷ []
 
 unfoldable pub tablesFit : IvectorOptions → Dimensions → TableLengths → Bool
-tablesFit o d z = pairwise leb (tableSizes o d) (tableLengths z)
+tablesFit o d z = pairwise leb (tableLengths (tableSizes o d)) (tableLengths z)
+
+-- lent tables: as many numbers of each as are kept there; and with a model's tables at their fronts
+abbrev pub keptTables : TableLengths → Tables → Tables
+keptTables z t =
+    tablesFrom (take (z .gconsts) (t .gconsts)) (take (z .«means_invvars_t») (t .means-invvars-t)) (take (z .«inv_vars_t») (t .inv-vars-t))
+    (take (z .«sigma_inv_m») (t .sigma-inv-m)) (take (z .u) (t .u)) (take (z .«lda_t») (t .lda-t)) (take (z .«lda_offset») (t .lda-offset))
+    (take (z .«global_mean_stats») (t .global-mean-stats))
+
+abbrev pub filledTables : Tables → Tables → Tables
+filledTables x t =
+    tablesFrom (over (x .gconsts) (t .gconsts)) (over (x .means-invvars-t) (t .means-invvars-t)) (over (x .inv-vars-t) (t .inv-vars-t))
+    (over (x .sigma-inv-m) (t .sigma-inv-m)) (over (x .u) (t .u)) (over (x .lda-t) (t .lda-t)) (over (x .lda-offset) (t .lda-offset))
+    (over (x .global-mean-stats) (t .global-mean-stats))
+
+-- the model that a record and lent tables hold
+abbrev pub modelIn : IvectorInfo → Tables → Model
+modelIn i t = model i (keptTables (tableSizes (i .opts) (i .dims)) t)
 
 -- scratch of a load: one Gaussian's Σ⁻¹ and M
 abbrev pub loadScratch : Dimensions → ℕ
@@ -158,11 +217,11 @@ loading o f z scratch = do
 unfoldable pub load : IvectorOptions → Files → TableLengths → ℕ → Got Model
 load o f z scratch = loading o f z scratch [] 0
 
--- what a load answers, and what it leaves in a lent table
+-- what a load answers, and what it leaves in the tables
 abbrev pub loadedOf : Got Model → Loaded
 loadedOf (refused n) = L.Refused n
 loadedOf (read M at) = L.Model (M .info)
 
-abbrev pub tableOf : Got Model → (Model → List Float) → List Float → List Float
-tableOf (refused n) t room = room
-tableOf (read M at) t room = over (t M) room
+abbrev pub loadedTables : Got Model → Tables → Tables
+loadedTables (refused n) t = t
+loadedTables (read M at) t = filledTables (M .tables) t

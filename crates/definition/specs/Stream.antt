@@ -6,10 +6,13 @@ use mathlib.Core.List.{List, [], _∷_}
 use lib.ListN.{take}
 use lib.Dec.{eqb, leb, ltb}
 use Rattle.loops.specs.Lists.{anyOf, allTrue, anyTrue, pairwise}
+use Rattle.loops.specs.Refusal.{firstOf}
 use Rattle.loops.specs.Ring.{rowsIn}
 use Rattle.definition.specs.declared.IvectorInfo.{IvectorInfo}
 use Rattle.definition.specs.declared.Dimensions.{Dimensions}
 use Rattle.definition.specs.declared.TableLengths.{TableLengths}
+use Rattle.definition.specs.declared.RingLengths.{RingLengths}
+use Rattle.definition.specs.declared.EstimateLengths.{EstimateLengths}
 use Rattle.definition.specs.declared.RoomLengths.{RoomLengths}
 use Rattle.definition.specs.declared.IvectorStream.{IvectorStream}
 use Rattle.definition.specs.Options.{optionsInRange, dimsInRange, dimsAgree}
@@ -19,9 +22,13 @@ use Rattle.definition.specs.Machine.{framesHeld, rowsHeld, waitingRoom}
 
 -- ---- a model's record
 
--- it could come from a load: it meets none of 1, 4 and 5, and its tables have room
+-- it meets none of 1, 4 and 5
+unfoldable pub recordSound : IvectorInfo → Bool
+recordSound i = allTrue (optionsInRange (i .opts) ∷ dimsInRange (i .dims) ∷ dimsAgree (i .opts) (i .dims) ∷ [])
+
+-- it could come from a load: its tables have room, too
 unfoldable pub infoSound : IvectorInfo → Bool
-infoSound i = allTrue (optionsInRange (i .opts) ∷ dimsInRange (i .dims) ∷ dimsAgree (i .opts) (i .dims) ∷ tablesFit (i .opts) (i .dims) (i .tables) ∷ [])
+infoSound i = recordSound i && tablesFit (i .opts) (i .dims) (i .tables)
 
 unfoldable pub sameTables : TableLengths → TableLengths → Bool
 sameTables a b = pairwise eqb (tableLengths a) (tableLengths b)
@@ -32,19 +39,31 @@ sameTables a b = pairwise eqb (tableLengths a) (tableLengths b)
 unfoldable pub streamScratch : Dimensions → ℕ
 streamScratch d = max (d .«num_gauss» * d .«feat_dim») (d .«ivector_dim» * d .«ivector_dim»)
 
--- the rooms that every call on a stream is lent, and those that a fetch is lent besides; what the latter keep
-abbrev pub ringLengths : RoomLengths → List ℕ
+abbrev pub ringLengths : RingLengths → List ℕ
 ringLengths z = z .frames ∷ z .rows ∷ z .«waiting_frames» ∷ z .«waiting_weights» ∷ []
 
-abbrev pub fixedLengths : RoomLengths → List ℕ
-fixedLengths z = z .«cmvn_stats» ∷ z .linear ∷ z .quadratic ∷ z .current ∷ z .scratch ∷ []
+abbrev pub estimateLengths : EstimateLengths → List ℕ
+estimateLengths z = z .«cmvn_stats» ∷ z .linear ∷ z .quadratic ∷ z .current ∷ z .scratch ∷ []
 
-abbrev pub fixedSizes : Dimensions → List ℕ
-fixedSizes d = (d .«base_dim» + 1) ∷ d .«ivector_dim» ∷ triangle (d .«ivector_dim») ∷ d .«ivector_dim» ∷ streamScratch d ∷ []
+-- how many numbers the rooms of a fetch keep
+abbrev pub estimateSizes : Dimensions → List ℕ
+estimateSizes d = (d .«base_dim» + 1) ∷ d .«ivector_dim» ∷ triangle (d .«ivector_dim») ∷ d .«ivector_dim» ∷ streamScratch d ∷ []
 
 -- where this fails: refusal 8
 unfoldable pub roomsFit : Dimensions → RoomLengths → Bool
-roomsFit d z = allTrue (leb 1 (rowsIn (z .frames) (d .«base_dim»)) ∷ leb 2 (rowsIn (z .rows) (d .«base_dim»)) ∷ pairwise leb (fixedSizes d) (fixedLengths z) ∷ [])
+roomsFit d z =
+    allTrue (leb 1 (rowsIn (z .rings .frames) (d .«base_dim»))
+    ∷ leb 2 (rowsIn (z .rings .rows) (d .«base_dim»))
+    ∷ pairwise leb (estimateSizes d) (estimateLengths (z .estimate)) ∷ [])
+
+-- "a fresh stream meets 10 before 8": lengths t of the lent tables, z of the lent rooms
+unfoldable pub newRefusal : IvectorInfo → TableLengths → RoomLengths → ℕ
+newRefusal i t z =
+    firstOf
+    ((not (sameTables t (i .tables)), 10)
+    ∷ (not (recordSound i), 10)
+    ∷ (not (tablesFit (i .opts) (i .dims) (i .tables)), 8)
+    ∷ (not (roomsFit (i .dims) z), 8) ∷ [])
 
 -- ---- 10
 
@@ -64,9 +83,9 @@ breaks s waiting =
     ∷ ltb 1000000000 (s .accepted)
     ∷ ltb (s .accepted) (s .«num_frames_stats»)
     ∷ ltb (s .«num_frames_stats» - o .«left_context») (s .mark)
-    ∷ ltb (rowsIn (s .rooms .frames) (d .«base_dim»)) (framesHeld (s .accepted) (s .mark))
-    ∷ ltb (rowsIn (s .rooms .rows) (d .«base_dim»)) (rowsHeld (o .«cmn_window») (s .accepted) (s .mark))
-    ∷ ltb (waitingRoom (s .rooms)) (s .waiting)
+    ∷ ltb (rowsIn (s .rooms .rings .frames) (d .«base_dim»)) (framesHeld (s .accepted) (s .mark))
+    ∷ ltb (rowsIn (s .rooms .rings .rows) (d .«base_dim»)) (rowsHeld (o .«cmn_window») (s .accepted) (s .mark))
+    ∷ ltb (waitingRoom (s .rooms .rings)) (s .waiting)
     ∷ not (rising 0 held)
     ∷ anyOf (λ f. ltb (f - o .«left_context») (s .mark)) held ∷ []
 
@@ -74,8 +93,8 @@ unfoldable pub isBroken : IvectorStream → List ℕ → Bool
 isBroken s waiting = anyTrue (breaks s waiting)
 
 -- lent lengths are those of the record
-unfoldable pub sameRings : RoomLengths → RoomLengths → Bool
+unfoldable pub sameRings : RingLengths → RingLengths → Bool
 sameRings a b = pairwise eqb (ringLengths a) (ringLengths b)
 
 unfoldable pub sameRooms : RoomLengths → RoomLengths → Bool
-sameRooms a b = sameRings a b && pairwise eqb (fixedLengths a) (fixedLengths b)
+sameRooms a b = sameRings (a .rings) (b .rings) && pairwise eqb (estimateLengths (a .estimate)) (estimateLengths (b .estimate))

@@ -60,18 +60,30 @@ pub enum FrameWeight {
     Weighed(f32, f32),
 }
 
-// The lengths of the lent rooms that a stream works in.
+// The lengths of the rings that every call on a stream is lent: of frames, of prefix rows, and of the waiting changes.
 #[repr(C)]
-pub struct RoomLengths {
+pub struct RingLengths {
     pub frames: usize,
     pub rows: usize,
     pub waiting_frames: usize,
     pub waiting_weights: usize,
+}
+
+// The lengths of the rooms that a fetch is lent besides.
+#[repr(C)]
+pub struct EstimateLengths {
     pub cmvn_stats: usize,
     pub linear: usize,
     pub quadratic: usize,
     pub current: usize,
     pub scratch: usize,
+}
+
+// The lengths of the lent rooms that a stream works in.
+#[repr(C)]
+pub struct RoomLengths {
+    pub rings: RingLengths,
+    pub estimate: EstimateLengths,
 }
 
 // A stream's record. Its rooms are lent to each call.
@@ -87,12 +99,6 @@ pub struct IvectorStream {
     pub delta_weights_provided: bool,
     pub input_finished: bool,
     pub num_frames: f64,
-}
-
-// The answer of a fresh stream.
-pub enum NewStream {
-    Stream(IvectorStream),
-    Refused(usize),
 }
 
 // The answer of a call on a stream. A fetch's vector is in the output that it is lent.
@@ -111,6 +117,12 @@ pub struct StreamCall {
     pub stream: IvectorStream,
 }
 
+// The answer of a fresh stream: what a call on it would return, or a refusal's number.
+pub enum NewStream {
+    Stream(StreamCall),
+    Refused(usize),
+}
+
 // A number of input frames, or the number of one.
 #[repr(C)]
 pub struct InputFrame(pub usize);
@@ -126,7 +138,7 @@ pub struct SilenceWeighting {
     pub subsampling: usize,
     pub phones: usize,
     pub table: usize,
-    pub length: usize,
+    pub length: DecoderFrame,
 }
 
 // The answer where a silence table is made.

@@ -10,8 +10,8 @@ use Rattle.loops.proofs.Build.{at-build}
 use Rattle.loops.proofs.Parts.{drop-next}
 use Rattle.floats.specs.Operators.{_+₃₂_, at}
 use Rattle.definition.specs.Changes.{Change, mergedFrom, merged}
-use Rattle.delta_weights.specs.Waiting.{waitingIn}
-use Rattle.delta_weights.proofs.WaitingRooms.{length-waiting}
+use Rattle.program.specs.Rooms.{waitingIn}
+use Rattle.program.proofs.WaitingRooms.{length-waiting}
 
 module _ (n : ℕ) (fs : List ℕ) (ws : List Float) where
   abbrev W : List Change

@@ -10,17 +10,18 @@ use lib.ListN.{length, getD, set, take, drop, length-map}
 use lib.Seq.{append-snoc, set-at, length-take-le}
 use lib.Ieee.{Float, nan}
 use Rattle.loops.specs.Lists.{build, those, over}
-use Rattle.loops.specs.Steps.{fill, put}
+use Rattle.loops.specs.Steps.{fill}
+use Rattle.loops.specs.Ring.{put}
 use Rattle.loops.proofs.Build.{length-build, build-ext, build-snoc, take-build, drop-build, map-build}
 use Rattle.loops.proofs.Fill.{fill-past, fill-turn, fill-over, over-put, over-self, over-again, over-take, take-over, put-none, put-before}
 use Rattle.loops.proofs.Parts.{take-next}
 use Rattle.floats.specs.Operators.{at}
 use Rattle.definition.specs.Changes.{Change, insertChange}
 use Rattle.definition.specs.Stream.{rising}
-use Rattle.delta_weights.specs.Waiting.{waitingIn, framesOf, weightsOf}
+use Rattle.program.specs.Rooms.{waitingIn, framesOf, weightsOf}
 use Rattle.delta_weights.specs.Steps.{insertedTo}
-use Rattle.delta_weights.proofs.WaitingRooms.{length-waiting, frames-waiting, waiting-over}
-use Rattle.delta_weights.proofs.InOrder.{length-inserts, inserts-rising, inserted-at}
+use Rattle.program.proofs.WaitingRooms.{length-waiting, frames-waiting, waiting-over}
+use Rattle.program.proofs.InOrder.{length-inserts, inserts-rising, inserted-at}
 
 module _ {A : Type 0} (d : A) (l : List A) where
   -- one element more in front of what was put

@@ -1,3 +1,3 @@
--- The waiting changes that rooms hold. `Steps` is not for readers.
+-- The waiting changes, as a change call finds them. `Steps` is not for readers.
 pub mod Waiting
 pub mod Steps

@@ -3,7 +3,7 @@ use Prim.Native.Nat.{ℕ}
 use mathlib.Core.List.{List, foldl}
 use lib.Ieee.{Float}
 use Rattle.definition.specs.Changes.{Change, insertChange}
-use Rattle.delta_weights.specs.Waiting.{waitingIn}
+use Rattle.program.specs.Rooms.{waitingIn}
 
 -- the first m changes that a call gives, inserted
 unfoldable pub insertedTo : ℕ → List ℕ → List Float → List Change → List Change

@@ -6,11 +6,12 @@ ghost use Prim.Native.Nat.{_+_, _-_, _<_, _≤_, max};
 ghost use lib.ListN.{length, getD, take, drop};
 ghost use lib.Dec.{leb};
 ghost use Rattle.loops.specs.Lists.{build, those, anyOf, over};
-ghost use Rattle.loops.specs.Steps.{put};
+ghost use Rattle.loops.specs.Ring.{put};
 ghost use Rattle.floats.specs.Operators.{at};
 ghost use Rattle.definition.specs.Changes.{insertChange, changed, merged};
 ghost use Rattle.definition.specs.Stream.{rising};
-ghost use Rattle.delta_weights.specs.Waiting.{waitingIn, framesOf, weightsOf, waitingChanges};
+ghost use Rattle.delta_weights.specs.Waiting.{waitingChanges};
+ghost use Rattle.program.specs.Rooms.{waitingIn, framesOf, weightsOf};
 ghost use Rattle.delta_weights.specs.Steps.{insertedTo};
 
 // The higher of two.

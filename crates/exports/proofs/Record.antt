@@ -20,7 +20,6 @@ use Rattle.definition.proofs.SilenceWeighting.Laws as W′
 use Rattle.definition.proofs.SilenceAnswer as D
 use Rattle.definition.proofs.SilenceAnswer.Laws as D′
 use Rattle.exports.specs.declared.SilenceCounts.{SilenceCounts}
-use Rattle.exports.specs.Answers.{silenceCounts}
 use Rattle.exports.proofs.SilenceCounts as N
 use Rattle.exports.proofs.SilenceCounts.Laws as N′
 
@@ -38,6 +37,10 @@ stream-is r vs is = LL.owed C.the-type C′.the-laws r vs is .1 .0
 
 abbrev pub silence : SilenceWeighting → Val
 silence h = LL.val W.the-type W′.the-laws h
+
+-- what a call on a silence table answers, less the record
+abbrev pub silenceCounts : SilenceAnswer → SilenceCounts
+silenceCounts a = record { refusal = a .refusal; changes = a .changes }
 
 abbrev pub counts : SilenceCounts → Val
 counts n = LL.val N.the-type N′.the-laws n

@@ -4,6 +4,7 @@
 // The C side is include/shofrakin.h.
 use definition::DecoderFrame;
 use definition::Dimensions;
+use definition::EstimateLengths;
 use definition::InputFrame;
 use definition::IvectorInfo;
 use definition::IvectorOptions;
@@ -11,38 +12,31 @@ use definition::IvectorStream;
 use definition::Loaded;
 use definition::NewStream;
 use definition::NewTable;
+use definition::RingLengths;
 use definition::RoomLengths;
 use definition::SilenceWeighting;
 use definition::StreamAnswer;
+use definition::StreamCall;
 use definition::TableLengths;
 ghost use mathlib.Core.Path.{_≡_};
-ghost use mathlib.Core.List.{_∷_, map};
-ghost use Prim.Native.Nat.{ℕ, _+_};
+ghost use mathlib.Core.List.{[]};
+ghost use Prim.Native.Nat.{ℕ};
 ghost use lib.ListN.{length};
-ghost use Rattle.loops.specs.Lists.{over};
-ghost use Rattle.loops.specs.Refusal.{firstOf, taken};
-ghost use Rattle.definition.specs.Changes.{Changes, changed};
+ghost use Rattle.loops.specs.Refusal.{taken};
+ghost use Rattle.definition.specs.Model.{Tables, tablesFrom, tableLengthsOf, load as loadOf, loadedOf, loadedTables};
 ghost use Rattle.definition.specs.Machine.{framesReady};
-ghost use Rattle.definition.specs.Silence.{Table, tableIn, segments, traced, newTable, active, tableBroken, tracebackTests, asked, askedTable, deltaTests, silenceAnswer};
-ghost use Rattle.definition.specs.Model.{load as loadOf, loadedOf, tableOf};
-ghost use Rattle.ivector_info.specs.Load.{filesOf, lengthsOf, scratchKept};
-ghost use Rattle.ivector_stream.specs.Rooms.{Tables, tableLengthsOf, Rooms, roomLengthsOf, changesIn, tables, rooms};
-ghost use Rattle.ivector_stream.specs.Calls.{newRefusal, newAnswer, freshRooms, callOf, withAccepted, withFinished, withMark, withChanges, pushRefusal, pushedFrames, pushedRows, plainRefusal, changeRefusal, overFrames, overWeights, forgetMark, fetchRefusal, fetchStream, fetchVector, fetchRooms, bitsOf, notFinite};
-ghost use Rattle.ivector_stream.specs.Lent.{ringsOf};
-ghost use Rattle.exports.specs.Answers.{loadAnswer, noInfo, newStreamAnswer, newTableAnswer, silenceCounts, noStream, noTable};
+ghost use Rattle.definition.specs.Stream.{newRefusal};
+ghost use Rattle.definition.specs.Silence.{TableRooms, tableRooms, newTable, active, computeCurrentTraceback, getDeltaWeights, tableCall, tableDone};
+ghost use Rattle.program.specs.Rooms.{Rings, ringsFrom, estimateFrom, Rooms, roomsFrom, roomLengthsOf};
+ghost use Rattle.program.specs.Calls.{newAnswer, freshRooms, ringCall, doneOn, pushFrame, setInputFinished, updateFrameWeights, forgetBefore, Step, fetchCall, fetchedOn, getFrame};
+ghost use Rattle.ivector_info.specs.Load.{filesOf, scratchKept};
+ghost use Rattle.exports.specs.Answers.{loadAnswer, noInfo, answered, newStreamAnswer, newTableAnswer, counted, noStream, noTable};
 
 // The answer of a load: the record where the refusal is 0, else one that no fresh stream takes.
 #[repr(C)]
 pub struct LoadAnswer {
     pub refusal: usize,
     pub info: IvectorInfo,
-}
-
-// The answer of a fresh stream: the record where the refusal is 0, else one that every call refuses with 10.
-#[repr(C)]
-pub struct NewStreamAnswer {
-    pub refusal: usize,
-    pub stream: IvectorStream,
 }
 
 // The answer where a silence table is made: the record where the refusal is 0, else one that every call refuses with 10.
@@ -61,23 +55,12 @@ pub struct SilenceCounts {
 
 // ---- load
 
-// The record beside a refusal: its window is none.
-fn no_info() -> IvectorInfo
-    ensures { λ r. ⌜ r ≡ noInfo ⌝ }
+// The record beside a refusal: it has no dimension.
+fn no_info(opts: IvectorOptions) -> IvectorInfo
+    ensures { λ r. ⌜ r ≡ noInfo opts ⌝ }
 {
     IvectorInfo {
-        opts: IvectorOptions {
-            left_context: 0,
-            right_context: 0,
-            cmn_window: 0,
-            global_frames: 0,
-            num_gselect: 0,
-            num_cg_iters: 0,
-            min_post: 0.0,
-            posterior_scale: 0.0,
-            max_count: 0.0,
-            min_energy: 0.0,
-        },
+        opts,
         dims: Dimensions {
             num_gauss: 0,
             ext_gauss: 0,
@@ -100,15 +83,15 @@ fn no_info() -> IvectorInfo
     }
 }
 
-fn load_answer(a: Loaded) -> LoadAnswer
-    ensures { λ r. ⌜ r ≡ loadAnswer a ⌝ }
+fn load_answer(opts: IvectorOptions, a: Loaded) -> LoadAnswer
+    ensures { λ r. ⌜ r ≡ loadAnswer opts a ⌝ }
 {
     match a {
         Loaded::Model(info) => {
             return LoadAnswer { refusal: 0, info };
         }
         Loaded::Refused(refusal) => {
-            let info = no_info();
+            let info = no_info(opts);
             return LoadAnswer { refusal, info };
         }
     }
@@ -132,18 +115,13 @@ pub extern "C" fn shofrakin_load(
     global_mean_stats: &mut [f64],
     scratch: &mut [f64],
 ) -> LoadAnswer
-    ensures { λ r. ⌜ (let got = loadOf opts (filesOf (now (gmm .entry)) (now (extractor .entry)) (now (lda .entry)) (now (cmvn .entry)))
-        (lengthsOf (length (now (gconsts .entry))) (length (now («means_invvars_t» .entry))) (length (now («inv_vars_t» .entry))) (length (now («sigma_inv_m» .entry)))
-        (length (now (u .entry))) (length (now («lda_t» .entry))) (length (now («lda_offset» .entry))) (length (now («global_mean_stats» .entry)))) (length (now (scratch .entry))) in
-        (r ≡ loadAnswer (loadedOf got))
-        × (now (gconsts .exit) ≡ tableOf got (λ M. M .gconsts) (now (gconsts .entry)))
-        × (now («means_invvars_t» .exit) ≡ tableOf got (λ M. M .means-invvars-t) (now («means_invvars_t» .entry)))
-        × (now («inv_vars_t» .exit) ≡ tableOf got (λ M. M .inv-vars-t) (now («inv_vars_t» .entry)))
-        × (now («sigma_inv_m» .exit) ≡ tableOf got (λ M. M .sigma-inv-m) (now («sigma_inv_m» .entry)))
-        × (now (u .exit) ≡ tableOf got (λ M. M .u) (now (u .entry)))
-        × (now («lda_t» .exit) ≡ tableOf got (λ M. M .lda-t) (now («lda_t» .entry)))
-        × (now («lda_offset» .exit) ≡ tableOf got (λ M. M .lda-offset) (now («lda_offset» .entry)))
-        × (now («global_mean_stats» .exit) ≡ tableOf got (λ M. M .global-mean-stats) (now («global_mean_stats» .entry)))
+    ensures { λ r. ⌜ (
+        let t : Tables = tablesFrom (now (gconsts .entry)) (now («means_invvars_t» .entry)) (now («inv_vars_t» .entry)) (now («sigma_inv_m» .entry))
+        (now (u .entry)) (now («lda_t» .entry)) (now («lda_offset» .entry)) (now («global_mean_stats» .entry)) in
+        let got = loadOf opts (filesOf (now (gmm .entry)) (now (extractor .entry)) (now (lda .entry)) (now (cmvn .entry))) (tableLengthsOf t) (length (now (scratch .entry))) in
+        (r ≡ loadAnswer opts (loadedOf got))
+        × (tablesFrom (now (gconsts .exit)) (now («means_invvars_t» .exit)) (now («inv_vars_t» .exit)) (now («sigma_inv_m» .exit))
+        (now (u .exit)) (now («lda_t» .exit)) (now («lda_offset» .exit)) (now («global_mean_stats» .exit)) ≡ loadedTables got t)
         × scratchKept got (now (scratch .entry)) (now (scratch .exit))) ⌝ }
 {
     let a = ivector_info::load(
@@ -162,7 +140,7 @@ pub extern "C" fn shofrakin_load(
         global_mean_stats,
         scratch,
     );
-    load_answer(a)
+    load_answer(opts, a)
 }
 
 // ---- a fresh stream
@@ -174,15 +152,19 @@ fn no_stream(info: IvectorInfo) -> IvectorStream
     IvectorStream {
         info,
         rooms: RoomLengths {
-            frames: 0,
-            rows: 0,
-            waiting_frames: 0,
-            waiting_weights: 0,
-            cmvn_stats: 0,
-            linear: 0,
-            quadratic: 0,
-            current: 0,
-            scratch: 0,
+            rings: RingLengths {
+                frames: 0,
+                rows: 0,
+                waiting_frames: 0,
+                waiting_weights: 0,
+            },
+            estimate: EstimateLengths {
+                cmvn_stats: 0,
+                linear: 0,
+                quadratic: 0,
+                current: 0,
+                scratch: 0,
+            },
         },
         accepted: 0,
         num_frames_stats: 0,
@@ -195,16 +177,24 @@ fn no_stream(info: IvectorInfo) -> IvectorStream
     }
 }
 
-fn stream_answer(info: IvectorInfo, a: NewStream) -> NewStreamAnswer
+fn stream_answer(info: IvectorInfo, a: NewStream) -> StreamCall
     ensures { λ r. ⌜ r ≡ newStreamAnswer info a ⌝ }
 {
     match a {
-        NewStream::Stream(stream) => {
-            return NewStreamAnswer { refusal: 0, stream };
+        NewStream::Stream(call) => {
+            return call;
         }
         NewStream::Refused(refusal) => {
             let stream = no_stream(info);
-            return NewStreamAnswer { refusal, stream };
+            return StreamCall {
+                answer: StreamAnswer {
+                    refusal,
+                    frames_held: 0,
+                    rows_held: 0,
+                    not_finite: 0,
+                },
+                stream,
+            };
         }
     }
 }
@@ -230,17 +220,16 @@ pub extern "C" fn shofrakin_new_stream(
     quadratic: &mut [f64],
     current: &mut [f64],
     scratch: &[f64],
-) -> NewStreamAnswer
+) -> StreamCall
     ensures { λ r. ⌜ (
-        let t : Tables = tables (now (gconsts .entry)) (now («means_invvars_t» .entry)) (now («inv_vars_t» .entry)) (now («sigma_inv_m» .entry)) (now (u .entry)) (now («lda_t» .entry)) (now («lda_offset» .entry)) (now («global_mean_stats» .entry)) in
-        let z : Rooms = rooms (now (frames .entry)) (now (rows .entry)) (now («waiting_frames» .entry)) (now («waiting_weights» .entry)) (now («cmvn_stats» .entry)) (now (linear .entry)) (now (quadratic .entry)) (now (current .entry)) in
-        let n : ℕ = newRefusal info (tableLengthsOf t) (roomLengthsOf z (length (now (scratch .entry)))) in
-        (r ≡ newStreamAnswer info (newAnswer info (tableLengthsOf t) (roomLengthsOf z (length (now (scratch .entry))))))
-        × (now (rows .exit) ≡ taken n (freshRooms info z .rows) (now (rows .entry)))
-        × (now («cmvn_stats» .exit) ≡ taken n (freshRooms info z .cmvn) (now («cmvn_stats» .entry)))
-        × (now (linear .exit) ≡ taken n (freshRooms info z .linear) (now (linear .entry)))
-        × (now (quadratic .exit) ≡ taken n (freshRooms info z .quadratic) (now (quadratic .entry)))
-        × (now (current .exit) ≡ taken n (freshRooms info z .current) (now (current .entry)))) ⌝ }
+        let t : Tables = tablesFrom (now (gconsts .entry)) (now («means_invvars_t» .entry)) (now («inv_vars_t» .entry)) (now («sigma_inv_m» .entry))
+        (now (u .entry)) (now («lda_t» .entry)) (now («lda_offset» .entry)) (now («global_mean_stats» .entry)) in
+        let z : Rooms = roomsFrom (ringsFrom (now (frames .entry)) (now (rows .entry)) (now («waiting_frames» .entry)) (now («waiting_weights» .entry)))
+        (estimateFrom (now («cmvn_stats» .entry)) (now (linear .entry)) (now (quadratic .entry)) (now (current .entry))) in
+        let n : ℕ = length (now (scratch .entry)) in
+        (r ≡ newStreamAnswer info (newAnswer info (tableLengthsOf t) (roomLengthsOf z n)))
+        × (roomsFrom (ringsFrom (now (frames .entry)) (now (rows .exit)) (now («waiting_frames» .entry)) (now («waiting_weights» .entry)))
+        (estimateFrom (now («cmvn_stats» .exit)) (now (linear .exit)) (now (quadratic .exit)) (now (current .exit))) ≡ taken (newRefusal info (tableLengthsOf t) (roomLengthsOf z n)) (freshRooms info z) z)) ⌝ }
 {
     let a = ivector_stream::new(
         info,
@@ -278,11 +267,10 @@ pub extern "C" fn shofrakin_push_frame(
     waiting_weights: &[f32],
 ) -> StreamAnswer
     ensures { λ r. ⌜ (
-        let n : ℕ = pushRefusal (now (s .entry)) (ringsOf (length (now (frames .entry))) (length (now (rows .entry))) (length (now («waiting_frames» .entry))) (length (now («waiting_weights» .entry)))) (now («waiting_frames» .entry)) (now (frame .entry)) in
-        let call = callOf n (taken n (withAccepted (now (s .entry)) (now (s .entry) .accepted + 1)) (now (s .entry))) 0 in
-        ((r ≡ call .answer) × (now (s .exit) ≡ call .stream))
-        × (now (frames .exit) ≡ taken n (pushedFrames (now (s .entry)) (now (frames .entry)) (now (frame .entry))) (now (frames .entry)))
-        × (now (rows .exit) ≡ taken n (pushedRows (now (s .entry)) (now (rows .entry)) (now (frame .entry))) (now (rows .entry)))) ⌝ }
+        let s₀ : IvectorStream = now (s .entry) in
+        let z : Rings = ringsFrom (now (frames .entry)) (now (rows .entry)) (now («waiting_frames» .entry)) (now («waiting_weights» .entry)) in
+        ringCall (answered r (now (s .exit))) (ringsFrom (now (frames .exit)) (now (rows .exit)) (now («waiting_frames» .entry)) (now («waiting_weights» .entry)))
+        ≡ doneOn s₀ z (pushFrame s₀ z (now (frame .entry)))) ⌝ }
 {
     let c = ivector_stream::push_frame(*s, frame, frames, rows, waiting_frames, waiting_weights);
     s.accepted = c.stream.accepted;
@@ -299,9 +287,10 @@ pub extern "C" fn shofrakin_set_input_finished(
     waiting_weights: &[f32],
 ) -> StreamAnswer
     ensures { λ r. ⌜ (
-        let n : ℕ = plainRefusal (now (s .entry)) (ringsOf (length (now (frames .entry))) (length (now (rows .entry))) (length (now («waiting_frames» .entry))) (length (now («waiting_weights» .entry)))) (now («waiting_frames» .entry)) in
-        let call = callOf n (taken n (withFinished (now (s .entry))) (now (s .entry))) 0 in
-        (r ≡ call .answer) × (now (s .exit) ≡ call .stream)) ⌝ }
+        let s₀ : IvectorStream = now (s .entry) in
+        let z : Rings = ringsFrom (now (frames .entry)) (now (rows .entry)) (now («waiting_frames» .entry)) (now («waiting_weights» .entry)) in
+        ringCall (answered r (now (s .exit))) (ringsFrom (now (frames .entry)) (now (rows .entry)) (now («waiting_frames» .entry)) (now («waiting_weights» .entry)))
+        ≡ doneOn s₀ z (setInputFinished s₀ z)) ⌝ }
 {
     let c = ivector_stream::set_input_finished(*s, frames, rows, waiting_frames, waiting_weights);
     s.input_finished = c.stream.input_finished;
@@ -320,12 +309,10 @@ pub extern "C" fn shofrakin_update_frame_weights(
     waiting_weights: &mut [f32],
 ) -> StreamAnswer
     ensures { λ r. ⌜ (
-        let n : ℕ = changeRefusal (now (s .entry)) (ringsOf (length (now (frames .entry))) (length (now (rows .entry))) (length (now («waiting_frames» .entry))) (length (now («waiting_weights» .entry)))) (now («waiting_frames» .entry)) (now («delta_frames» .entry)) (now («delta_weights» .entry)) in
-        let c : Changes = changed (changesIn (now (s .entry)) (now («waiting_frames» .entry)) (now («waiting_weights» .entry))) (now («delta_frames» .entry)) (now («delta_weights» .entry)) in
-        let call = callOf n (taken n (withChanges (now (s .entry)) c (now (s .entry) .«num_frames_stats») (now (s .entry) .«num_frames»)) (now (s .entry))) 0 in
-        ((r ≡ call .answer) × (now (s .exit) ≡ call .stream))
-        × (now («waiting_frames» .exit) ≡ taken n (overFrames c (now («waiting_frames» .entry))) (now («waiting_frames» .entry)))
-        × (now («waiting_weights» .exit) ≡ taken n (overWeights c (now («waiting_weights» .entry))) (now («waiting_weights» .entry)))) ⌝ }
+        let s₀ : IvectorStream = now (s .entry) in
+        let z : Rings = ringsFrom (now (frames .entry)) (now (rows .entry)) (now («waiting_frames» .entry)) (now («waiting_weights» .entry)) in
+        ringCall (answered r (now (s .exit))) (ringsFrom (now (frames .entry)) (now (rows .entry)) (now («waiting_frames» .exit)) (now («waiting_weights» .exit)))
+        ≡ doneOn s₀ z (updateFrameWeights s₀ z (now («delta_frames» .entry)) (now («delta_weights» .entry)))) ⌝ }
 {
     let c = ivector_stream::update_frame_weights(
         *s,
@@ -353,9 +340,10 @@ pub extern "C" fn shofrakin_forget_before(
     waiting_weights: &[f32],
 ) -> StreamAnswer
     ensures { λ r. ⌜ (
-        let n : ℕ = plainRefusal (now (s .entry)) (ringsOf (length (now (frames .entry))) (length (now (rows .entry))) (length (now («waiting_frames» .entry))) (length (now («waiting_weights» .entry)))) (now («waiting_frames» .entry)) in
-        let call = callOf n (taken n (withMark (now (s .entry)) (forgetMark (now (s .entry)) (now («waiting_frames» .entry)) frame)) (now (s .entry))) 0 in
-        (r ≡ call .answer) × (now (s .exit) ≡ call .stream)) ⌝ }
+        let s₀ : IvectorStream = now (s .entry) in
+        let z : Rings = ringsFrom (now (frames .entry)) (now (rows .entry)) (now («waiting_frames» .entry)) (now («waiting_weights» .entry)) in
+        ringCall (answered r (now (s .exit))) (ringsFrom (now (frames .entry)) (now (rows .entry)) (now («waiting_frames» .entry)) (now («waiting_weights» .entry)))
+        ≡ doneOn s₀ z (forgetBefore s₀ z frame)) ⌝ }
 {
     let c = ivector_stream::forget_before(*s, frame, frames, rows, waiting_frames, waiting_weights);
     s.mark = c.stream.mark;
@@ -387,19 +375,16 @@ pub extern "C" fn shofrakin_get_frame(
     out: &mut [u32],
 ) -> StreamAnswer
     ensures { λ r. ⌜ (
-        let t : Tables = (tables (now (gconsts .entry)) (now («means_invvars_t» .entry)) (now («inv_vars_t» .entry)) (now («sigma_inv_m» .entry)) (now (u .entry)) (now («lda_t» .entry)) (now («lda_offset» .entry)) (now («global_mean_stats» .entry))) in
-        let z : Rooms = (rooms (now (frames .entry)) (now (rows .entry)) (now («waiting_frames» .entry)) (now («waiting_weights» .entry)) (now («cmvn_stats» .entry)) (now (linear .entry)) (now (quadratic .entry)) (now (current .entry))) in
-        let n : ℕ = fetchRefusal (now (s .entry)) (tableLengthsOf t) (roomLengthsOf z (length (now (scratch .entry)))) (now («waiting_frames» .entry)) frame (length (now (out .entry))) in
-        let call = callOf n (taken n (fetchStream (now (s .entry)) t z frame) (now (s .entry))) (taken n (notFinite (fetchVector (now (s .entry)) t z frame)) 0) in
-        ((r ≡ call .answer) × (now (s .exit) ≡ call .stream))
-        × (now («waiting_frames» .exit) ≡ taken n (fetchRooms (now (s .entry)) t z frame .waiting-frames) (now («waiting_frames» .entry)))
-        × (now («waiting_weights» .exit) ≡ taken n (fetchRooms (now (s .entry)) t z frame .waiting-weights) (now («waiting_weights» .entry)))
-        × (now («cmvn_stats» .exit) ≡ taken n (fetchRooms (now (s .entry)) t z frame .cmvn) (now («cmvn_stats» .entry)))
-        × (now (linear .exit) ≡ taken n (fetchRooms (now (s .entry)) t z frame .linear) (now (linear .entry)))
-        × (now (quadratic .exit) ≡ taken n (fetchRooms (now (s .entry)) t z frame .quadratic) (now (quadratic .entry)))
-        × (now (current .exit) ≡ taken n (fetchRooms (now (s .entry)) t z frame .current) (now (current .entry)))
-        × ((n ≡ 0 → ⊥) → now (scratch .exit) ≡ now (scratch .entry))
-        × (now (out .exit) ≡ taken n (over (bitsOf (fetchVector (now (s .entry)) t z frame)) (now (out .entry))) (now (out .entry)))) ⌝ }
+        let s₀ : IvectorStream = now (s .entry) in
+        let t : Tables = tablesFrom (now (gconsts .entry)) (now («means_invvars_t» .entry)) (now («inv_vars_t» .entry)) (now («sigma_inv_m» .entry))
+        (now (u .entry)) (now («lda_t» .entry)) (now («lda_offset» .entry)) (now («global_mean_stats» .entry)) in
+        let z : Rooms = roomsFrom (ringsFrom (now (frames .entry)) (now (rows .entry)) (now («waiting_frames» .entry)) (now («waiting_weights» .entry)))
+        (estimateFrom (now («cmvn_stats» .entry)) (now (linear .entry)) (now (quadratic .entry)) (now (current .entry))) in
+        let x : Step = getFrame s₀ t z (length (now (scratch .entry))) frame (length (now (out .entry))) in
+        (fetchCall (answered r (now (s .exit))) (roomsFrom (ringsFrom (now (frames .entry)) (now (rows .entry)) (now («waiting_frames» .exit)) (now («waiting_weights» .exit)))
+        (estimateFrom (now («cmvn_stats» .exit)) (now (linear .exit)) (now (quadratic .exit)) (now (current .exit)))) (now (out .exit))
+        ≡ fetchedOn s₀ z (now (out .entry)) x)
+        × ((x .refusal ≡ 0 → ⊥) → now (scratch .exit) ≡ now (scratch .entry))) ⌝ }
 {
     let c = ivector_fetch::get_frame(
         *s,
@@ -425,8 +410,6 @@ pub extern "C" fn shofrakin_get_frame(
     );
     s.num_frames_stats = c.stream.num_frames_stats;
     s.waiting = c.stream.waiting;
-    s.past_highest = c.stream.past_highest;
-    s.delta_weights_provided = c.stream.delta_weights_provided;
     s.num_frames = c.stream.num_frames;
     c.answer
 }
@@ -468,7 +451,7 @@ fn no_table() -> SilenceWeighting
         subsampling: 0,
         phones: 0,
         table: 0,
-        length: 0,
+        length: DecoderFrame(0),
     }
 }
 
@@ -525,19 +508,11 @@ pub extern "C" fn shofrakin_compute_current_traceback(
     num_frames_decoded: DecoderFrame,
 ) -> SilenceCounts
     ensures { λ r. ⌜ (
-        let phones = now («silence_phones» .entry) in
-        let ks = now (known .entry) in
-        let ss = now («is_silence» .entry) in
-        let ws = now («current_weight» .entry) in
-        let ps = now («segment_phones» .entry) in
-        let decoded = «num_frames_decoded» .0 in
-        let n : ℕ = firstOf ((tableBroken (now (s .entry)) (length ks) (length ss) (length ws), 10) ∷ tracebackTests (now (s .entry)) (length phones) decoded (length ps) (length (now (starts .entry))) (length (now (ends .entry)))) in
-        let t : Table = traced phones decoded (segments ps (now (starts .entry)) (now (ends .entry))) (tableIn (now (s .entry) .length) ks ss ws) in
-        let call = silenceAnswer n (now (s .entry)) 0 (length t) in
-        ((r ≡ silenceCounts call) × (now (s .exit) ≡ call .silence))
-        × (now (known .exit) ≡ taken n (over (map (λ f. f .known) t) ks) ks)
-        × (now («is_silence» .exit) ≡ taken n (over (map (λ f. f .is-silence) t) ss) ss)
-        × (now («current_weight» .exit) ≡ taken n (over (map (λ f. f .current-weight) t) ws) ws)) ⌝ }
+        let s₀ : SilenceWeighting = now (s .entry) in
+        let z : TableRooms = tableRooms (now (known .entry)) (now («is_silence» .entry)) (now («current_weight» .entry)) in
+        tableCall (counted r (now (s .exit))) (tableRooms (now (known .exit)) (now («is_silence» .exit)) (now («current_weight» .exit))) [] []
+        ≡ tableDone s₀ z [] []
+        (computeCurrentTraceback s₀ z (now («silence_phones» .entry)) (now («segment_phones» .entry)) (now (starts .entry)) (now (ends .entry)) «num_frames_decoded»)) ⌝ }
 {
     let a = silence_weighting::compute_current_traceback(
         *s,
@@ -550,7 +525,7 @@ pub extern "C" fn shofrakin_compute_current_traceback(
         ends,
         num_frames_decoded,
     );
-    s.length = a.silence.length;
+    s.length.0 = a.silence.length.0;
     SilenceCounts {
         refusal: a.refusal,
         changes: a.changes,
@@ -570,20 +545,11 @@ pub extern "C" fn shofrakin_get_delta_weights(
     weights: &mut [f32],
 ) -> SilenceCounts
     ensures { λ r. ⌜ (
-        let ks = now (known .entry) in
-        let ss = now («is_silence» .entry) in
-        let ws = now («current_weight» .entry) in
-        let ready = «num_frames_ready» .0 in
-        let first = «first_decoder_frame» .0 in
-        let t : Table = tableIn (now (s .entry) .length) ks ss ws in
-        let n : ℕ = firstOf ((tableBroken (now (s .entry)) (length ks) (length ss) (length ws), 10) ∷ deltaTests (now (s .entry)) ready first t (length (now (frames .entry))) (length (now (weights .entry)))) in
-        let call = silenceAnswer n (now (s .entry)) (length (asked (now (s .entry)) ready first t)) (length (askedTable (now (s .entry)) ready first t)) in
-        ((r ≡ silenceCounts call) × (now (s .exit) ≡ call .silence))
-        × (now (known .exit) ≡ taken n (over (map (λ f. f .known) (askedTable (now (s .entry)) ready first t)) ks) ks)
-        × (now («is_silence» .exit) ≡ taken n (over (map (λ f. f .is-silence) (askedTable (now (s .entry)) ready first t)) ss) ss)
-        × (now («current_weight» .exit) ≡ taken n (over (map (λ f. f .current-weight) (askedTable (now (s .entry)) ready first t)) ws) ws)
-        × (now (frames .exit) ≡ taken n (over (map (λ x. x .0) (asked (now (s .entry)) ready first t)) (now (frames .entry))) (now (frames .entry)))
-        × (now (weights .exit) ≡ taken n (over (map (λ x. x .1) (asked (now (s .entry)) ready first t)) (now (weights .entry))) (now (weights .entry)))) ⌝ }
+        let s₀ : SilenceWeighting = now (s .entry) in
+        let z : TableRooms = tableRooms (now (known .entry)) (now («is_silence» .entry)) (now («current_weight» .entry)) in
+        tableCall (counted r (now (s .exit))) (tableRooms (now (known .exit)) (now («is_silence» .exit)) (now («current_weight» .exit))) (now (frames .exit)) (now (weights .exit))
+        ≡ tableDone s₀ z (now (frames .entry)) (now (weights .entry))
+        (getDeltaWeights s₀ z «num_frames_ready» «first_decoder_frame» (length (now (frames .entry))) (length (now (weights .entry))))) ⌝ }
 {
     let a = silence_weighting::get_delta_weights(
         *s,
@@ -595,7 +561,7 @@ pub extern "C" fn shofrakin_get_delta_weights(
         frames,
         weights,
     );
-    s.length = a.silence.length;
+    s.length.0 = a.silence.length.0;
     SilenceCounts {
         refusal: a.refusal,
         changes: a.changes,

@@ -2,4 +2,3 @@
 pub mod Rings
 pub mod Normalised
 pub mod SplicedRows
-pub mod Pushed

@@ -15,7 +15,7 @@ use Rattle.floats.specs.Narrow.{narrowed}
 use Rattle.floats.specs.Extremes.{smaller}
 use Rattle.definition.specs.declared.IvectorOptions.{IvectorOptions}
 use Rattle.definition.specs.Views.{smoothed, windowed, cmvnState, cmvnFrame}
-use Rattle.frame_views.specs.Ring.{ringAt, ringFrames}
+use Rattle.program.specs.Rooms.{ringAt, ringFrames}
 
 -- element d of a row that code took
 module _ (dim : ℕ) (room : List Float) (t : ℕ) {row : List Float} (e : row ≡ build dim (ringAt dim room t)) where

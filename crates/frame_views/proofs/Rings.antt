@@ -5,12 +5,11 @@ use Prim.Native.Nat.{ℕ, _+_, _-_, _*_, _%_, _≤_, _<_}
 use lib.ListN.{length, take, drop}
 use lib.Ieee.{Float, nan}
 use Rattle.loops.specs.Lists.{build}
-use Rattle.loops.specs.Ring.{rowsIn}
-use Rattle.loops.specs.Steps.{place}
+use Rattle.loops.specs.Ring.{rowsIn, place}
 use Rattle.loops.proofs.Build.{build-part}
 use Rattle.loops.proofs.Parts.{lent-is}
 use Rattle.loops.proofs.Ring.{place-in}
-use Rattle.frame_views.specs.Ring.{ringAt}
+use Rattle.program.specs.Rooms.{ringAt}
 
 -- where the row ends
 pub row-ends : (n w t : ℕ) → 0 < rowsIn n w → t % rowsIn n w * w + w ≤ n

@@ -9,7 +9,7 @@ use lib.ListN.{length, take, length-append}
 use lib.Ieee.{Float, nan}
 use Rattle.loops.specs.Loop.{iter}
 use Rattle.loops.specs.Lists.{if_then_else_, build, flat, over}
-use Rattle.loops.specs.Steps.{put}
+use Rattle.loops.specs.Ring.{put}
 use Rattle.loops.proofs.Loop.{at-end, iter-more}
 use Rattle.loops.proofs.Choose.{choose-true, choose-false}
 use Rattle.loops.proofs.Build.{length-build, take-build, build-list}
@@ -19,7 +19,7 @@ use Rattle.floats.specs.Operators.{at}
 use Rattle.definition.specs.declared.IvectorOptions.{IvectorOptions}
 use Rattle.definition.specs.Options.{width}
 use Rattle.definition.specs.Views.{Frames, cmvnState, cmvnFrame, spliceAt, rawRow, normalisedRow}
-use Rattle.frame_views.specs.Ring.{ringAt, ringFrames}
+use Rattle.program.specs.Rooms.{ringAt, ringFrames}
 use Rattle.frame_views.specs.Rows.{splicedRow}
 use Rattle.frame_views.specs.Steps.{fetched, viewed, splicedTo}
 

@@ -1,4 +1,3 @@
--- What a stream's rooms hold. `Steps` is not for readers.
-pub mod Ring
+-- The views of a frame. `Steps` is not for readers.
 pub mod Rows
 pub mod Steps

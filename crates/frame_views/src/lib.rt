@@ -8,13 +8,13 @@ ghost use Prim.Native.Nat.{_+_, _-_, _*_, _<_, _≤_, min};
 ghost use lib.ListN.{length, take};
 ghost use lib.Ieee.{lt};
 ghost use Rattle.loops.specs.Lists.{if_then_else_, build};
-ghost use Rattle.loops.specs.Ring.{rowsIn};
-ghost use Rattle.loops.specs.Steps.{fill, put};
+ghost use Rattle.loops.specs.Ring.{rowsIn, put};
+ghost use Rattle.loops.specs.Steps.{fill};
 ghost use Rattle.floats.specs.Operators.{_-₃₂_, _+₆₄_, _-₆₄_, _*₆₄_, _/₆₄_, at};
 ghost use Rattle.floats.specs.Narrow.{narrowed};
 ghost use Rattle.definition.specs.Options.{width};
 ghost use Rattle.definition.specs.Views.{smoothed, windowed, cmvnState, cmvnFrame, spliceAt, ldaFrame};
-ghost use Rattle.frame_views.specs.Ring.{ringAt, ringFrames};
+ghost use Rattle.program.specs.Rooms.{ringAt, ringFrames};
 ghost use Rattle.frame_views.specs.Rows.{Lent, splicedRow};
 ghost use Rattle.frame_views.specs.Steps.{fetched, viewed, splicedTo};
 

@@ -1,26 +1,26 @@
 -- What is known once a fetch is taken, and its tests as code makes them.
-use mathlib.Core.Path.{_≡_, refl, sym, ap, _∙_}
+use mathlib.Core.Path.{_≡_, refl, sym, ap, ap₂, subst, _∙_}
 use mathlib.Core.Bool.{Bool, true, false, not, _&&_}
 use mathlib.Core.List.{List, [], _∷_}
 use Prim.Native.Nat.{ℕ, _-_, _≤_, _<_}
 use native.Mathlib.Omega.{arith}
-use lib.ListN.{length}
 use lib.Dec.{eqb, leb}
-use lib.Ieee.{Float}
 use borrow.Author.Tests.{not-false, not-true, eqb-true, lt-leb, le-leb, leb-false}
 use Rattle.loops.proofs.Choose.{by-test, and-first, and-second, and-holds}
 use Rattle.loops.proofs.Refusal.{NoneFirst, FirstAt, numberAt, none-first, first-here, first-past, first-is, first-none}
 use Rattle.loops.proofs.Tests.{each-pair}
 use Rattle.definition.specs.declared.IvectorStream.{IvectorStream}
+use Rattle.definition.specs.declared.RingLengths.{RingLengths}
+use Rattle.definition.specs.declared.EstimateLengths.{EstimateLengths}
 use Rattle.definition.specs.declared.RoomLengths.{RoomLengths}
 use Rattle.definition.specs.declared.TableLengths.{TableLengths}
-use Rattle.definition.specs.Model.{tableLengths}
+use Rattle.definition.specs.Model.{tableLengths, tablesFit}
 use Rattle.definition.specs.Machine.{framesReady, fetchTests}
-use Rattle.definition.specs.Stream.{isBroken, sameTables, sameRings, sameRooms, fixedLengths, streamScratch}
-use Rattle.limits.proofs.Ranges.{OptionRanges, option-ranges, DimRanges, dim-ranges, Agreeing, agreeing, TablesFitting, tables-fitting, info-sound, Fitting, fitting}
-use Rattle.ivector_update.specs.Steps.{Roomy}
-use Rattle.ivector_stream.specs.Rooms.{Tables, tableLengthsOf, Rooms, roomLengthsOf}
-use Rattle.ivector_stream.specs.Calls.{fetchRefusal}
+use Rattle.definition.specs.Stream.{recordSound, infoSound, roomsFit, isBroken, sameTables, sameRings, sameRooms, ringLengths, estimateLengths}
+use Rattle.definition.proofs.Ranges.{info-sound}
+use Rattle.program.specs.Rooms.{Rooms, roomLengthsOf}
+use Rattle.program.specs.Calls.{fetchRefusal}
+use Rattle.program.proofs.Steps.{four}
 use Rattle.ivector_stream.proofs.Records.{Passed, tests-passed, few}
 
 -- whether no change reached f
@@ -33,6 +33,37 @@ module _ (next past f : ℕ) (called : Bool) where
 
   pub by-highest : next ≤ f → not called ≡ false → leb past f ≡ (leb next f && called && leb past f)
   by-highest h g = rw (le-leb next f h, not-false called g) refl
+
+-- lengths that pass for the same are the same
+same-tables : (a b : TableLengths) → sameTables a b ≡ true → a ≡ b
+unfolding sameTables
+same-tables a b e =
+    let h = each-pair eqb (tableLengths a) (tableLengths b) e in
+    let p0 : a .gconsts ≡ b .gconsts = eqb-true _ _ (h .0) in
+    let p1 : a .«means_invvars_t» ≡ b .«means_invvars_t» = eqb-true _ _ (h .1 .0) in
+    let p2 : a .«inv_vars_t» ≡ b .«inv_vars_t» = eqb-true _ _ (h .1 .1 .0) in
+    let p3 : a .«sigma_inv_m» ≡ b .«sigma_inv_m» = eqb-true _ _ (h .1 .1 .1 .0) in
+    let p4 : a .u ≡ b .u = eqb-true _ _ (h .1 .1 .1 .1 .0) in
+    let p5 : a .«lda_t» ≡ b .«lda_t» = eqb-true _ _ (h .1 .1 .1 .1 .1 .0) in
+    let p6 : a .«lda_offset» ≡ b .«lda_offset» = eqb-true _ _ (h .1 .1 .1 .1 .1 .1 .0) in
+    let p7 : a .«global_mean_stats» ≡ b .«global_mean_stats» = eqb-true _ _ (h .1 .1 .1 .1 .1 .1 .1 .0) in
+    ap₂ (λ (x y : ℕ). record { gconsts = x; «means_invvars_t» = y; «inv_vars_t» = a .«inv_vars_t»; «sigma_inv_m» = a .«sigma_inv_m»; u = a .u; «lda_t» = a .«lda_t»; «lda_offset» = a .«lda_offset»; «global_mean_stats» = a .«global_mean_stats» }) p0 p1
+    ∙ ap₂ (λ (x y : ℕ). record { gconsts = b .gconsts; «means_invvars_t» = b .«means_invvars_t»; «inv_vars_t» = x; «sigma_inv_m» = y; u = a .u; «lda_t» = a .«lda_t»; «lda_offset» = a .«lda_offset»; «global_mean_stats» = a .«global_mean_stats» }) p2 p3
+    ∙ ap₂ (λ (x y : ℕ). record { gconsts = b .gconsts; «means_invvars_t» = b .«means_invvars_t»; «inv_vars_t» = b .«inv_vars_t»; «sigma_inv_m» = b .«sigma_inv_m»; u = x; «lda_t» = y; «lda_offset» = a .«lda_offset»; «global_mean_stats» = a .«global_mean_stats» }) p4 p5
+    ∙ ap₂ (λ (x y : ℕ). record { gconsts = b .gconsts; «means_invvars_t» = b .«means_invvars_t»; «inv_vars_t» = b .«inv_vars_t»; «sigma_inv_m» = b .«sigma_inv_m»; u = b .u; «lda_t» = b .«lda_t»; «lda_offset» = x; «global_mean_stats» = y }) p6 p7
+
+same-rooms : (a b : RoomLengths) → sameRooms a b ≡ true → a ≡ b
+unfolding sameRooms sameRings
+same-rooms a b e =
+    let g = and-holds (sameRings (a .rings) (b .rings)) _ e in
+    let h = each-pair eqb (ringLengths (a .rings)) (ringLengths (b .rings)) (g .0) in
+    let k = each-pair eqb (estimateLengths (a .estimate)) (estimateLengths (b .estimate)) (g .1) in
+    ap₂ (λ (x : RingLengths) (y : EstimateLengths). record { rings = x; estimate = y })
+    (four (λ (p q r s : ℕ). record { frames = p; rows = q; «waiting_frames» = r; «waiting_weights» = s })
+    (eqb-true _ _ (h .0)) (eqb-true _ _ (h .1 .0)) (eqb-true _ _ (h .1 .1 .0)) (eqb-true _ _ (h .1 .1 .1 .0)))
+    (four (λ (p q r s : ℕ). record { «cmvn_stats» = p; linear = q; quadratic = r; current = s; scratch = a .estimate .scratch })
+    (eqb-true _ _ (k .0)) (eqb-true _ _ (k .1 .0)) (eqb-true _ _ (k .1 .1 .0)) (eqb-true _ _ (k .1 .1 .1 .0))
+    ∙ ap (λ (p : ℕ). record { «cmvn_stats» = b .estimate .«cmvn_stats»; linear = b .estimate .linear; quadratic = b .estimate .quadratic; current = b .estimate .current; scratch = p }) (eqb-true _ _ (k .1 .1 .1 .1 .0)))
 
 module _ (s : IvectorStream) (t : TableLengths) (z : RoomLengths) (fs : List ℕ) (f n : ℕ) where
   abbrev pub fetchList : List (Bool × ℕ)
@@ -50,17 +81,21 @@ module _ (s : IvectorStream) (t : TableLengths) (z : RoomLengths) (fs : List ℕ
   unfolding fetchRefusal fetchTests
   refused-none h = first-none fetchList h
 
-  rooms-passed : not (sameRooms z (s .rooms)) ≡ false → isBroken s fs ≡ false → Passed s z fs
+module _ (s : IvectorStream) (t : TableLengths) (w : Rooms) (scratch f n : ℕ) where
+  abbrev z : RoomLengths
+  z = roomLengthsOf w scratch
+
+  abbrev fs : List ℕ
+  fs = w .rings .waiting-frames
+
+  rooms-passed : not (sameRooms z (s .rooms)) ≡ false → isBroken s fs ≡ false → Passed s (w .rings)
   unfolding sameRooms
-  rooms-passed e b = tests-passed s z fs (ap not (and-holds (sameRings z (s .rooms)) _ (not-false _ e) .0)) b
+  rooms-passed e b = tests-passed s (w .rings) (ap not (and-holds (sameRings (z .rings) (s .rooms .rings)) _ (not-false _ e) .0)) b
 
   pub record FetchTaken : Type 0 where
-    pub passed : Passed s z fs
-    pub options-are : OptionRanges (s .info .opts)
-    pub dims-are : DimRanges (s .info .dims)
-    pub agree : Agreeing (s .info .opts) (s .info .dims)
-    pub tables-are : TablesFitting (s .info .opts) (s .info .dims) t
-    pub rooms-are : Fitting (s .info .dims) z
+    pub passed : Passed s (w .rings)
+    pub tables-are : t ≡ s .info .tables
+    pub rooms-are : z ≡ s .rooms
     pub wide : n ≡ s .info .dims .«ivector_dim»
     pub below : f < s .accepted
 
@@ -70,80 +105,32 @@ module _ (s : IvectorStream) (t : TableLengths) (z : RoomLengths) (fs : List ℕ
   ready-under false a = omega arith
 
   pub fetch-taken : fetchRefusal s t z fs f n ≡ 0 → FetchTaken
-  unfolding fetchRefusal fetchTests sameTables sameRooms
+  unfolding fetchRefusal fetchTests
   fetch-taken e =
-      let h = none-first fetchList tt e in
-      let p = rooms-passed (h .1 .0) (h .1 .1 .0) in
-      let i = info-sound (s .info) (p .whole-is .info-is) in
-      let q = tables-fitting _ _ _ (i .tables-fit) in
-      let a = each-pair eqb (tableLengths t) (tableLengths (s .info .tables)) (not-false _ (h .0)) in
-      let r = fitting _ _ (p .whole-is .rooms-fit) in
-      let b = each-pair eqb (fixedLengths z) (fixedLengths (s .rooms)) (and-holds (sameRings z (s .rooms)) _ (not-false _ (h .1 .0)) .1) in
+      let h = none-first (fetchList s t z fs f n) tt e in
       record {
-        passed = p;
-        options-are = option-ranges _ (i .options-are);
-        dims-are = dim-ranges _ (i .dims-are);
-        agree = agreeing _ _ (i .agree);
-        tables-are = record {
-          gconsts-fit = omega (arith, q .gconsts-fit, eqb-true (t .gconsts) (s .info .tables .gconsts) (a .0));
-          means-fit = omega (arith, q .means-fit, eqb-true (t .«means_invvars_t») (s .info .tables .«means_invvars_t») (a .1 .0));
-          vars-fit = omega (arith, q .vars-fit, eqb-true (t .«inv_vars_t») (s .info .tables .«inv_vars_t») (a .1 .1 .0));
-          sigma-fits = omega (arith, q .sigma-fits, eqb-true (t .«sigma_inv_m») (s .info .tables .«sigma_inv_m») (a .1 .1 .1 .0));
-          u-fits = omega (arith, q .u-fits, eqb-true (t .u) (s .info .tables .u) (a .1 .1 .1 .1 .0));
-          lda-fits = omega (arith, q .lda-fits, eqb-true (t .«lda_t») (s .info .tables .«lda_t») (a .1 .1 .1 .1 .1 .0));
-          offset-fits = omega (arith, q .offset-fits, eqb-true (t .«lda_offset») (s .info .tables .«lda_offset») (a .1 .1 .1 .1 .1 .1 .0));
-          global-fits = omega (arith, q .global-fits, eqb-true (t .«global_mean_stats») (s .info .tables .«global_mean_stats») (a .1 .1 .1 .1 .1 .1 .1 .0));
-        };
-        rooms-are = record {
-          frames-fit = p .frame-room;
-          rows-fit = p .row-room;
-          cmvn-fits = omega (arith, r .cmvn-fits, eqb-true (z .«cmvn_stats») (s .rooms .«cmvn_stats») (b .0));
-          linear-fits = omega (arith, r .linear-fits, eqb-true (z .linear) (s .rooms .linear) (b .1 .0));
-          quadratic-fits = omega (arith, r .quadratic-fits, eqb-true (z .quadratic) (s .rooms .quadratic) (b .1 .1 .0));
-          current-fits = omega (arith, r .current-fits, eqb-true (z .current) (s .rooms .current) (b .1 .1 .1 .0));
-          scratch-fits = omega (arith, r .scratch-fits, eqb-true (z .scratch) (s .rooms .scratch) (b .1 .1 .1 .1 .0));
-        };
+        passed = rooms-passed (h .1 .0) (h .1 .1 .0);
+        tables-are = same-tables t (s .info .tables) (not-false _ (h .0));
+        rooms-are = same-rooms z (s .rooms) (not-false _ (h .1 .0));
         wide = eqb-true n (s .info .dims .«ivector_dim») (not-false _ (h .1 .1 .1 .0));
         below = omega (arith, leb-false _ f (h .1 .1 .1 .1 .0), ready-under (s .«input_finished») (s .accepted));
       }
+
+  -- what the arithmetic of a fetch asks of the record, the tables and the rooms
+  module _ (T : FetchTaken) where
+    pub record-is : recordSound (s .info) ≡ true
+    unfolding infoSound
+    record-is = and-holds (recordSound (s .info)) _ (T .passed .whole-is .info-is) .0
+
+    pub tables-fit : tablesFit (s .info .opts) (s .info .dims) t ≡ true
+    tables-fit = subst (λ (y : TableLengths). tablesFit (s .info .opts) (s .info .dims) y ≡ true) (sym (T .tables-are)) (info-sound (s .info) (T .passed .whole-is .info-is) .1)
+
+    pub rooms-fit : roomsFit (s .info .dims) z ≡ true
+    rooms-fit = subst (λ (y : RoomLengths). roomsFit (s .info .dims) y ≡ true) (sym (T .rooms-are)) (T .passed .whole-is .rooms-fit)
 
   pub fetch-few : (fetchRefusal s t z fs f n ≡ 10 → ⊥) → (s .accepted ≤ 1000000000) × (s .mark ≤ 1000000000)
   unfolding fetchRefusal
   fetch-few h =
       by-test (not (sameTables t (s .info .tables))) (λ a. absurd (h (first-here _ _ a)))
       (λ a. by-test (not (sameRooms z (s .rooms))) (λ b. absurd (h (first-past _ _ a ∙ first-here _ _ b)))
-      (λ b. by-test (isBroken s fs) (λ c. absurd (h (first-past _ _ a ∙ first-past _ _ b ∙ first-here _ _ c))) (λ c. few s z fs (rooms-passed b c))))
-
--- what the arithmetic of a fetch asks of tables and rooms
-pub fetch-roomy : (s : IvectorStream) (t : Tables) (z : Rooms) (scratch : List Float) {fs : List ℕ} {f n : ℕ} → FetchTaken s (tableLengthsOf t) (roomLengthsOf z (length scratch)) fs f n
-    → Roomy (s .info) (t .gconsts) (t .means-invvars-t) (t .inv-vars-t) (t .sigma-inv-m) (t .u) (t .lda-t) (t .lda-offset) (t .global-mean-stats) (z .frames) (z .rows) (z .cmvn) (z .linear) (z .quadratic) (z .current) scratch
-unfolding streamScratch
-fetch-roomy s t z scratch h =
-    record {
-      left-in = h .options-are .left-is;
-      right-in = h .options-are .right-is;
-      select-in = h .options-are .gselect-is;
-      some-base = h .dims-are .some-base;
-      base-in = h .dims-are .base-is;
-      feat-in = h .dims-are .feat-is;
-      gauss-in = h .agree .gauss-fit;
-      ext-in = h .dims-are .ext-is;
-      some-ivector = h .dims-are .some-ivector;
-      ivector-in = h .dims-are .ivector-is;
-      gconsts-fit = h .tables-are .gconsts-fit;
-      means-fit = h .tables-are .means-fit;
-      invs-fit = h .tables-are .vars-fit;
-      sigma-fits = h .tables-are .sigma-fits;
-      u-fits = h .tables-are .u-fits;
-      lda-fits = h .tables-are .lda-fits;
-      offset-fits = h .tables-are .offset-fits;
-      global-fits = h .tables-are .global-fits;
-      frame-room = h .rooms-are .frames-fit;
-      row-room = omega (arith, h .rooms-are .rows-fit);
-      cmvn-fits = h .rooms-are .cmvn-fits;
-      linear-fits = h .rooms-are .linear-fits;
-      quadratic-fits = h .rooms-are .quadratic-fits;
-      current-fits = h .rooms-are .current-fits;
-      sums-fit = omega (arith, h .rooms-are .scratch-fits);
-      factor-fits = omega (arith, h .rooms-are .scratch-fits);
-    }
+      (λ b. by-test (isBroken s fs) (λ c. absurd (h (first-past _ _ a ∙ first-past _ _ b ∙ first-here _ _ c))) (λ c. few s (w .rings) (rooms-passed b c))))

@@ -21,8 +21,7 @@ use Rattle.loops.proofs.Loop.{at-end}
 use Rattle.floats.specs.Operators.{_-₃₂_, at}
 use Rattle.floats.specs.Narrow.{narrowed}
 use Rattle.definition.specs.Model.{Model}
-use Rattle.definition.specs.Machine.{fetched}
-use Rattle.ivector_stream.specs.Calls.{bitsOf, notFinite}
+use Rattle.definition.specs.Machine.{fetched, bitsOf, notFinite}
 use Rattle.ivector_fetch.specs.Steps.{fetchedAt}
 
 -- one element, as code comes to it

@@ -1,5 +1,7 @@
 // `IvectorStream::get_frame`: the fetch, in a crate of its own so that a check of the other calls stays short.
+use definition::EstimateLengths;
 use definition::IvectorStream;
+use definition::RingLengths;
 use definition::RoomLengths;
 use definition::StreamCall;
 use definition::TableLengths;
@@ -11,10 +13,11 @@ ghost use lib.Dec.{leb};
 ghost use lib.Ieee.{binary32, toBits};
 ghost use lib.Ieee.Scale.{finite};
 ghost use Rattle.loops.specs.Lists.{if_then_else_, build, over};
-ghost use Rattle.loops.specs.Refusal.{taken};
 ghost use Rattle.floats.specs.Operators.{at};
-ghost use Rattle.ivector_stream.specs.Rooms.{Tables, tableLengthsOf, Rooms, roomLengthsOf, tables, rooms};
-ghost use Rattle.ivector_stream.specs.Calls.{callOf, fetchRefusal, fetchStream, fetchVector, fetchRooms, bitsOf, notFinite};
+ghost use Rattle.definition.specs.Model.{Tables, tablesFrom, tableLengthsOf};
+ghost use Rattle.definition.specs.Machine.{bitsOf, notFinite};
+ghost use Rattle.program.specs.Rooms.{ringsFrom, estimateFrom, Rooms, roomsFrom, roomLengthsOf};
+ghost use Rattle.program.specs.Calls.{Step, fetchCall, fetchedOn, fetchRefusal, fetchStream, fetchRooms, getFrame};
 ghost use Rattle.ivector_fetch.specs.Steps.{fetchedAt};
 
 // Whether a fetch of f would bring in frames whose weights are not known yet: f is not in the statistics, and no change reached it.
@@ -141,18 +144,20 @@ fn catch_up(
     current: &mut [f64],
     scratch: &mut [f64],
 ) -> IvectorStream
-    requires { ⌜ fetchRefusal s (tableLengthsOf (tables (now gconsts) (now «means_invvars_t») (now «inv_vars_t») (now «sigma_inv_m») (now u) (now «lda_t») (now «lda_offset») (now «global_mean_stats»))) (roomLengthsOf (rooms (now frames) (now rows) (now «waiting_frames») (now «waiting_weights») (now «cmvn_stats») (now linear) (now quadratic) (now current)) (length (now scratch))) (now «waiting_frames») frame (s .info .dims .«ivector_dim») ≡ 0 ⌝ }
+    requires { ⌜ (
+        let t : Tables = tablesFrom (now gconsts) (now «means_invvars_t») (now «inv_vars_t») (now «sigma_inv_m») (now u) (now «lda_t») (now «lda_offset») (now «global_mean_stats») in
+        let z : Rooms = roomsFrom (ringsFrom (now frames) (now rows) (now «waiting_frames») (now «waiting_weights»)) (estimateFrom (now «cmvn_stats») (now linear) (now quadratic) (now current)) in
+        fetchRefusal s (tableLengthsOf t) (roomLengthsOf z (length (now scratch))) (now «waiting_frames») frame (s .info .dims .«ivector_dim») ≡ 0) ⌝ }
     requires { ⌜ s .«num_frames_stats» ≤ frame ⌝ }
     ensures { λ r. ⌜ (
-        let t : Tables = (tables (now (gconsts .entry)) (now («means_invvars_t» .entry)) (now («inv_vars_t» .entry)) (now («sigma_inv_m» .entry)) (now (u .entry)) (now («lda_t» .entry)) (now («lda_offset» .entry)) (now («global_mean_stats» .entry))) in
-        let z : Rooms = (rooms (now (frames .entry)) (now (rows .entry)) (now («waiting_frames» .entry)) (now («waiting_weights» .entry)) (now («cmvn_stats» .entry)) (now (linear .entry)) (now (quadratic .entry)) (now (current .entry))) in
+        let t : Tables = tablesFrom (now (gconsts .entry)) (now («means_invvars_t» .entry)) (now («inv_vars_t» .entry)) (now («sigma_inv_m» .entry))
+        (now (u .entry)) (now («lda_t» .entry)) (now («lda_offset» .entry)) (now («global_mean_stats» .entry)) in
+        let z : Rooms = roomsFrom (ringsFrom (now (frames .entry)) (now (rows .entry)) (now («waiting_frames» .entry)) (now («waiting_weights» .entry)))
+        (estimateFrom (now («cmvn_stats» .entry)) (now (linear .entry)) (now (quadratic .entry)) (now (current .entry))) in
         (r ≡ fetchStream s t z frame)
-        × (now («waiting_frames» .exit) ≡ fetchRooms s t z frame .waiting-frames)
-        × (now («waiting_weights» .exit) ≡ fetchRooms s t z frame .waiting-weights)
-        × (now («cmvn_stats» .exit) ≡ fetchRooms s t z frame .cmvn)
-        × (now (linear .exit) ≡ fetchRooms s t z frame .linear)
-        × (now (quadratic .exit) ≡ fetchRooms s t z frame .quadratic)
-        × (now (current .exit) ≡ fetchRooms s t z frame .current)) ⌝ }
+        × ((roomsFrom (ringsFrom (now (frames .entry)) (now (rows .entry)) (now («waiting_frames» .exit)) (now («waiting_weights» .exit)))
+        (estimateFrom (now («cmvn_stats» .exit)) (now (linear .exit)) (now (quadratic .exit)) (now (current .exit))))
+        ≡ fetchRooms s t z frame)) ⌝ }
 {
     let n = delta_weights::up_to(waiting_frames, s.waiting, frame);
     let num_frames = ivector_update::update_rooms(
@@ -211,17 +216,19 @@ fn bring_up(
     current: &mut [f64],
     scratch: &mut [f64],
 ) -> IvectorStream
-    requires { ⌜ fetchRefusal s (tableLengthsOf (tables (now gconsts) (now «means_invvars_t») (now «inv_vars_t») (now «sigma_inv_m») (now u) (now «lda_t») (now «lda_offset») (now «global_mean_stats»))) (roomLengthsOf (rooms (now frames) (now rows) (now «waiting_frames») (now «waiting_weights») (now «cmvn_stats») (now linear) (now quadratic) (now current)) (length (now scratch))) (now «waiting_frames») frame (s .info .dims .«ivector_dim») ≡ 0 ⌝ }
+    requires { ⌜ (
+        let t : Tables = tablesFrom (now gconsts) (now «means_invvars_t») (now «inv_vars_t») (now «sigma_inv_m») (now u) (now «lda_t») (now «lda_offset») (now «global_mean_stats») in
+        let z : Rooms = roomsFrom (ringsFrom (now frames) (now rows) (now «waiting_frames») (now «waiting_weights»)) (estimateFrom (now «cmvn_stats») (now linear) (now quadratic) (now current)) in
+        fetchRefusal s (tableLengthsOf t) (roomLengthsOf z (length (now scratch))) (now «waiting_frames») frame (s .info .dims .«ivector_dim») ≡ 0) ⌝ }
     ensures { λ r. ⌜ (
-        let t : Tables = (tables (now (gconsts .entry)) (now («means_invvars_t» .entry)) (now («inv_vars_t» .entry)) (now («sigma_inv_m» .entry)) (now (u .entry)) (now («lda_t» .entry)) (now («lda_offset» .entry)) (now («global_mean_stats» .entry))) in
-        let z : Rooms = (rooms (now (frames .entry)) (now (rows .entry)) (now («waiting_frames» .entry)) (now («waiting_weights» .entry)) (now («cmvn_stats» .entry)) (now (linear .entry)) (now (quadratic .entry)) (now (current .entry))) in
+        let t : Tables = tablesFrom (now (gconsts .entry)) (now («means_invvars_t» .entry)) (now («inv_vars_t» .entry)) (now («sigma_inv_m» .entry))
+        (now (u .entry)) (now («lda_t» .entry)) (now («lda_offset» .entry)) (now («global_mean_stats» .entry)) in
+        let z : Rooms = roomsFrom (ringsFrom (now (frames .entry)) (now (rows .entry)) (now («waiting_frames» .entry)) (now («waiting_weights» .entry)))
+        (estimateFrom (now («cmvn_stats» .entry)) (now (linear .entry)) (now (quadratic .entry)) (now (current .entry))) in
         (r ≡ fetchStream s t z frame)
-        × (now («waiting_frames» .exit) ≡ fetchRooms s t z frame .waiting-frames)
-        × (now («waiting_weights» .exit) ≡ fetchRooms s t z frame .waiting-weights)
-        × (now («cmvn_stats» .exit) ≡ fetchRooms s t z frame .cmvn)
-        × (now (linear .exit) ≡ fetchRooms s t z frame .linear)
-        × (now (quadratic .exit) ≡ fetchRooms s t z frame .quadratic)
-        × (now (current .exit) ≡ fetchRooms s t z frame .current)) ⌝ }
+        × ((roomsFrom (ringsFrom (now (frames .entry)) (now (rows .entry)) (now («waiting_frames» .exit)) (now («waiting_weights» .exit)))
+        (estimateFrom (now («cmvn_stats» .exit)) (now (linear .exit)) (now (quadratic .exit)) (now (current .exit))))
+        ≡ fetchRooms s t z frame)) ⌝ }
 {
     if frame < s.num_frames_stats {
         return s;
@@ -274,18 +281,15 @@ pub fn get_frame(
     out: &mut [u32],
 ) -> StreamCall
     ensures { λ r. ⌜ (
-        let t : Tables = (tables (now (gconsts .entry)) (now («means_invvars_t» .entry)) (now («inv_vars_t» .entry)) (now («sigma_inv_m» .entry)) (now (u .entry)) (now («lda_t» .entry)) (now («lda_offset» .entry)) (now («global_mean_stats» .entry))) in
-        let z : Rooms = (rooms (now (frames .entry)) (now (rows .entry)) (now («waiting_frames» .entry)) (now («waiting_weights» .entry)) (now («cmvn_stats» .entry)) (now (linear .entry)) (now (quadratic .entry)) (now (current .entry))) in
-        let n : ℕ = fetchRefusal s (tableLengthsOf t) (roomLengthsOf z (length (now (scratch .entry)))) (now («waiting_frames» .entry)) frame (length (now (out .entry))) in
-        (r ≡ callOf n (taken n (fetchStream s t z frame) s) (taken n (notFinite (fetchVector s t z frame)) 0))
-        × (now («waiting_frames» .exit) ≡ taken n (fetchRooms s t z frame .waiting-frames) (now («waiting_frames» .entry)))
-        × (now («waiting_weights» .exit) ≡ taken n (fetchRooms s t z frame .waiting-weights) (now («waiting_weights» .entry)))
-        × (now («cmvn_stats» .exit) ≡ taken n (fetchRooms s t z frame .cmvn) (now («cmvn_stats» .entry)))
-        × (now (linear .exit) ≡ taken n (fetchRooms s t z frame .linear) (now (linear .entry)))
-        × (now (quadratic .exit) ≡ taken n (fetchRooms s t z frame .quadratic) (now (quadratic .entry)))
-        × (now (current .exit) ≡ taken n (fetchRooms s t z frame .current) (now (current .entry)))
-        × ((n ≡ 0 → ⊥) → now (scratch .exit) ≡ now (scratch .entry))
-        × (now (out .exit) ≡ taken n (over (bitsOf (fetchVector s t z frame)) (now (out .entry))) (now (out .entry)))) ⌝ }
+        let t : Tables = tablesFrom (now (gconsts .entry)) (now («means_invvars_t» .entry)) (now («inv_vars_t» .entry)) (now («sigma_inv_m» .entry))
+        (now (u .entry)) (now («lda_t» .entry)) (now («lda_offset» .entry)) (now («global_mean_stats» .entry)) in
+        let z : Rooms = roomsFrom (ringsFrom (now (frames .entry)) (now (rows .entry)) (now («waiting_frames» .entry)) (now («waiting_weights» .entry)))
+        (estimateFrom (now («cmvn_stats» .entry)) (now (linear .entry)) (now (quadratic .entry)) (now (current .entry))) in
+        let x : Step = getFrame s t z (length (now (scratch .entry))) frame (length (now (out .entry))) in
+        (fetchCall r (roomsFrom (ringsFrom (now (frames .entry)) (now (rows .entry)) (now («waiting_frames» .exit)) (now («waiting_weights» .exit)))
+        (estimateFrom (now («cmvn_stats» .exit)) (now (linear .exit)) (now (quadratic .exit)) (now (current .exit)))) (now (out .exit))
+        ≡ fetchedOn s z (now (out .entry)) x)
+        × ((x .refusal ≡ 0 → ⊥) → now (scratch .exit) ≡ now (scratch .entry))) ⌝ }
 {
     let tables = TableLengths {
         gconsts: gconsts.len(),
@@ -297,17 +301,20 @@ pub fn get_frame(
         lda_offset: lda_offset.len(),
         global_mean_stats: global_mean_stats.len(),
     };
-    let rooms = RoomLengths {
+    let rings = RingLengths {
         frames: frames.len(),
         rows: rows.len(),
         waiting_frames: waiting_frames.len(),
         waiting_weights: waiting_weights.len(),
+    };
+    let estimate = EstimateLengths {
         cmvn_stats: cmvn_stats.len(),
         linear: linear.len(),
         quadratic: quadratic.len(),
         current: current.len(),
         scratch: scratch.len(),
     };
+    let rooms = RoomLengths { rings, estimate };
     let refusal = fetch_refusal(s, tables, rooms, waiting_frames, frame, out.len());
     if refusal != 0 {
         return ivector_stream::reply(refusal, s, 0);

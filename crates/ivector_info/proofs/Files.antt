@@ -1,4 +1,5 @@
--- The four files, one after the other.
+-- The four files, one after the other: a file that is refused ends the load, and what one that is read holds goes on. Then what the
+-- checks of all four say of the dimensions.
 use mathlib.Core.Path.{_≡_, refl, sym, ap, _∙_, subst}
 use mathlib.Core.Bool.{true}
 use mathlib.Core.List.{List, []}
@@ -56,9 +57,9 @@ row-counted s n at o = let e : n ≡ n - 1 + 1 = omega (arith, o .low) in subst 
 
 -- ---- what was checked
 
-module _ (f : Files) (d : Dimensions) (dim rows : ℕ) (prior : Float) (at : Places) (x : CheckedIn f d dim rows at) where
-  pub dims-are : dimsOf (contentsAt f d dim rows prior at) ≡ d
-  dims-are =
+module _ {f : Files} {d : Dimensions} {dim rows : ℕ} {at : Places} (x : CheckedIn f d dim rows at) where
+  pub dims-are : (prior : Float) → dimsOf (contentsAt f d dim rows prior at) ≡ d
+  dims-are prior =
       let e : length (cells (line (f .cmvn) (at .row))) - 1 ≡ d .«base_dim» = omega (arith, x .row-in .many) in
       ap
       (λ (b : ℕ).

@@ -1,4 +1,4 @@
--- Each way out of the judgement, and what it says of the load.
+-- Each way out of the judgement, and what it says of the load: the files are read first, then judged together.
 use mathlib.Core.Path.{_≡_, refl, sym, ap, _∙_}
 use mathlib.Core.Bool.{Bool, true, false, _&&_}
 use mathlib.Core.List.{List, []}
@@ -18,7 +18,7 @@ use Rattle.definition.specs.Kaldi.{Gmm, Extractor, Matrix, gmm, extractor, lda}
 use Rattle.definition.specs.Text.{cmvn}
 use Rattle.definition.specs.Model.{Files, Contents, Model, file, dimsOf, contentsAgree, modelOf, tablesFit, loadScratch, judged, loading, load}
 use Rattle.kaldi_io.proofs.Chain.{goes, stops, met, unmet}
-use Rattle.limits.proofs.Ranges.{agreeing}
+use Rattle.definition.proofs.Ranges.{agreeing}
 use Rattle.ivector_info.specs.declared.Places.{Places}
 use Rattle.ivector_info.specs.Steps.{contents, contentsAt, CheckedIn, JudgedIn}
 use Rattle.ivector_info.proofs.Files.{dims-are}
@@ -80,49 +80,65 @@ module _ (o : IvectorOptions) (z : TableLengths) (n : ℕ) (f : Files) where
         unfolding judged
         taken e = past-files (goes (judged o z n) [] (sym h) (goes _ [] (sym (met 5 [] 0 a)) (goes _ [] (sym (met 8 [] 0 e)) refl)))
 
-  -- ---- the tests, as code makes them
+-- ---- the tests, as code makes them
 
-  module _ (options-in : optionsInRange o ≡ true) (d : Dimensions) (dim rows : ℕ) (prior : Float) (at : Places) (x : CheckedIn f d dim rows at)
-      (h : read (contentsAt f d dim rows prior at) 0 ≡ contents f) where
-    agreed : {a : Bool} → dimsAgree o d ≡ a → contentsAgree o (contentsAt f d dim rows prior at) ≡ (a && (eqb rows (d .«feat_dim») && (eqb dim (d .«feat_dim») && true)))
-    unfolding contentsAgree allOf
-    agreed e = rw (dims-are f d dim rows prior at x, e)
+-- what is known once the files are read
+pub record FilesRead (o : IvectorOptions) (f : Files) (d : Dimensions) (dim rows : ℕ) (prior : Float) (at : Places) : Type 0 where
+  pub options-in : optionsInRange o ≡ true
+  pub inside : CheckedIn f d dim rows at
+  pub there : read (contentsAt f d dim rows prior at) 0 ≡ contents f
 
-    pub dims-apart : dimsAgree o d ≡ false → refused 5 ≡ load o f z n
-    dims-apart e = apart options-in h (agreed e)
+module _ (z : TableLengths) (n : ℕ) {o : IvectorOptions} {f : Files} {d : Dimensions} {dim rows : ℕ} {prior : Float} {at : Places} (k : FilesRead o f d dim rows prior at) where
+  abbrev here : Contents
+  here = contentsAt f d dim rows prior at
 
-    module _ (a : dimsAgree o d ≡ true) where
-      pub rows-apart : (rows ≡ d .«feat_dim» → ⊥) → refused 5 ≡ load o f z n
-      rows-apart e = apart options-in h (agreed a ∙ rw (ne-eqb _ _ e))
+  agreed : {a : Bool} → dimsAgree o d ≡ a → contentsAgree o here ≡ (a && (eqb rows (d .«feat_dim») && (eqb dim (d .«feat_dim») && true)))
+  unfolding contentsAgree allOf
+  agreed e = rw (dims-are (k .inside) prior, e)
 
-      module _ (r : rows ≡ d .«feat_dim») where
-        pub dim-apart : (dim ≡ d .«feat_dim» → ⊥) → refused 5 ≡ load o f z n
-        dim-apart e = apart options-in h (agreed a ∙ rw (eq-eqb _ _ r, ne-eqb _ _ e))
+  not-agreed : contentsAgree o here ≡ false → refused 5 ≡ load o f z n
+  not-agreed e = apart o z n f (k .options-in) (k .there) e
 
-        module _ (g : dim ≡ d .«feat_dim») where
-          all-agree : contentsAgree o (contentsAt f d dim rows prior at) ≡ true
-          all-agree = agreed a ∙ rw (eq-eqb _ _ r, eq-eqb _ _ g)
+  pub dims-apart : dimsAgree o d ≡ false → refused 5 ≡ load o f z n
+  dims-apart e = not-agreed (agreed e)
 
-          pub tables-short : tablesFit o d z ≡ false → refused 8 ≡ load o f z n
-          tables-short e = short options-in h all-agree (rw (dims-are f d dim rows prior at x, e))
+  module _ (a : dimsAgree o d ≡ true) where
+    pub rows-apart : (rows ≡ d .«feat_dim» → ⊥) → refused 5 ≡ load o f z n
+    rows-apart e = not-agreed (agreed a ∙ rw (ne-eqb _ _ e))
 
-          module _ (t : tablesFit o d z ≡ true) where
-            pub scratch-short : n < loadScratch d → refused 8 ≡ load o f z n
-            scratch-short e = short options-in h all-agree (rw (dims-are f d dim rows prior at x, t, lt-leb _ _ e))
+    module _ (r : rows ≡ d .«feat_dim») where
+      pub dim-apart : (dim ≡ d .«feat_dim» → ⊥) → refused 5 ≡ load o f z n
+      dim-apart e = not-agreed (agreed a ∙ rw (eq-eqb _ _ r, ne-eqb _ _ e))
 
-            module _ (s : loadScratch d ≤ n) where
-              pub all-taken : read (modelOf o (contentsAt f d (d .«feat_dim») (d .«feat_dim») prior at) z) 0 ≡ load o f z n
-              all-taken =
-                  ap (λ (k : ℕ). read (modelOf o (contentsAt f d k (d .«feat_dim») prior at) z) 0) (sym g)
-                  ∙ ap (λ (k : ℕ). read (modelOf o (contentsAt f d dim k prior at) z) 0) (sym r)
-                  ∙ taken options-in h all-agree (rw (dims-are f d dim rows prior at x, t, le-leb _ _ s))
+      module _ (g : dim ≡ d .«feat_dim») where
+        all-agree : contentsAgree o here ≡ true
+        all-agree = agreed a ∙ rw (eq-eqb _ _ r, eq-eqb _ _ g)
 
-              pub judged-in : JudgedIn o z n f d at
-              judged-in =
-                  record {
-                    files-in = rw (r, g) at x;
-                    options-in = options-in;
-                    spliced-in = ⊎-elim (λ (e : d .«lda_cols» ≡ spliced o d). omega arith) (λ (e : d .«lda_cols» ≡ spliced o d + 1). omega arith) (agreeing o d a .columns-are);
-                    tables-fit = t;
-                    scratch-fits = s;
-                  }
+        no-room : (tablesFit o (dimsOf here) z && leb (loadScratch (dimsOf here)) n) ≡ false → refused 8 ≡ load o f z n
+        no-room e = short o z n f (k .options-in) (k .there) all-agree e
+
+        pub tables-short : tablesFit o d z ≡ false → refused 8 ≡ load o f z n
+        tables-short e = no-room (rw (dims-are (k .inside) prior, e))
+
+        module _ (t : tablesFit o d z ≡ true) where
+          pub scratch-short : n < loadScratch d → refused 8 ≡ load o f z n
+          scratch-short e = no-room (rw (dims-are (k .inside) prior, t, lt-leb _ _ e))
+
+          module _ (s : loadScratch d ≤ n) where
+            pub all-taken : read (modelOf o (contentsAt f d (d .«feat_dim») (d .«feat_dim») prior at) z) 0 ≡ load o f z n
+            all-taken =
+                ap (λ (m : ℕ). read (modelOf o (contentsAt f d m (d .«feat_dim») prior at) z) 0) (sym g)
+                ∙ ap (λ (m : ℕ). read (modelOf o (contentsAt f d dim m prior at) z) 0) (sym r)
+                ∙ taken o z n f (k .options-in) (k .there) all-agree (rw (dims-are (k .inside) prior, t, le-leb _ _ s))
+
+            pub judged-in : JudgedIn o z n f d at
+            judged-in =
+                record {
+                  files-in = rw (r, g) at (k .inside);
+                  options-in = k .options-in;
+                  spliced-in =
+                      ⊎-elim (λ (e : d .«lda_cols» ≡ spliced o d). omega arith) (λ (e : d .«lda_cols» ≡ spliced o d + 1). omega arith)
+                      (agreeing o d a .columns-are);
+                  tables-fit = t;
+                  scratch-fits = s;
+                }

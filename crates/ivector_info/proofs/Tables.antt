@@ -1,4 +1,5 @@
--- The tables of a load, as its fills leave them.
+-- The tables of a load: a refusal leaves them as they were, and what the eight fills say of one table each is one equation of all eight.
+-- The lengths that the judgement passed are room for each fill.
 use mathlib.Core.Path.{_≡_, refl, sym, ap, _∙_}
 use mathlib.Core.List.{List}
 use Prim.Native.Nat.{ℕ, _*_, _≤_}
@@ -11,15 +12,16 @@ use Rattle.definition.specs.declared.TableLengths.{TableLengths}
 use Rattle.definition.specs.declared.Loaded.the-variants as L
 use Rattle.definition.specs.Options.{spliced}
 use Rattle.definition.specs.Reader.{Got, read, refused}
+use Rattle.definition.specs.Kaldi.{Matrix, Gmm}
 use Rattle.definition.specs.Text.{line}
-use Rattle.definition.specs.Model.{Files, Model, modelOf, gconst, transposed, loadedOf, tableOf}
+use Rattle.definition.specs.Model.{Files, Contents, Tables, tablesFrom, tablesOf, filledTables, Model, modelOf, gconst, transposed, loadedOf, loadedTables}
+use Rattle.definition.proofs.Ranges.{tables-fitting}
 use Rattle.kaldi_text.specs.Answers.{cells}
 use Rattle.ivector_tables.specs.Steps.{floatMatrix, gmmAt, ldaOffset, sigmaInvMs, quadraticTerms}
 use Rattle.ivector_info.specs.Load.{scratchKept}
 use Rattle.ivector_info.specs.declared.Places.{Places}
 use Rattle.ivector_info.specs.Steps.{contentsAt, CheckedIn, JudgedIn, GmmFits, LdaFits}
 use Rattle.ivector_info.proofs.Files.{dims-are}
-use Rattle.limits.proofs.Ranges.{tables-fitting}
 
 -- ---- a refusal
 
@@ -27,68 +29,62 @@ module _ {g : Got Model} {n : ℕ} (e : g ≡ refused n) where
   pub loaded-no : L.Refused n ≡ loadedOf g
   loaded-no = rw e
 
-  pub table-same : (t : Model → List Float) (room : List Float) → room ≡ tableOf g t room
-  table-same t room = rw e
+  pub tables-same : (t : Tables) → t ≡ loadedTables g t
+  tables-same t = rw e
 
   pub scratch-same : (room : List Float) → scratchKept g room room
   scratch-same room = rw e refl
 
 -- ---- a load
 
-module _ (o : IvectorOptions) (z : TableLengths) (f : Files) (d : Dimensions) (prior : Float) (at : Places)
+-- tables by their parts
+filled : (x t : Tables) {a b c d e f g h : List Float}
+    → a ≡ over (x .gconsts) (t .gconsts) → b ≡ over (x .means-invvars-t) (t .means-invvars-t) → c ≡ over (x .inv-vars-t) (t .inv-vars-t)
+    → d ≡ over (x .sigma-inv-m) (t .sigma-inv-m) → e ≡ over (x .u) (t .u)
+    → f ≡ over (x .lda-t) (t .lda-t) → g ≡ over (x .lda-offset) (t .lda-offset) → h ≡ over (x .global-mean-stats) (t .global-mean-stats)
+    → tablesFrom a b c d e f g h ≡ filledTables x t
+filled x t p q r s u v w y = rw (p, q, r, s, u, v, w, y)
+
+module _ (o : IvectorOptions) (z : TableLengths) {f : Files} {d : Dimensions} (prior : Float) {at : Places}
     (x : CheckedIn f d (d .«feat_dim») (d .«feat_dim») at) {g : Got Model}
     (e : g ≡ read (modelOf o (contentsAt f d (d .«feat_dim») (d .«feat_dim») prior at) z) 0) where
-  abbrev model : Model
-  model = modelOf o (contentsAt f d (d .«feat_dim») (d .«feat_dim») prior at) z
+  abbrev here : Contents
+  here = contentsAt f d (d .«feat_dim») (d .«feat_dim») prior at
+
+  abbrev theirs : Gmm
+  theirs = gmmAt (f .gmm) (d .«num_gauss») (d .«feat_dim») (at .weights) (at .«means_invvars») (at .«inv_vars»)
+
+  abbrev turning : Matrix
+  turning = floatMatrix (f .lda) (d .«feat_dim») (d .«lda_cols») (at .lda)
 
   pub loaded-is : L.Model (record { opts = o; dims = d; «prior_offset» = prior; tables = z }) ≡ loadedOf g
-  unfolding modelOf
-  loaded-is = rw e (ap (λ (k : Dimensions). L.Model (record { opts = o; dims = k; «prior_offset» = prior; tables = z })) (sym (dims-are f d (d .«feat_dim») (d .«feat_dim») prior at x)))
+  loaded-is =
+      rw e
+      (ap (λ (k : Dimensions). L.Model (record { opts = o; dims = k; «prior_offset» = prior; tables = z }))
+      (sym (dims-are x prior)))
 
   pub scratch-free : (before after : List Float) → scratchKept g before after
   scratch-free before after = rw e tt
 
-  module _ {y : List Float} (room : List Float) where
-    table-is : (t : Model → List Float) → y ≡ over (t model) room → y ≡ tableOf g t room
-    table-is t h = h ∙ sym (ap (λ (g : Got Model). tableOf g t room) e)
-
-    pub gconsts-are : y ≡ over (build (d .«num_gauss») (gconst (gmmAt (f .gmm) (d .«num_gauss») (d .«feat_dim») (at .weights) (at .«means_invvars») (at .«inv_vars»)))) room → y ≡ tableOf g (λ M. M .gconsts) room
-    unfolding modelOf
-    gconsts-are h = table-is (λ M. M .gconsts) h
-
-    pub means-are : y ≡ over (transposed (d .«feat_dim») (floatMatrix (f .gmm) (d .«num_gauss») (d .«feat_dim») (at .«means_invvars»))) room → y ≡ tableOf g (λ M. M .means-invvars-t) room
-    unfolding modelOf
-    means-are h = table-is (λ M. M .means-invvars-t) h
-
-    pub vars-are : y ≡ over (transposed (d .«feat_dim») (floatMatrix (f .gmm) (d .«num_gauss») (d .«feat_dim») (at .«inv_vars»))) room → y ≡ tableOf g (λ M. M .inv-vars-t) room
-    unfolding modelOf
-    vars-are h = table-is (λ M. M .inv-vars-t) h
-
-    pub sims-are : y ≡ over (sigmaInvMs (f .extractor) (d .«ext_gauss») (d .«feat_dim») (d .«ivector_dim») (at .m) (at .«sigma_inv»)) room → y ≡ tableOf g (λ M. M .sigma-inv-m) room
-    unfolding modelOf sigmaInvMs
-    sims-are h = table-is (λ M. M .sigma-inv-m) h
-
-    pub us-are : y ≡ over (quadraticTerms (f .extractor) (d .«ext_gauss») (d .«feat_dim») (d .«ivector_dim») (at .m) (at .«sigma_inv»)) room → y ≡ tableOf g (λ M. M .u) room
-    unfolding modelOf quadraticTerms
-    us-are h = table-is (λ M. M .u) h
-
-    pub lda-is : y ≡ over (transposed (spliced o d) (floatMatrix (f .lda) (d .«feat_dim») (d .«lda_cols») (at .lda))) room → y ≡ tableOf g (λ M. M .lda-t) room
-    unfolding modelOf
-    lda-is h =
-        table-is (λ M. M .lda-t)
-        (h
-        ∙ ap (λ (k : Dimensions). over (transposed (spliced o k) (floatMatrix (f .lda) (d .«feat_dim») (d .«lda_cols») (at .lda))) room) (sym (dims-are f d (d .«feat_dim») (d .«feat_dim») prior at x)))
-
-    pub offset-is : y ≡ over (build (d .«feat_dim») (ldaOffset (spliced o d) (floatMatrix (f .lda) (d .«feat_dim») (d .«lda_cols») (at .lda)))) room → y ≡ tableOf g (λ M. M .lda-offset) room
-    unfolding modelOf ldaOffset
-    offset-is h =
-        table-is (λ M. M .lda-offset)
-        (h
-        ∙ ap (λ (k : Dimensions). over (build (d .«feat_dim») (ldaOffset (spliced o k) (floatMatrix (f .lda) (d .«feat_dim») (d .«lda_cols») (at .lda)))) room) (sym (dims-are f d (d .«feat_dim») (d .«feat_dim») prior at x)))
-
-    pub global-is : y ≡ over (cells (line (f .cmvn) (at .row))) room → y ≡ tableOf g (λ M. M .global-mean-stats) room
-    unfolding modelOf
-    global-is h = table-is (λ M. M .global-mean-stats) h
+  -- what `fill_gmm`, `fill_gaussians` and `fill_lda` say
+  pub tables-are : (t : Tables) {gconsts means vars sims us turned offset row : List Float}
+      → (gconsts ≡ over (build (d .«num_gauss») (gconst theirs)) (t .gconsts))
+      × (means ≡ over (transposed (d .«feat_dim») (theirs .means-invvars)) (t .means-invvars-t))
+      × (vars ≡ over (transposed (d .«feat_dim») (theirs .inv-vars)) (t .inv-vars-t))
+      → (sims ≡ over (sigmaInvMs (f .extractor) (d .«ext_gauss») (d .«feat_dim») (d .«ivector_dim») (at .m) (at .«sigma_inv»)) (t .sigma-inv-m))
+      × (us ≡ over (quadraticTerms (f .extractor) (d .«ext_gauss») (d .«feat_dim») (d .«ivector_dim») (at .m) (at .«sigma_inv»)) (t .u))
+      → (turned ≡ over (transposed (spliced o d) turning) (t .lda-t))
+      × (offset ≡ over (build (d .«feat_dim») (ldaOffset (spliced o d) turning)) (t .lda-offset))
+      × (row ≡ over (cells (line (f .cmvn) (at .row))) (t .global-mean-stats))
+      → tablesFrom gconsts means vars sims us turned offset row ≡ loadedTables g t
+  unfolding tablesOf sigmaInvMs quadraticTerms ldaOffset
+  tables-are t p q r =
+      let same = sym (dims-are x prior) in
+      filled (tablesOf o here) t (p .0) (p .1) (p .2) (q .0) (q .1)
+      (r .0 ∙ ap (λ (k : Dimensions). over (transposed (spliced o k) turning) (t .lda-t)) same)
+      (r .1 ∙ ap (λ (k : Dimensions). over (build (d .«feat_dim») (ldaOffset (spliced o k) turning)) (t .lda-offset)) same)
+      (r .2)
+      ∙ sym (ap (λ (g : Got Model). loadedTables g t) e)
 
 -- ---- what the fills are lent
 

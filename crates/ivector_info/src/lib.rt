@@ -27,10 +27,10 @@ ghost use lib.ListN.{length};
 ghost use Rattle.loops.specs.Lists.{build, over};
 ghost use Rattle.definition.specs.Options.{spliced};
 ghost use Rattle.definition.specs.Text.{line};
-ghost use Rattle.definition.specs.Model.{gconst, transposed, load as loadOf, loadedOf, tableOf};
+ghost use Rattle.definition.specs.Model.{gconst, transposed, Tables, tablesFrom, tableLengthsOf, Files, load as loadOf, loadedOf, loadedTables};
 ghost use Rattle.kaldi_text.specs.Answers.{cells};
 ghost use Rattle.ivector_tables.specs.Steps.{floatMatrix, gmmAt, ldaOffset};
-ghost use Rattle.ivector_info.specs.Load.{filesOf, lengthsOf, scratchKept};
+ghost use Rattle.ivector_info.specs.Load.{filesOf, scratchKept};
 ghost use Rattle.ivector_info.specs.Steps.{contents, checkedOf, checkedIn, judgedOf, judgedIn, GmmFits, LdaFits};
 
 // Where the numbers stand in their files, and where the text's first row is looked for.
@@ -59,8 +59,9 @@ pub enum Checked {
 }
 
 fn check_files(gmm: &[u8], extractor: &[u8], lda: &[u8], cmvn: &[u8]) -> Checked
-    ensures { λ r. ⌜ checkedOf (filesOf (now (gmm .entry)) (now (extractor .entry)) (now (lda .entry)) (now (cmvn .entry))) r ≡ contents (filesOf (now (gmm .entry)) (now (extractor .entry)) (now (lda .entry)) (now (cmvn .entry))) ⌝ }
-    ensures { λ r. ⌜ checkedIn (filesOf (now (gmm .entry)) (now (extractor .entry)) (now (lda .entry)) (now (cmvn .entry))) r ⌝ }
+    ensures { λ r. ⌜ (
+        let f : Files = filesOf (now (gmm .entry)) (now (extractor .entry)) (now (lda .entry)) (now (cmvn .entry)) in
+        (checkedOf f r ≡ contents f) × checkedIn f r) ⌝ }
 {
     match check_gmm(gmm) {
         Gmm::Refused(e) => Checked::Refused(e),
@@ -146,8 +147,9 @@ fn judge(
     z: TableLengths,
     scratch: usize,
 ) -> Judged
-    ensures { λ r. ⌜ judgedOf opts z (filesOf (now (gmm .entry)) (now (extractor .entry)) (now (lda .entry)) (now (cmvn .entry))) r ≡ loadOf opts (filesOf (now (gmm .entry)) (now (extractor .entry)) (now (lda .entry)) (now (cmvn .entry))) z scratch ⌝ }
-    ensures { λ r. ⌜ judgedIn opts z scratch (filesOf (now (gmm .entry)) (now (extractor .entry)) (now (lda .entry)) (now (cmvn .entry))) r ⌝ }
+    ensures { λ r. ⌜ (
+        let f : Files = filesOf (now (gmm .entry)) (now (extractor .entry)) (now (lda .entry)) (now (cmvn .entry)) in
+        (judgedOf opts z f r ≡ loadOf opts f z scratch) × judgedIn opts z scratch f r) ⌝ }
 {
     if !options_in_range(opts) {
         return Judged::Refused(1);
@@ -196,9 +198,11 @@ fn fill_gmm(
     inv_vars_t: &mut [f32],
 )
     requires { ⌜ GmmFits (now s) dims places (length (now gconsts)) (length (now «means_invvars_t»)) (length (now «inv_vars_t»)) ⌝ }
-    ensures { λ _. ⌜ now (gconsts .exit) ≡ over (build (dims .«num_gauss») (gconst (gmmAt (now (s .entry)) (dims .«num_gauss») (dims .«feat_dim») (places .weights) (places .«means_invvars») (places .«inv_vars»)))) (now (gconsts .entry)) ⌝ }
-    ensures { λ _. ⌜ now («means_invvars_t» .exit) ≡ over (transposed (dims .«feat_dim») (floatMatrix (now (s .entry)) (dims .«num_gauss») (dims .«feat_dim») (places .«means_invvars»))) (now («means_invvars_t» .entry)) ⌝ }
-    ensures { λ _. ⌜ now («inv_vars_t» .exit) ≡ over (transposed (dims .«feat_dim») (floatMatrix (now (s .entry)) (dims .«num_gauss») (dims .«feat_dim») (places .«inv_vars»))) (now («inv_vars_t» .entry)) ⌝ }
+    ensures { λ _. ⌜ (
+        let x = gmmAt (now (s .entry)) (dims .«num_gauss») (dims .«feat_dim») (places .weights) (places .«means_invvars») (places .«inv_vars») in
+        (now (gconsts .exit) ≡ over (build (dims .«num_gauss») (gconst x)) (now (gconsts .entry)))
+        × (now («means_invvars_t» .exit) ≡ over (transposed (dims .«feat_dim») (x .means-invvars)) (now («means_invvars_t» .entry)))
+        × (now («inv_vars_t» .exit) ≡ over (transposed (dims .«feat_dim») (x .inv-vars)) (now («inv_vars_t» .entry)))) ⌝ }
 {
     let g = dims.num_gauss;
     let d = dims.feat_dim;
@@ -226,9 +230,11 @@ fn fill_lda(
     global_mean_stats: &mut [f64],
 )
     requires { ⌜ LdaFits opts (now lda) (now cmvn) dims places (length (now «lda_t»)) (length (now «lda_offset»)) (length (now «global_mean_stats»)) ⌝ }
-    ensures { λ _. ⌜ now («lda_t» .exit) ≡ over (transposed (spliced opts dims) (floatMatrix (now (lda .entry)) (dims .«feat_dim») (dims .«lda_cols») (places .lda))) (now («lda_t» .entry)) ⌝ }
-    ensures { λ _. ⌜ now («lda_offset» .exit) ≡ over (build (dims .«feat_dim») (ldaOffset (spliced opts dims) (floatMatrix (now (lda .entry)) (dims .«feat_dim») (dims .«lda_cols») (places .lda)))) (now («lda_offset» .entry)) ⌝ }
-    ensures { λ _. ⌜ now («global_mean_stats» .exit) ≡ over (cells (line (now (cmvn .entry)) (places .row))) (now («global_mean_stats» .entry)) ⌝ }
+    ensures { λ _. ⌜ (
+        let x = floatMatrix (now (lda .entry)) (dims .«feat_dim») (dims .«lda_cols») (places .lda) in
+        (now («lda_t» .exit) ≡ over (transposed (spliced opts dims) x) (now («lda_t» .entry)))
+        × (now («lda_offset» .exit) ≡ over (build (dims .«feat_dim») (ldaOffset (spliced opts dims) x)) (now («lda_offset» .entry)))
+        × (now («global_mean_stats» .exit) ≡ over (cells (line (now (cmvn .entry)) (places .row))) (now («global_mean_stats» .entry)))) ⌝ }
 {
     let rows = dims.feat_dim;
     let cols = dims.lda_cols;
@@ -256,18 +262,13 @@ pub fn load(
     global_mean_stats: &mut [f64],
     scratch: &mut [f64],
 ) -> Loaded
-    ensures { λ r. ⌜ (let got = loadOf opts (filesOf (now (gmm .entry)) (now (extractor .entry)) (now (lda .entry)) (now (cmvn .entry)))
-        (lengthsOf (length (now (gconsts .entry))) (length (now («means_invvars_t» .entry))) (length (now («inv_vars_t» .entry))) (length (now («sigma_inv_m» .entry)))
-        (length (now (u .entry))) (length (now («lda_t» .entry))) (length (now («lda_offset» .entry))) (length (now («global_mean_stats» .entry)))) (length (now (scratch .entry))) in
+    ensures { λ r. ⌜ (
+        let t : Tables = tablesFrom (now (gconsts .entry)) (now («means_invvars_t» .entry)) (now («inv_vars_t» .entry)) (now («sigma_inv_m» .entry)) (now (u .entry)) (now («lda_t» .entry)) (now («lda_offset» .entry)) (now («global_mean_stats» .entry)) in
+        let f : Files = filesOf (now (gmm .entry)) (now (extractor .entry)) (now (lda .entry)) (now (cmvn .entry)) in
+        let got = loadOf opts f (tableLengthsOf t) (length (now (scratch .entry))) in
         (r ≡ loadedOf got)
-        × (now (gconsts .exit) ≡ tableOf got (λ M. M .gconsts) (now (gconsts .entry)))
-        × (now («means_invvars_t» .exit) ≡ tableOf got (λ M. M .means-invvars-t) (now («means_invvars_t» .entry)))
-        × (now («inv_vars_t» .exit) ≡ tableOf got (λ M. M .inv-vars-t) (now («inv_vars_t» .entry)))
-        × (now («sigma_inv_m» .exit) ≡ tableOf got (λ M. M .sigma-inv-m) (now («sigma_inv_m» .entry)))
-        × (now (u .exit) ≡ tableOf got (λ M. M .u) (now (u .entry)))
-        × (now («lda_t» .exit) ≡ tableOf got (λ M. M .lda-t) (now («lda_t» .entry)))
-        × (now («lda_offset» .exit) ≡ tableOf got (λ M. M .lda-offset) (now («lda_offset» .entry)))
-        × (now («global_mean_stats» .exit) ≡ tableOf got (λ M. M .global-mean-stats) (now («global_mean_stats» .entry)))
+        × (tablesFrom (now (gconsts .exit)) (now («means_invvars_t» .exit)) (now («inv_vars_t» .exit)) (now («sigma_inv_m» .exit)) (now (u .exit)) (now («lda_t» .exit)) (now («lda_offset» .exit)) (now («global_mean_stats» .exit))
+        ≡ loadedTables got t)
         × scratchKept got (now (scratch .entry)) (now (scratch .exit))) ⌝ }
 {
     let tables = TableLengths {

@@ -1,5 +1,5 @@
--- What is known once a call is taken, and the tests of a change as code makes them.
-use mathlib.Core.Path.{_≡_, ap}
+-- What is known once a call is taken; and its refusal number, from the tests as code makes them.
+use mathlib.Core.Path.{_≡_, sym, ap, _∙_}
 use mathlib.Core.Bool.{Bool, true, false, not, _||_}
 use mathlib.Core.List.{List, [], _∷_, _++_}
 use Prim.Native.Nat.{ℕ, _+_, _-_, _≤_, _<_}
@@ -11,55 +11,76 @@ use lib.Ieee.{Float}
 use lib.Ieee.Scale.{finite}
 use borrow.Author.Tests.{not-false, eqb-true, eqb-false, eq-eqb, ne-eqb, lt-ltb, le-ltb, ltb-false}
 use Rattle.loops.specs.Lists.{anyOf}
+use Rattle.loops.specs.Refusal.{firstOf}
 use Rattle.loops.proofs.Choose.{or-first, or-second, or-none, or-fails}
-use Rattle.loops.proofs.Refusal.{none-first}
+use Rattle.loops.proofs.Refusal.{NoneFirst, FirstAt, numberAt, none-first}
 use Rattle.definition.specs.declared.IvectorInfo.{IvectorInfo}
 use Rattle.definition.specs.declared.IvectorStream.{IvectorStream}
 use Rattle.definition.specs.declared.RoomLengths.{RoomLengths}
 use Rattle.definition.specs.declared.TableLengths.{TableLengths}
+use Rattle.definition.specs.Model.{tablesFit}
 use Rattle.definition.specs.Machine.{waitingRoom, pushTests, changeTests}
-use Rattle.definition.specs.Stream.{infoSound, sameTables, roomsFit}
-use Rattle.limits.proofs.Ranges.{DimRanges, dim-ranges, info-sound, Fitting, fitting}
-use Rattle.ivector_stream.specs.Calls.{newRefusal, recordTests, pushRefusal, changeRefusal}
-use Rattle.ivector_stream.proofs.Records.{Passed, tests-passed, other-passed, few}
+use Rattle.definition.specs.Stream.{recordSound, sameTables, roomsFit, newRefusal}
+use Rattle.definition.proofs.Ranges.{DimRanges, dim-ranges, record-sound, Fitting, fitting}
+use Rattle.program.specs.Rooms.{Rings}
+use Rattle.program.specs.Calls.{recordTests, pushFrame, updateFrameWeights}
+use Rattle.ivector_stream.proofs.Records.{Passed, tests-passed, other-few, already, then-first, then-none}
 
 -- ---- a fresh stream
 
 pub record NewTaken (i : IvectorInfo) (z : RoomLengths) : Type 0 where
   pub dims-are : DimRanges (i .dims)
   pub rooms-are : Fitting (i .dims) z
-  pub row-long : i .dims .«base_dim» ≤ z .rows
+  pub row-long : i .dims .«base_dim» ≤ z .rings .rows
 
-pub new-taken : (i : IvectorInfo) (t : TableLengths) (z : RoomLengths) → newRefusal i t z ≡ 0 → NewTaken i z
+pub new-taken : (i : IvectorInfo) (t : TableLengths) (z : RoomLengths) {r : ℕ} → r ≡ newRefusal i t z → r ≡ 0 → NewTaken i z
 unfolding newRefusal
-new-taken i t z e =
-    let h = none-first ((not (sameTables t (i .tables)), 10) ∷ (not (infoSound i), 10) ∷ (not (roomsFit (i .dims) z), 8) ∷ []) tt e in
-    let f = fitting _ _ (not-false _ (h .1 .1 .0)) in
+new-taken i t z e g =
+    let fits = tablesFit (i .opts) (i .dims) (i .tables) in
+    let h = none-first ((not (sameTables t (i .tables)), 10) ∷ (not (recordSound i), 10) ∷ (not fits, 8) ∷ (not (roomsFit (i .dims) z), 8) ∷ []) tt (sym e ∙ g) in
+    let f = fitting _ _ (not-false _ (h .1 .1 .1 .0)) in
     record {
-      dims-are = dim-ranges _ (info-sound i (not-false _ (h .1 .0)) .dims-are);
+      dims-are = dim-ranges _ (record-sound i (not-false _ (h .1 .0)) .dims-are);
       rooms-are = f;
-      row-long = omega (arith, div-mul-le-self (z .rows) (i .dims .«base_dim»), mul-le-mul-right (i .dims .«base_dim») (f .rows-fit));
+      row-long = omega (arith, div-mul-le-self (z .rings .rows) (i .dims .«base_dim»), mul-le-mul-right (i .dims .«base_dim») (f .rows-fit));
     }
 
 -- ---- push
 
-module _ (s : IvectorStream) (z : RoomLengths) (fs : List ℕ) (x : List Float) where
+module _ (s : IvectorStream) (z : Rings) (x : List Float) where
+  abbrev pub push-tests : List (Bool × ℕ)
+  push-tests = pushTests (s .info .opts) (s .info .dims) (s .rooms .rings) (s .accepted) (s .mark) x
+
   pub record PushTaken : Type 0 where
-    pub passed : Passed s z fs
+    pub passed : Passed s z
     pub wide : length x ≡ s .info .dims .«base_dim»
     pub more : s .accepted < 1000000000
 
-  pub push-taken : pushRefusal s z fs x ≡ 0 → PushTaken
-  unfolding pushRefusal pushTests
-  push-taken e =
-      let h = none-first (recordTests s z fs ++ pushTests (s .info .opts) (s .info .dims) (s .rooms) (s .accepted) (s .mark) x) tt e in
-      let p = tests-passed s z fs (h .0) (h .1 .0) in
+  pub push-taken : {r : ℕ} → r ≡ pushFrame s z x .refusal → r ≡ 0 → PushTaken
+  unfolding pushFrame pushTests
+  push-taken e g =
+      let h = none-first (recordTests s z ++ push-tests) tt (sym e ∙ g) in
+      let p = tests-passed s z (h .0) (h .1 .0) in
       let f = eqb-false (s .accepted) 1000000000 (h .1 .1 .1 .1 .0) in
       record { passed = p; wide = eqb-true _ _ (not-false _ (h .1 .1 .0)); more = omega (arith, p .whole-is .few) }
 
-  pub push-few : (pushRefusal s z fs x ≡ 10 → ⊥) → (s .accepted ≤ 1000000000) × (s .mark ≤ 1000000000)
-  unfolding pushRefusal
-  push-few h = few s z fs (other-passed s z fs _ h)
+  pub push-few : {r : ℕ} → r ≡ pushFrame s z x .refusal → (r ≡ 10 → ⊥) → (s .accepted ≤ 1000000000) × (s .mark ≤ 1000000000)
+  unfolding pushFrame
+  push-few = other-few s z push-tests
+
+  -- by its tests; r is the number that those of the record gave
+  module _ {r : ℕ} (e : r ≡ firstOf (recordTests s z)) where
+    pub push-already : (r ≡ 0 → ⊥) → r ≡ pushFrame s z x .refusal
+    unfolding pushFrame
+    push-already = already s z push-tests e
+
+    pub push-first : r ≡ 0 → (k : ℕ) → FirstAt k push-tests → numberAt k push-tests ≡ pushFrame s z x .refusal
+    unfolding pushFrame
+    push-first = then-first s z push-tests e
+
+    pub push-none : r ≡ 0 → NoneFirst push-tests → 0 ≡ pushFrame s z x .refusal
+    unfolding pushFrame
+    push-none = then-none s z push-tests e
 
 -- ---- change
 
@@ -97,26 +118,43 @@ room-short {room} {n = n} {m = m} l e h = lt-ltb room (n + m) (omega arith)
 pub room-enough : {room free n m : ℕ} → n ≤ room → free ≡ room - n → m ≤ free → ltb room (n + m) ≡ false
 room-enough {room} {n = n} {m = m} l e h = le-ltb room (n + m) (omega arith)
 
-module _ (s : IvectorStream) (z : RoomLengths) (fs gs : List ℕ) (ws : List Float) where
+module _ (s : IvectorStream) (z : Rings) (gs : List ℕ) (ws : List Float) where
+  abbrev pub change-tests : List (Bool × ℕ)
+  change-tests = changeTests (s .info .opts) (s .rooms .rings) (s .mark) (s .waiting) gs ws
+
   pub record ChangeTaken : Type 0 where
-    pub passed : Passed s z fs
+    pub passed : Passed s z
     pub even : length gs ≡ length ws
     pub near : anyOf (leb 1000000000) gs ≡ false
-    pub room-is : s .waiting + length gs ≤ waitingRoom (s .rooms)
+    pub room-is : s .waiting + length gs ≤ waitingRoom (s .rooms .rings)
 
-  pub change-taken : changeRefusal s z fs gs ws ≡ 0 → ChangeTaken
-  unfolding changeRefusal changeTests
-  change-taken e =
-      let h = none-first (recordTests s z fs ++ changeTests (s .info .opts) (s .rooms) (s .mark) (s .waiting) gs ws) tt e in
+  pub change-taken : {r : ℕ} → r ≡ updateFrameWeights s z gs ws .refusal → r ≡ 0 → ChangeTaken
+  unfolding updateFrameWeights changeTests
+  change-taken e g =
+      let h = none-first (recordTests s z ++ change-tests) tt (sym e ∙ g) in
       let a = or-fails (uneven gs ws) (ltb 1024 (length gs)) (h .1 .1 .0) in
       let b = or-fails (far gs ws) (wild gs ws) (h .1 .1 .1 .0) in
       record {
-        passed = tests-passed s z fs (h .0) (h .1 .0);
+        passed = tests-passed s z (h .0) (h .1 .0);
         even = eqb-true _ _ (not-false _ (a .0));
         near = b .0;
         room-is = ltb-false _ _ (h .1 .1 .1 .1 .1 .0);
       }
 
-  pub change-few : (changeRefusal s z fs gs ws ≡ 10 → ⊥) → (s .accepted ≤ 1000000000) × (s .mark ≤ 1000000000)
-  unfolding changeRefusal
-  change-few h = few s z fs (other-passed s z fs _ h)
+  pub change-few : {r : ℕ} → r ≡ updateFrameWeights s z gs ws .refusal → (r ≡ 10 → ⊥) → (s .accepted ≤ 1000000000) × (s .mark ≤ 1000000000)
+  unfolding updateFrameWeights
+  change-few = other-few s z change-tests
+
+  -- by its tests
+  module _ {r : ℕ} (e : r ≡ firstOf (recordTests s z)) where
+    pub change-already : (r ≡ 0 → ⊥) → r ≡ updateFrameWeights s z gs ws .refusal
+    unfolding updateFrameWeights
+    change-already = already s z change-tests e
+
+    pub change-first : r ≡ 0 → (k : ℕ) → FirstAt k change-tests → numberAt k change-tests ≡ updateFrameWeights s z gs ws .refusal
+    unfolding updateFrameWeights
+    change-first = then-first s z change-tests e
+
+    pub change-none : r ≡ 0 → NoneFirst change-tests → 0 ≡ updateFrameWeights s z gs ws .refusal
+    unfolding updateFrameWeights
+    change-none = then-none s z change-tests e

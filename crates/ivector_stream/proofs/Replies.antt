@@ -1,4 +1,4 @@
--- What a call returns and leaves: its two ways out, refused and taken.
+-- What a call returns and leaves: its two ways out, refused and taken, as the one equation of its contract.
 use mathlib.Core.Path.{_≡_, refl, sym, ap, _∙_}
 use mathlib.Core.Bool.{true}
 use mathlib.Core.List.{List}
@@ -6,13 +6,13 @@ use Prim.Native.Nat.{ℕ, _+_}
 use native.Mathlib.Omega.{arith}
 use lib.ListN.{length, getD}
 use lib.Ieee.{Float}
-use lib.Dec.{eqb}
 use borrow.Author.Tests.{eq-eqb, ne-eqb}
 use Rattle.loops.specs.Lists.{build}
 use Rattle.loops.specs.Refusal.{taken}
 use Rattle.loops.proofs.Build.{length-build}
 use Rattle.loops.proofs.Choose.{choose-true, choose-false}
 use Rattle.loops.proofs.Refusal.{taken-new, taken-old}
+use Rattle.floats.specs.Operators.{at}
 use Rattle.definition.specs.declared.IvectorInfo.{IvectorInfo}
 use Rattle.definition.specs.declared.IvectorStream.{IvectorStream}
 use Rattle.definition.specs.declared.RoomLengths.{RoomLengths}
@@ -22,12 +22,13 @@ use Rattle.definition.specs.declared.StreamCall.{StreamCall}
 use Rattle.definition.specs.declared.NewStream.the-variants as N
 use Rattle.definition.specs.Changes.{Change, Changes, changed}
 use Rattle.definition.specs.Machine.{framesHeld, rowsHeld}
-use Rattle.delta_weights.specs.Waiting.{waitingIn}
-use Rattle.delta_weights.proofs.WaitingRooms.{length-waiting}
-use Rattle.delta_weights.proofs.InOrder.{length-inserts}
-use Rattle.floats.specs.Operators.{at}
-use Rattle.ivector_stream.specs.Rooms.{changesIn}
-use Rattle.ivector_stream.specs.Calls.{newRefusal, freshStream, newAnswer, answerOf, callOf, withChanges}
+use Rattle.definition.specs.Stream.{newRefusal}
+use Rattle.program.specs.Rooms.{Rings, ringsFrom, EstimateRooms, estimateFrom, roomsFrom, waitingIn, changesIn}
+use Rattle.program.specs.Calls.{freshStream, newAnswer, answerOf, callOf, withChanges, RingStep, ringCall, doneOn}
+use Rattle.program.proofs.WaitingRooms.{length-waiting}
+use Rattle.program.proofs.InOrder.{length-inserts}
+
+-- ---- an answer
 
 abbrev answer : ℕ → ℕ → ℕ → ℕ → StreamAnswer
 answer r f w n = record { refusal = r; «frames_held» = f; «rows_held» = w; «not_finite» = n }
@@ -47,33 +48,45 @@ module _ (r n : ℕ) (s : IvectorStream) where
       ap (λ (a : StreamAnswer). call a s)
       (ap (λ (k : ℕ). answer r k w n) p ∙ ap (λ (k : ℕ). answer r (framesHeld (s .accepted) (s .mark)) k n) q ∙ choose-false _ (ne-eqb r 10 h) refl)
 
--- n is the refusal number, old the record before the call, new the one after it
-module _ (n : ℕ) (old new : IvectorStream) where
-  pub refused : (r : ℕ) → r ≡ n → (r ≡ 0 → ⊥) → callOf r old 0 ≡ callOf n (taken n new old) 0
-  refused r e h = ap (λ (k : ℕ). callOf k old 0) e ∙ ap (λ (s : IvectorStream). callOf n s 0) (sym (taken-old n new old (λ z. h (e ∙ z))))
+-- ---- a call on record s and rings z that does x: n is its refusal number, c what is returned
 
-  pub done : 0 ≡ n → callOf 0 new 0 ≡ callOf n (taken n new old) 0
-  done e = ap (λ (k : ℕ). callOf k new 0) e ∙ ap (λ (s : IvectorStream). callOf n s 0) (sym (taken-new n new old (sym e)))
+module _ (s : IvectorStream) (z : Rings) (x : RingStep) {n : ℕ} (e : n ≡ x .refusal) where
+  pub refused : {c : StreamCall} → (n ≡ 0 → ⊥) → c ≡ callOf n s 0 → ringCall c z ≡ doneOn s z x
+  refused h g =
+      let old : (x .refusal ≡ 0 → ⊥) = λ k. h (e ∙ k) in
+      let stream : taken (x .refusal) (x .stream) s ≡ s = taken-old _ _ _ old in
+      let rings : taken (x .refusal) (x .rings) z ≡ z = taken-old _ _ _ old in
+      rw (g, e, stream, rings)
 
--- a room
-module _ {A : Type 0} (n : ℕ) (new old : A) where
-  pub untouched : {r : ℕ} → r ≡ n → (r ≡ 0 → ⊥) → old ≡ taken n new old
-  untouched e h = sym (taken-old n new old (λ z. h (e ∙ z)))
+  pub done : {c : StreamCall} {after : Rings} → n ≡ 0 → c ≡ callOf 0 (x .stream) 0 → after ≡ x .rings → ringCall c after ≡ doneOn s z x
+  done h g f = let new : x .refusal ≡ 0 = sym e ∙ h in rw (g, f, new)
 
-  pub written : {x : A} → 0 ≡ n → x ≡ new → x ≡ taken n new old
-  written e h = h ∙ sym (taken-new n new old (sym e))
+-- ---- rooms, part by part
+
+pub rings-are : {frames frames′ rows rows′ : List Float} {waiting waiting′ : List ℕ} {weights weights′ : List Float}
+    → frames ≡ frames′ → rows ≡ rows′ → waiting ≡ waiting′ → weights ≡ weights′ → ringsFrom frames rows waiting weights ≡ ringsFrom frames′ rows′ waiting′ weights′
+rings-are a b c d = rw (a, b, c, d)
+
+pub estimate-is : {cmvn cmvn′ linear linear′ quadratic quadratic′ current current′ : List Float}
+    → cmvn ≡ cmvn′ → linear ≡ linear′ → quadratic ≡ quadratic′ → current ≡ current′ → estimateFrom cmvn linear quadratic current ≡ estimateFrom cmvn′ linear′ quadratic′ current′
+estimate-is a b c d = rw (a, b, c, d)
+
+pub rooms-are : {rings rings′ : Rings} {estimate estimate′ : EstimateRooms} → rings ≡ rings′ → estimate ≡ estimate′ → roomsFrom rings estimate ≡ roomsFrom rings′ estimate′
+rooms-are a b = rw (a, b)
 
 -- ---- the record of a change
 
-module _ (s : IvectorStream) (fs gs : List ℕ) (ws vs : List Float) where
+module _ (s : IvectorStream) (z : Rings) (gs : List ℕ) (vs : List Float) where
   abbrev after : Changes
-  after = changed (changesIn s fs ws) gs vs
+  after = changed (changesIn s z) gs vs
 
   changed-length : s .waiting + length gs ≡ length (after .waiting)
   unfolding changed
   changed-length =
       let given : List Change = build (length gs) (λ i. (getD gs i 0, at vs i)) in
-      sym (length-inserts (waitingIn (s .waiting) fs ws) given ∙ omega (arith, length-waiting (s .waiting) fs ws, length-build {A = Change} (length gs) (λ i. (getD gs i 0, at vs i))))
+      let before = waitingIn (s .waiting) (z .waiting-frames) (z .waiting-weights) in
+      sym (length-inserts before given
+      ∙ omega (arith, length-waiting (s .waiting) (z .waiting-frames) (z .waiting-weights), length-build {A = Change} (length gs) (λ i. (getD gs i 0, at vs i))))
 
   pub changed-stream : {p : ℕ} → p ≡ after .past-highest
       → record {
@@ -93,11 +106,18 @@ module _ (s : IvectorStream) (fs gs : List ℕ) (ws vs : List Float) where
 
 -- ---- a fresh stream
 
-module _ (i : IvectorInfo) (t : TableLengths) (z : RoomLengths) where
-  pub new-refused : (r : ℕ) → r ≡ newRefusal i t z → (r ≡ 0 → ⊥) → N.Refused r ≡ newAnswer i t z
-  unfolding newAnswer
-  new-refused r e h = ap N.Refused e ∙ untouched (newRefusal i t z) _ _ e h
+module _ {A : Type 0} (n : ℕ) (new old : A) where
+  pub untouched : {r : ℕ} → r ≡ n → (r ≡ 0 → ⊥) → old ≡ taken n new old
+  untouched e h = sym (taken-old n new old (λ z. h (e ∙ z)))
 
-  pub new-done : 0 ≡ newRefusal i t z → N.Stream (freshStream i z) ≡ newAnswer i t z
+  pub written : {x : A} → 0 ≡ n → x ≡ new → x ≡ taken n new old
+  written e h = h ∙ sym (taken-new n new old (sym e))
+
+module _ (i : IvectorInfo) (t : TableLengths) (z : RoomLengths) where
+  pub new-refused : {r : ℕ} → r ≡ newRefusal i t z → (r ≡ 0 → ⊥) → N.Refused r ≡ newAnswer i t z
   unfolding newAnswer
-  new-done e = written (newRefusal i t z) _ _ e refl
+  new-refused e h = ap N.Refused e ∙ untouched (newRefusal i t z) _ _ e h
+
+  pub new-done : {c : StreamCall} → 0 ≡ newRefusal i t z → c ≡ callOf 0 (freshStream i z) 0 → N.Stream c ≡ newAnswer i t z
+  unfolding newAnswer
+  new-done e g = written (newRefusal i t z) _ _ e (ap N.Stream g)

@@ -10,8 +10,8 @@ use lib.ListN.{length, getD, set, take, replicate}
 use lib.Seq.{length-take-le, getD-take}
 use lib.Ieee.{Float, nan}
 use Rattle.loops.specs.Lists.{if_then_else_, build, over}
-use Rattle.loops.specs.Ring.{rowsIn}
-use Rattle.loops.specs.Steps.{fill, put, place}
+use Rattle.loops.specs.Ring.{rowsIn, put, place}
+use Rattle.loops.specs.Steps.{fill}
 use Rattle.loops.proofs.Build.{length-build, build-list, build-same}
 use Rattle.loops.proofs.Fill.{fill-end, fill-over, put-end, put-turn, put-before, put-past}
 use Rattle.loops.proofs.Ring.{place-next, rows-apart}
@@ -20,8 +20,8 @@ use Rattle.definition.specs.declared.IvectorStream.{IvectorStream}
 use Rattle.definition.specs.Machine.{forgotten}
 use Rattle.definition.specs.Stream.{rising}
 use Rattle.limits.proofs.Ordered.{min-first}
-use Rattle.frame_views.specs.Ring.{ringAt}
-use Rattle.ivector_stream.specs.Calls.{pushedFrames, pushedRows, forgetMark}
+use Rattle.program.specs.Rooms.{ringAt}
+use Rattle.program.specs.Calls.{pushedFrames, pushedRows, forgetMark}
 
 -- a room with zeros, or another value, in its first n places
 pub cleared : {A : Type 0} (v : A) (i n : ℕ) (x : List A) {s : List A} → i ≤ n → n ≤ i → s ≡ fill i (λ k. v) x → s ≡ over (replicate n v) x

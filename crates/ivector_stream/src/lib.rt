@@ -1,34 +1,34 @@
 // `IvectorStream`: a stream's record, and the calls on it but for the fetch. The rooms are lent to each call: frames and prefix
 // rows in two rings, the waiting weight changes in two lists. The model's tables are lent where they are read.
+use definition::EstimateLengths;
 use definition::IvectorInfo;
 use definition::IvectorStream;
 use definition::NewStream;
+use definition::RingLengths;
 use definition::RoomLengths;
 use definition::StreamAnswer;
 use definition::StreamCall;
 use definition::TableLengths;
 ghost use mathlib.Core.Path.{_≡_};
-ghost use mathlib.Core.Bool.{true, false, not, _||_};
+ghost use mathlib.Core.Bool.{true, not, _||_};
 ghost use mathlib.Core.Logic.{_⊎_};
 ghost use mathlib.Core.List.{foldl};
-ghost use Prim.Native.Nat.{ℕ, _+_, _-_, _<_, _≤_, min};
+ghost use Prim.Native.Nat.{_+_, _-_, _<_, _≤_, min};
 ghost use lib.ListN.{length, take, replicate};
 ghost use lib.Dec.{leb, ltb};
 ghost use lib.Ieee.Scale.{finite};
 ghost use Rattle.loops.specs.Lists.{if_then_else_, build, anyOf, over};
-ghost use Rattle.loops.specs.Refusal.{taken};
-ghost use Rattle.loops.specs.Ring.{rowsIn};
-ghost use Rattle.loops.specs.Steps.{put, place};
+ghost use Rattle.loops.specs.Refusal.{firstOf, taken};
+ghost use Rattle.loops.specs.Ring.{rowsIn, put, place};
 ghost use Rattle.floats.specs.Operators.{_+₆₄_, zero₆₄, at};
 ghost use Rattle.definition.specs.Kaldi.{triangle};
+ghost use Rattle.definition.specs.Model.{Tables, tablesFrom, tableLengthsOf};
 ghost use Rattle.definition.specs.Statistics.{newStats};
 ghost use Rattle.definition.specs.Solve.{priorVector};
-ghost use Rattle.definition.specs.Changes.{Changes, changed};
 ghost use Rattle.definition.specs.Machine.{framesReady};
-ghost use Rattle.definition.specs.Stream.{rising};
-ghost use Rattle.ivector_stream.specs.Rooms.{Tables, tables, tableLengthsOf, Rooms, rooms, roomLengthsOf, changesIn};
-ghost use Rattle.ivector_stream.specs.Calls.{newRefusal, newAnswer, freshRooms, answerOf, callOf, withAccepted, withFinished, withMark, withChanges, pushRefusal, pushedFrames, pushedRows, plainRefusal, changeRefusal, overFrames, overWeights, forgetMark};
-ghost use Rattle.ivector_stream.specs.Lent.{ringsOf};
+ghost use Rattle.definition.specs.Stream.{rising, newRefusal};
+ghost use Rattle.program.specs.Rooms.{Rings, ringsFrom, estimateFrom, Rooms, roomsFrom, roomLengthsOf};
+ghost use Rattle.program.specs.Calls.{callOf, newAnswer, freshRooms, ringCall, doneOn, recordTests, pushFrame, setInputFinished, updateFrameWeights, forgetBefore};
 
 // ---- answers
 
@@ -63,29 +63,25 @@ pub fn reply(refusal: usize, s: IvectorStream, not_finite: usize) -> StreamCall
     }
 }
 
-// The lengths of the rooms that every call is lent.
-fn rings(frames: usize, rows: usize, waiting_frames: usize, waiting_weights: usize) -> RoomLengths
-    ensures { λ r. ⌜ r ≡ ringsOf frames rows «waiting_frames» «waiting_weights» ⌝ }
-{
-    RoomLengths {
-        frames,
-        rows,
-        waiting_frames,
-        waiting_weights,
-        cmvn_stats: 0,
-        linear: 0,
-        quadratic: 0,
-        current: 0,
-        scratch: 0,
-    }
-}
-
 // Refusal 10 of every call, or 0.
-fn plain_refusal(s: IvectorStream, lent: RoomLengths, waiting_frames: &[usize]) -> usize
-    ensures { λ r. ⌜ r ≡ plainRefusal s lent (now («waiting_frames» .entry)) ⌝ }
+fn plain_refusal(
+    s: IvectorStream,
+    frames: &[f32],
+    rows: &[f64],
+    waiting_frames: &[usize],
+    waiting_weights: &[f32],
+) -> usize
+    ensures { λ r. ⌜ r ≡ firstOf (recordTests s (ringsFrom (now (frames .entry)) (now (rows .entry)) (now («waiting_frames» .entry)) (now («waiting_weights» .entry)))) ⌝ }
 {
     let z = s.rooms;
-    if !limits::same_rings(lent, z) {
+    let own = z.rings;
+    let lent = RingLengths {
+        frames: frames.len(),
+        rows: rows.len(),
+        waiting_frames: waiting_frames.len(),
+        waiting_weights: waiting_weights.len(),
+    };
+    if !limits::same_rings(lent, own) {
         return 10;
     }
     if limits::is_broken(s, waiting_frames) {
@@ -100,17 +96,18 @@ fn new_refusal(info: IvectorInfo, tables: TableLengths, rooms: RoomLengths) -> u
     ensures { λ r. ⌜ r ≡ newRefusal info tables rooms ⌝ }
 {
     let t = info.tables;
+    let o = info.opts;
     let d = info.dims;
     if !limits::same_tables(tables, t) {
         return 10;
     }
-    if !limits::info_sound(info) {
+    if !limits::record_sound(info) {
         return 10;
     }
-    if !limits::rooms_fit(d, rooms) {
+    if !limits::tables_fit(o, d, t) {
         return 8;
     }
-    0
+    if limits::rooms_fit(d, rooms) { 0 } else { 8 }
 }
 
 // Zeros in a room's first n places.
@@ -167,15 +164,15 @@ pub fn new(
     scratch: &[f64],
 ) -> NewStream
     ensures { λ r. ⌜ (
-        let t : Tables = tables (now (gconsts .entry)) (now («means_invvars_t» .entry)) (now («inv_vars_t» .entry)) (now («sigma_inv_m» .entry)) (now (u .entry)) (now («lda_t» .entry)) (now («lda_offset» .entry)) (now («global_mean_stats» .entry)) in
-        let z : Rooms = rooms (now (frames .entry)) (now (rows .entry)) (now («waiting_frames» .entry)) (now («waiting_weights» .entry)) (now («cmvn_stats» .entry)) (now (linear .entry)) (now (quadratic .entry)) (now (current .entry)) in
-        let n : ℕ = newRefusal info (tableLengthsOf t) (roomLengthsOf z (length (now (scratch .entry)))) in
-        (r ≡ newAnswer info (tableLengthsOf t) (roomLengthsOf z (length (now (scratch .entry)))))
-        × (now (rows .exit) ≡ taken n (freshRooms info z .rows) (now (rows .entry)))
-        × (now («cmvn_stats» .exit) ≡ taken n (freshRooms info z .cmvn) (now («cmvn_stats» .entry)))
-        × (now (linear .exit) ≡ taken n (freshRooms info z .linear) (now (linear .entry)))
-        × (now (quadratic .exit) ≡ taken n (freshRooms info z .quadratic) (now (quadratic .entry)))
-        × (now (current .exit) ≡ taken n (freshRooms info z .current) (now (current .entry)))) ⌝ }
+        let t : Tables = tablesFrom (now (gconsts .entry)) (now («means_invvars_t» .entry)) (now («inv_vars_t» .entry)) (now («sigma_inv_m» .entry))
+        (now (u .entry)) (now («lda_t» .entry)) (now («lda_offset» .entry)) (now («global_mean_stats» .entry)) in
+        let z : Rooms = roomsFrom (ringsFrom (now (frames .entry)) (now (rows .entry)) (now («waiting_frames» .entry)) (now («waiting_weights» .entry)))
+        (estimateFrom (now («cmvn_stats» .entry)) (now (linear .entry)) (now (quadratic .entry)) (now (current .entry))) in
+        let n : RoomLengths = roomLengthsOf z (length (now (scratch .entry))) in
+        (r ≡ newAnswer info (tableLengthsOf t) n)
+        × (roomsFrom (ringsFrom (now (frames .entry)) (now (rows .exit)) (now («waiting_frames» .entry)) (now («waiting_weights» .entry)))
+        (estimateFrom (now («cmvn_stats» .exit)) (now (linear .exit)) (now (quadratic .exit)) (now (current .exit)))
+        ≡ taken (newRefusal info (tableLengthsOf t) n) (freshRooms info z) z)) ⌝ }
 {
     let tables = TableLengths {
         gconsts: gconsts.len(),
@@ -187,17 +184,20 @@ pub fn new(
         lda_offset: lda_offset.len(),
         global_mean_stats: global_mean_stats.len(),
     };
-    let rooms = RoomLengths {
+    let rings = RingLengths {
         frames: frames.len(),
         rows: rows.len(),
         waiting_frames: waiting_frames.len(),
         waiting_weights: waiting_weights.len(),
+    };
+    let estimate = EstimateLengths {
         cmvn_stats: cmvn_stats.len(),
         linear: linear.len(),
         quadratic: quadratic.len(),
         current: current.len(),
         scratch: scratch.len(),
     };
+    let rooms = RoomLengths { rings, estimate };
     let refusal = new_refusal(info, tables, rooms);
     if refusal != 0 {
         return NewStream::Refused(refusal);
@@ -206,7 +206,7 @@ pub fn new(
     clear(rows, d.base_dim);
     clear(cmvn_stats, d.base_dim + 1);
     fresh_estimate(d.ivector_dim, info.prior_offset, linear, quadratic, current);
-    NewStream::Stream(IvectorStream {
+    let stream = IvectorStream {
         info,
         rooms,
         accepted: 0,
@@ -217,7 +217,9 @@ pub fn new(
         delta_weights_provided: false,
         input_finished: false,
         num_frames: 0.0,
-    })
+    };
+    let call = reply(0, stream, 0);
+    NewStream::Stream(call)
 }
 
 // ---- push
@@ -245,13 +247,15 @@ fn any_not_finite(x: &[f32]) -> bool
 
 fn push_refusal(
     s: IvectorStream,
-    lent: RoomLengths,
-    waiting_frames: &[usize],
     frame: &[f32],
+    frames: &[f32],
+    rows: &[f64],
+    waiting_frames: &[usize],
+    waiting_weights: &[f32],
 ) -> usize
-    ensures { λ r. ⌜ r ≡ pushRefusal s lent (now («waiting_frames» .entry)) (now (frame .entry)) ⌝ }
+    ensures { λ r. ⌜ r ≡ pushFrame s (ringsFrom (now (frames .entry)) (now (rows .entry)) (now («waiting_frames» .entry)) (now («waiting_weights» .entry))) (now (frame .entry)) .refusal ⌝ }
 {
-    let refusal = plain_refusal(s, lent, waiting_frames);
+    let refusal = plain_refusal(s, frames, rows, waiting_frames, waiting_weights);
     if refusal != 0 {
         return refusal;
     }
@@ -259,6 +263,7 @@ fn push_refusal(
     let o = i.opts;
     let d = i.dims;
     let z = s.rooms;
+    let own = z.rings;
     if frame.len() != d.base_dim {
         return 11;
     }
@@ -269,31 +274,31 @@ fn push_refusal(
         return 13;
     }
     let frames_held = limits::frames_held(s.accepted, s.mark);
-    if z.frames < (frames_held + 1) * d.base_dim {
+    if own.frames < (frames_held + 1) * d.base_dim {
         return 14;
     }
     let rows_held = limits::rows_held(o.cmn_window, s.accepted, s.mark);
-    if z.rows < (rows_held + 1) * d.base_dim {
+    if own.rows < (rows_held + 1) * d.base_dim {
         return 15;
     }
     0
 }
 
-// Where row t of a ring of `length` numbers begins.
-fn row_place(length: usize, dim: usize, t: usize) -> usize
-    requires { ⌜ (0 < dim) × (0 < rowsIn length dim) ⌝ }
-    ensures { λ r. ⌜ r ≡ place length dim t ⌝ }
+// Where row t of a ring of so many numbers begins.
+fn row_place(numbers: usize, dim: usize, t: usize) -> usize
+    requires { ⌜ (0 < dim) × (0 < rowsIn numbers dim) ⌝ }
+    ensures { λ r. ⌜ r ≡ place numbers dim t ⌝ }
 {
-    t % (length / dim) * dim
+    t % (numbers / dim) * dim
 }
 
-// Where the row after the one at `place` begins: a row further, or at the ring's beginning where no whole row is left.
-fn row_after(length: usize, dim: usize, place: usize) -> usize
-    requires { ⌜ (dim ≤ 64) × (place ≤ length) ⌝ }
-    ensures { λ r. ⌜ r ≡ (if leb (dim + dim) (length - place) then place + dim else 0) ⌝ }
+// Where the row after the one that begins `here` does: a row further, or at the ring's beginning where no whole row is left.
+fn row_after(numbers: usize, dim: usize, here: usize) -> usize
+    requires { ⌜ (dim ≤ 64) × (here ≤ numbers) ⌝ }
+    ensures { λ r. ⌜ r ≡ (if leb (dim + dim) (numbers - here) then here + dim else 0) ⌝ }
 {
-    if dim + dim <= length - place {
-        place + dim
+    if dim + dim <= numbers - here {
+        here + dim
     } else {
         0
     }
@@ -328,18 +333,11 @@ pub fn push_frame(
     waiting_weights: &[f32],
 ) -> StreamCall
     ensures { λ r. ⌜ (
-        let n : ℕ = pushRefusal s (ringsOf (length (now (frames .entry))) (length (now (rows .entry))) (length (now («waiting_frames» .entry))) (length (now («waiting_weights» .entry)))) (now («waiting_frames» .entry)) (now (frame .entry)) in
-        (r ≡ callOf n (taken n (withAccepted s (s .accepted + 1)) s) 0)
-        × (now (frames .exit) ≡ taken n (pushedFrames s (now (frames .entry)) (now (frame .entry))) (now (frames .entry)))
-        × (now (rows .exit) ≡ taken n (pushedRows s (now (rows .entry)) (now (frame .entry))) (now (rows .entry)))) ⌝ }
+        let z : Rings = ringsFrom (now (frames .entry)) (now (rows .entry)) (now («waiting_frames» .entry)) (now («waiting_weights» .entry)) in
+        ringCall r (ringsFrom (now (frames .exit)) (now (rows .exit)) (now («waiting_frames» .entry)) (now («waiting_weights» .entry)))
+        ≡ doneOn s z (pushFrame s z (now (frame .entry)))) ⌝ }
 {
-    let lent = rings(
-        frames.len(),
-        rows.len(),
-        waiting_frames.len(),
-        waiting_weights.len(),
-    );
-    let refusal = push_refusal(s, lent, waiting_frames, frame);
+    let refusal = push_refusal(s, frame, frames, rows, waiting_frames, waiting_weights);
     if refusal != 0 {
         return reply(refusal, s, 0);
     }
@@ -364,16 +362,10 @@ pub fn set_input_finished(
     waiting_weights: &[f32],
 ) -> StreamCall
     ensures { λ r. ⌜ (
-        let n : ℕ = plainRefusal s (ringsOf (length (now (frames .entry))) (length (now (rows .entry))) (length (now («waiting_frames» .entry))) (length (now («waiting_weights» .entry)))) (now («waiting_frames» .entry)) in
-        r ≡ callOf n (taken n (withFinished s) s) 0) ⌝ }
+        let z : Rings = ringsFrom (now (frames .entry)) (now (rows .entry)) (now («waiting_frames» .entry)) (now («waiting_weights» .entry)) in
+        ringCall r z ≡ doneOn s z (setInputFinished s z)) ⌝ }
 {
-    let lent = rings(
-        frames.len(),
-        rows.len(),
-        waiting_frames.len(),
-        waiting_weights.len(),
-    );
-    let refusal = plain_refusal(s, lent, waiting_frames);
+    let refusal = plain_refusal(s, frames, rows, waiting_frames, waiting_weights);
     if refusal != 0 {
         return reply(refusal, s, 0);
     }
@@ -410,20 +402,23 @@ fn any_below(frames: &[usize], left: usize, mark: usize) -> bool
 
 fn change_refusal(
     s: IvectorStream,
-    lent: RoomLengths,
-    waiting_frames: &[usize],
     delta_frames: &[usize],
     delta_weights: &[f32],
+    frames: &[f32],
+    rows: &[f64],
+    waiting_frames: &[usize],
+    waiting_weights: &[f32],
 ) -> usize
-    ensures { λ r. ⌜ r ≡ changeRefusal s lent (now («waiting_frames» .entry)) (now («delta_frames» .entry)) (now («delta_weights» .entry)) ⌝ }
+    ensures { λ r. ⌜ r ≡ updateFrameWeights s (ringsFrom (now (frames .entry)) (now (rows .entry)) (now («waiting_frames» .entry)) (now («waiting_weights» .entry))) (now («delta_frames» .entry)) (now («delta_weights» .entry)) .refusal ⌝ }
 {
-    let refusal = plain_refusal(s, lent, waiting_frames);
+    let refusal = plain_refusal(s, frames, rows, waiting_frames, waiting_weights);
     if refusal != 0 {
         return refusal;
     }
     let i = s.info;
     let o = i.opts;
     let z = s.rooms;
+    let own = z.rings;
     if delta_frames.len() != delta_weights.len() {
         return 16;
     }
@@ -439,7 +434,7 @@ fn change_refusal(
     if any_below(delta_frames, o.left_context, s.mark) {
         return 18;
     }
-    let room = limits::smaller(z.waiting_frames, z.waiting_weights);
+    let room = limits::smaller(own.waiting_frames, own.waiting_weights);
     let free = limits::less(room, s.waiting);
     if free < delta_frames.len() {
         return 19;
@@ -457,19 +452,19 @@ pub fn update_frame_weights(
     waiting_weights: &mut [f32],
 ) -> StreamCall
     ensures { λ r. ⌜ (
-        let n : ℕ = changeRefusal s (ringsOf (length (now (frames .entry))) (length (now (rows .entry))) (length (now («waiting_frames» .entry))) (length (now («waiting_weights» .entry)))) (now («waiting_frames» .entry)) (now («delta_frames» .entry)) (now («delta_weights» .entry)) in
-        let c : Changes = changed (changesIn s (now («waiting_frames» .entry)) (now («waiting_weights» .entry))) (now («delta_frames» .entry)) (now («delta_weights» .entry)) in
-        (r ≡ callOf n (taken n (withChanges s c (s .«num_frames_stats») (s .«num_frames»)) s) 0)
-        × (now («waiting_frames» .exit) ≡ taken n (overFrames c (now («waiting_frames» .entry))) (now («waiting_frames» .entry)))
-        × (now («waiting_weights» .exit) ≡ taken n (overWeights c (now («waiting_weights» .entry))) (now («waiting_weights» .entry)))) ⌝ }
+        let z : Rings = ringsFrom (now (frames .entry)) (now (rows .entry)) (now («waiting_frames» .entry)) (now («waiting_weights» .entry)) in
+        ringCall r (ringsFrom (now (frames .entry)) (now (rows .entry)) (now («waiting_frames» .exit)) (now («waiting_weights» .exit)))
+        ≡ doneOn s z (updateFrameWeights s z (now («delta_frames» .entry)) (now («delta_weights» .entry)))) ⌝ }
 {
-    let lent = rings(
-        frames.len(),
-        rows.len(),
-        waiting_frames.len(),
-        waiting_weights.len(),
+    let refusal = change_refusal(
+        s,
+        delta_frames,
+        delta_weights,
+        frames,
+        rows,
+        waiting_frames,
+        waiting_weights,
     );
-    let refusal = change_refusal(s, lent, waiting_frames, delta_frames, delta_weights);
     if refusal != 0 {
         return reply(refusal, s, 0);
     }
@@ -510,16 +505,10 @@ pub fn forget_before(
     waiting_weights: &[f32],
 ) -> StreamCall
     ensures { λ r. ⌜ (
-        let n : ℕ = plainRefusal s (ringsOf (length (now (frames .entry))) (length (now (rows .entry))) (length (now («waiting_frames» .entry))) (length (now («waiting_weights» .entry)))) (now («waiting_frames» .entry)) in
-        r ≡ callOf n (taken n (withMark s (forgetMark s (now («waiting_frames» .entry)) frame)) s) 0) ⌝ }
+        let z : Rings = ringsFrom (now (frames .entry)) (now (rows .entry)) (now («waiting_frames» .entry)) (now («waiting_weights» .entry)) in
+        ringCall r z ≡ doneOn s z (forgetBefore s z frame)) ⌝ }
 {
-    let lent = rings(
-        frames.len(),
-        rows.len(),
-        waiting_frames.len(),
-        waiting_weights.len(),
-    );
-    let refusal = plain_refusal(s, lent, waiting_frames);
+    let refusal = plain_refusal(s, frames, rows, waiting_frames, waiting_weights);
     if refusal != 0 {
         return reply(refusal, s, 0);
     }

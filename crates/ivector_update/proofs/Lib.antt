@@ -1,4 +1,5 @@
-pub mod Turns
-pub mod Changed
-pub mod Updated
-pub mod Rooms
+-- Laws of a batch: its frames, its statistics, and the lent rooms.
+mod Turns
+mod Changed
+mod Updated
+mod Rooms

@@ -1,4 +1,4 @@
--- A batch, frame by frame: what it leaves and gains with one frame more.
+-- A run of frames of the same weight, frame by frame: what it leaves and gains with one frame more, by the laws of a batch and one behind it.
 use mathlib.Core.Path.{_≡_, refl, sym, ap, _∙_}
 use Prim.Native.Nat.{ℕ, _+_, _≤_}
 use native.Mathlib.Numerals.{add-one}
@@ -7,41 +7,39 @@ use lib.Ieee.{Float}
 use Rattle.loops.specs.Lists.{build}
 use Rattle.loops.proofs.Build.{build-snoc}
 use Rattle.loops.proofs.Loop.{at-end}
-use Rattle.definition.specs.declared.IvectorInfo.{IvectorInfo}
 use Rattle.definition.specs.declared.FrameWeight.{FrameWeight}
-use Rattle.definition.specs.Views.{Frames, normalisedRow}
+use Rattle.definition.specs.Model.{Model}
+use Rattle.definition.specs.Views.{Frames}
 use Rattle.definition.specs.Statistics.{Entry}
 use Rattle.definition.specs.Changes.{Batch}
 use Rattle.definition.specs.Estimate.{entries}
 use Rattle.definition.proofs.Batches.{entries-state, entries-gained}
-use Rattle.ivector_update.specs.Steps.{frameEntries, viewModel, run}
+use Rattle.ivector_update.specs.Steps.{run, frameState, frameEntries}
 
-module _ (i : IvectorInfo) (gconsts means invs lda-t lda-offset global : List Float) (F : Frames) where
+run-more : (first : ℕ) (w : FrameWeight) (n : ℕ) → run first w (n + 1) ≡ run first w n ++ ((first + n, w) ∷ [])
+run-more first w n = ap (λ (k : ℕ). build k (λ j. (first + j, w))) (add-one n) ∙ build-snoc n (λ j. (first + j, w))
+
+module _ (M : Model) (F : Frames) where
   abbrev state : Batch → List Float → List Float
-  state bs c = entries (viewModel i gconsts means invs lda-t lda-offset global) F bs c .0
+  state bs c = entries M F bs c .0
 
   abbrev gained : Batch → List Float → List Entry
-  gained bs c = entries (viewModel i gconsts means invs lda-t lda-offset global) F bs c .1
+  gained bs c = entries M F bs c .1
 
-  single : (t : ℕ) (w : FrameWeight) (x : List Float) → frameEntries i gconsts means invs lda-t lda-offset global F t w x ≡ gained ((t, w) ∷ []) x
+  single : (t : ℕ) (w : FrameWeight) (x : List Float) → frameEntries M F t w x ≡ gained ((t, w) ∷ []) x
   unfolding entries
   single t w x = sym (append-nil _)
 
   module _ (bs : Batch) (t : ℕ) (w : FrameWeight) (c₀ : List Float) {c : List Float} (e : c ≡ state bs c₀) where
-    pub state-more : {c′ : List Float} → c′ ≡ normalisedRow (i .opts) (i .dims .«base_dim») global F t c .0 → c′ ≡ state (bs ++ ((t, w) ∷ [])) c₀
+    state-more : {c′ : List Float} → c′ ≡ frameState M F t c → c′ ≡ state (bs ++ ((t, w) ∷ [])) c₀
     unfolding entries
-    state-more h =
-        h ∙ ap (λ (x : List Float). normalisedRow (i .opts) (i .dims .«base_dim») global F t x .0) e
-        ∙ sym (entries-state (viewModel i gconsts means invs lda-t lda-offset global) F bs ((t, w) ∷ []) c₀)
+    state-more h = h ∙ ap (frameState M F t) e ∙ sym (entries-state M F bs ((t, w) ∷ []) c₀)
 
-    pub gained-more : gained bs c₀ ++ frameEntries i gconsts means invs lda-t lda-offset global F t w c ≡ gained (bs ++ ((t, w) ∷ [])) c₀
+    gained-more : gained bs c₀ ++ frameEntries M F t w c ≡ gained (bs ++ ((t, w) ∷ [])) c₀
     gained-more =
-        ap (λ (x : List Float). gained bs c₀ ++ frameEntries i gconsts means invs lda-t lda-offset global F t w x) e
+        ap (λ (x : List Float). gained bs c₀ ++ frameEntries M F t w x) e
         ∙ ap (λ (es : List Entry). gained bs c₀ ++ es) (single t w (state bs c₀))
-        ∙ sym (entries-gained (viewModel i gconsts means invs lda-t lda-offset global) F bs ((t, w) ∷ []) c₀)
-
-  pub run-more : (first : ℕ) (w : FrameWeight) (n : ℕ) → run first w (n + 1) ≡ run first w n ++ ((first + n, w) ∷ [])
-  run-more first w n = ap (λ (k : ℕ). build k (λ j. (first + j, w))) (add-one n) ∙ build-snoc n (λ j. (first + j, w))
+        ∙ sym (entries-gained M F bs ((t, w) ∷ []) c₀)
 
   module _ (first : ℕ) (w : FrameWeight) (c₀ : List Float) where
     pub run-state-none : c₀ ≡ state (run first w 0) c₀
@@ -53,10 +51,10 @@ module _ (i : IvectorInfo) (gconsts means invs lda-t lda-offset global : List Fl
     run-gained-none = refl
 
     module _ (n : ℕ) {c : List Float} (e : c ≡ state (run first w n) c₀) where
-      pub run-state : {c′ : List Float} → c′ ≡ normalisedRow (i .opts) (i .dims .«base_dim») global F (first + n) c .0 → c′ ≡ state (run first w (n + 1)) c₀
+      pub run-state : {c′ : List Float} → c′ ≡ frameState M F (first + n) c → c′ ≡ state (run first w (n + 1)) c₀
       run-state h = state-more (run first w n) (first + n) w c₀ e h ∙ ap (λ (bs : Batch). state bs c₀) (sym (run-more first w n))
 
-      pub run-gained : gained (run first w n) c₀ ++ frameEntries i gconsts means invs lda-t lda-offset global F (first + n) w c ≡ gained (run first w (n + 1)) c₀
+      pub run-gained : gained (run first w n) c₀ ++ frameEntries M F (first + n) w c ≡ gained (run first w (n + 1)) c₀
       run-gained = gained-more (run first w n) (first + n) w c₀ e ∙ ap (λ (bs : Batch). gained bs c₀) (sym (run-more first w n))
 
     pub run-state-all : (k n : ℕ) → k ≤ n → n ≤ k → state (run first w k) c₀ ≡ state (run first w n) c₀

@@ -1,4 +1,5 @@
--- A batch's sums in the statistics, and the estimate after it.
+-- A batch's sums in the statistics, and the estimate after it. A frame's entries depend on no table but those of `viewTables`, and a batch that
+-- is not empty is accumulated as its entries are.
 use mathlib.Core.Path.{_≡_, refl, ap, subst, _∙_}
 use Prim.Native.Nat.{ℕ, zero, suc, _+_, _<_}
 use native.Mathlib.Nat.{not-suc-le-zero, suc-ne-zero}
@@ -9,30 +10,53 @@ use lib.Dec.{eqb}
 use Rattle.loops.specs.Lists.{build}
 use Rattle.loops.proofs.Choose.{by-test}
 use Rattle.floats.specs.Operators.{_+₃₂_}
+use Rattle.definition.specs.declared.IvectorInfo.{IvectorInfo}
 use Rattle.definition.specs.declared.IvectorOptions.{IvectorOptions}
+use Rattle.definition.specs.declared.Dimensions.{Dimensions}
 use Rattle.definition.specs.declared.FrameWeight.{FrameWeight}
-use Rattle.definition.specs.Model.{Model}
-use Rattle.definition.specs.Views.{Frames, normalisedRow}
+use Rattle.definition.specs.Model.{Tables, Model, model}
+use Rattle.definition.specs.Views.{Frames}
 use Rattle.definition.specs.Posteriors.{weighed}
 use Rattle.definition.specs.Statistics.{Entry, Stats, acc}
 use Rattle.definition.specs.Changes.{Change, merged, mergedFrom, Batch}
 use Rattle.definition.specs.Solve.{getIvector}
 use Rattle.definition.specs.Estimate.{Estimate, entries, accumulated, updated}
-use Rattle.ivector_update.specs.Steps.{viewModel, run, changesBatch, estimate}
+use Rattle.ivector_update.specs.Steps.{run, changesBatch, viewTables, frameState, Ready}
+
+-- what is asked of all tables is asked of those of a frame
+pub ready-view : {i : IvectorInfo} {t : Tables} → Ready i t → Ready i (viewTables (t .gconsts) (t .means-invvars-t) (t .inv-vars-t) (t .lda-t) (t .lda-offset) (t .global-mean-stats))
+ready-view r =
+    record {
+      left-in = r .left-in;
+      right-in = r .right-in;
+      select-in = r .select-in;
+      base-in = r .base-in;
+      feat-in = r .feat-in;
+      gauss-in = r .gauss-in;
+      gconsts-fit = r .gconsts-fit;
+      means-fit = r .means-fit;
+      invs-fit = r .invs-fit;
+      lda-fits = r .lda-fits;
+      offset-fits = r .offset-fits;
+    }
 
 module _ (M : Model) where
-  abbrev viewOf : Model
-  viewOf = viewModel (M .info) (M .gconsts) (M .means-invvars-t) (M .inv-vars-t) (M .lda-t) (M .lda-offset) (M .global-mean-stats)
+  open IvectorInfo (M .info) using (opts, dims, «prior_offset» as prior)
+  open Dimensions dims using («feat_dim» as d, «ivector_dim» as s)
+  open Tables (M .tables) using (gconsts, means-invvars-t, inv-vars-t, sigma-inv-m, u, lda-t, lda-offset, global-mean-stats)
 
-  -- a batch's entries depend on no other table
-  pub entries-view : (F : Frames) (bs : Batch) (c : List Float) → entries viewOf F bs c ≡ entries M F bs c
+  abbrev viewOf : Model
+  viewOf = model (M .info) (viewTables gconsts means-invvars-t inv-vars-t lda-t lda-offset global-mean-stats)
+
+  entries-view : (F : Frames) (bs : Batch) (c : List Float) → entries viewOf F bs c ≡ entries M F bs c
   unfolding entries
   entries-view F [] c = refl
-  entries-view F (b ∷ bs) c = rw (entries-view F bs (normalisedRow (M .info .opts) (M .info .dims .«base_dim») (M .global-mean-stats) F (b .0) c .0))
+  entries-view F (b ∷ bs) c = rw (entries-view F bs (frameState M F (b .0) c))
 
+  -- a batch of some frames
   module _ (es : List Entry) (st : Stats) where
     abbrev taken-in : Stats
-    taken-in = acc (M .info .dims .«feat_dim») (M .info .dims .«ivector_dim») (M .sigma-inv-m) (M .u) (M .info .«prior_offset») (M .info .opts .«max_count») es st
+    taken-in = acc d s sigma-inv-m u prior (opts .«max_count») es st
 
     pub run-taken : (first : ℕ) (w : FrameWeight) (n : ℕ) → 0 < n → taken-in ≡ accumulated M (run first w n) es st
     unfolding accumulated build
@@ -57,6 +81,7 @@ module _ (M : Model) where
     none-taken o [] p = refl
     none-taken o (c ∷ cs) p = absurd (suc-ne-zero _ p)
 
+  -- from the tables of a frame to all of them
   module _ (F : Frames) (c : List Float) {bs bs′ : Batch} (e : bs ≡ bs′) where
     as-model : entries viewOf F bs c ≡ entries M F bs′ c
     as-model = entries-view F bs c ∙ ap (λ (b : Batch). entries M F b c) e
@@ -77,10 +102,10 @@ module _ (M : Model) where
   -- the estimate, by its parts
   pub estimated : (F : Frames) (bs : Batch) (e : Estimate) {c v : List Float} {st : Stats} → c ≡ entries M F bs (e .cmvn) .0
       → st ≡ accumulated M bs (entries M F bs (e .cmvn) .1) (e .stats)
-      → v ≡ getIvector (M .info .dims .«ivector_dim») (M .info .«prior_offset») (M .info .opts .«num_cg_iters») st (e .current)
-      → estimate c st v ≡ updated M F bs e
+      → v ≡ getIvector s prior (opts .«num_cg_iters») st (e .current)
+      → (c ≡ updated M F bs e .cmvn) × (st ≡ updated M F bs e .stats) × (v ≡ updated M F bs e .current)
   unfolding updated
-  estimated F bs e h g k = rw (k, g, h)
+  estimated F bs e h g k = (h, g, k ∙ ap (λ (x : Stats). getIvector s prior (opts .«num_cg_iters») x (e .current)) g)
 
   -- the same batch
   pub same-batch : (F : Frames) (c : List Float) (st : Stats) {c′ : List Float} {st′ : Stats} {bs bs′ : Batch} → bs ≡ bs′

@@ -3,20 +3,23 @@
 use definition::FrameWeight;
 use definition::IvectorInfo;
 ghost use mathlib.Core.Path.{_≡_};
+ghost use mathlib.Core.Bool.{true};
 ghost use mathlib.Core.List.{List, _++_};
-ghost use Prim.Native.Nat.{ℕ, _+_, _*_, _≤_, _<_};
+ghost use Prim.Native.Nat.{ℕ, _+_, _≤_, _<_};
 ghost use lib.ListN.{length, getD};
-ghost use Rattle.definition.specs.Statistics.{Entry};
-ghost use Rattle.definition.specs.Views.{normalisedRow};
+ghost use Rattle.definition.specs.Model.{Tables, tablesFrom, tableLengthsOf, tablesFit, Model, model, modelIn};
+ghost use Rattle.definition.specs.Views.{Frames};
 ghost use Rattle.definition.specs.Posteriors.{unweighted};
+ghost use Rattle.definition.specs.Statistics.{Entry};
+ghost use Rattle.definition.specs.Changes.{Batch};
 ghost use Rattle.definition.specs.Estimate.{Estimate, entries, accumulated, updated};
-ghost use Rattle.loops.specs.Lists.{over};
-ghost use Rattle.frame_views.specs.Ring.{ringFrames};
+ghost use Rattle.definition.specs.Stream.{recordSound, roomsFit};
+ghost use Rattle.program.specs.Rooms.{ringsFrom, EstimateRooms, estimateFrom, Rooms, roomsFrom, roomLengthsOf, ringFrames, waitingIn, estimateAt};
+ghost use Rattle.program.specs.Calls.{overEstimate};
 ghost use Rattle.frame_views.specs.Rows.{Lent};
-ghost use Rattle.delta_weights.specs.Waiting.{waitingIn};
 ghost use Rattle.batch_sums.specs.Batch.{Slots, Sums};
 ghost use Rattle.ivector_stats.specs.Steps.{statsIn};
-ghost use Rattle.ivector_update.specs.Steps.{frameEntries, Ready, viewModel, run, changesBatch, Solvable, modelOf, batchOf, estimate, Roomy, keptModel, keptEstimate};
+ghost use Rattle.ivector_update.specs.Steps.{run, changesBatch, batchOf, viewTables, frameState, frameEntries, Ready, Solvable};
 
 // Frame t of a batch, in rooms for its normalised and its raw features.
 fn take_frame_in(
@@ -41,13 +44,17 @@ fn take_frame_in(
     sum: &mut [f64],
 ) -> usize
     requires { ⌜ Lent (info .dims .«base_dim») accepted (now global) (now frames) (now rows) (now cmvn) ⌝ }
-    requires { ⌜ Ready info (now gconsts) (now «means_invvars_t») (now «inv_vars_t») (now «lda_t») (now «lda_offset») ⌝ }
-    requires { ⌜ (t < accepted) × (length (now normalized) ≡ info .dims .«feat_dim») × (length (now raw) ≡ info .dims .«feat_dim») × Slots (info .dims .«num_gauss») (info .dims .«feat_dim») m (now seen) (now tot) (now sum) ⌝ }
-    ensures { λ r. ⌜ (now (cmvn .exit) ≡ normalisedRow (info .opts) (info .dims .«base_dim») (now (global .entry)) (ringFrames (info .dims .«base_dim») accepted (now (frames .entry)) (now (rows .entry))) t (now (cmvn .entry)) .0)
-        × Slots (info .dims .«num_gauss») (info .dims .«feat_dim») r (now (seen .exit)) (now (tot .exit)) (now (sum .exit))
-        × ((es : List Entry) → Sums (info .dims .«feat_dim») es m (now (seen .entry)) (now (tot .entry)) (now (sum .entry))
-        → Sums (info .dims .«feat_dim») (es ++ frameEntries info (now (gconsts .entry)) (now («means_invvars_t» .entry)) (now («inv_vars_t» .entry)) (now («lda_t» .entry)) (now («lda_offset» .entry)) (now (global .entry))
-        (ringFrames (info .dims .«base_dim») accepted (now (frames .entry)) (now (rows .entry))) t weight (now (cmvn .entry))) r (now (seen .exit)) (now (tot .exit)) (now (sum .exit))) ⌝ }
+    requires { ⌜ Ready info (viewTables (now gconsts) (now «means_invvars_t») (now «inv_vars_t») (now «lda_t») (now «lda_offset») (now global)) ⌝ }
+    requires { ⌜ (t < accepted) × (length (now normalized) ≡ info .dims .«feat_dim») × (length (now raw) ≡ info .dims .«feat_dim»)
+        × Slots (info .dims .«num_gauss») (info .dims .«feat_dim») m (now seen) (now tot) (now sum) ⌝ }
+    ensures { λ r. ⌜ (
+        let M : Model = model info (viewTables (now (gconsts .entry)) (now («means_invvars_t» .entry)) (now («inv_vars_t» .entry)) (now («lda_t» .entry)) (now («lda_offset» .entry)) (now (global .entry))) in
+        let F : Frames = ringFrames (info .dims .«base_dim») accepted (now (frames .entry)) (now (rows .entry)) in
+        let d = info .dims .«feat_dim» in
+        (now (cmvn .exit) ≡ frameState M F t (now (cmvn .entry)))
+        × Slots (info .dims .«num_gauss») d r (now (seen .exit)) (now (tot .exit)) (now (sum .exit))
+        × ((es : List Entry) → Sums d es m (now (seen .entry)) (now (tot .entry)) (now (sum .entry))
+        → Sums d (es ++ frameEntries M F t weight (now (cmvn .entry))) r (now (seen .exit)) (now (tot .exit)) (now (sum .exit)))) ⌝ }
 {
     let o = info.opts;
     let dims = info.dims;
@@ -121,13 +128,16 @@ fn take_frame(
     sum: &mut [f64],
 ) -> usize
     requires { ⌜ Lent (info .dims .«base_dim») accepted (now global) (now frames) (now rows) (now cmvn) ⌝ }
-    requires { ⌜ Ready info (now gconsts) (now «means_invvars_t») (now «inv_vars_t») (now «lda_t») (now «lda_offset») ⌝ }
+    requires { ⌜ Ready info (viewTables (now gconsts) (now «means_invvars_t») (now «inv_vars_t») (now «lda_t») (now «lda_offset») (now global)) ⌝ }
     requires { ⌜ (t < accepted) × Slots (info .dims .«num_gauss») (info .dims .«feat_dim») m (now seen) (now tot) (now sum) ⌝ }
-    ensures { λ r. ⌜ (now (cmvn .exit) ≡ normalisedRow (info .opts) (info .dims .«base_dim») (now (global .entry)) (ringFrames (info .dims .«base_dim») accepted (now (frames .entry)) (now (rows .entry))) t (now (cmvn .entry)) .0)
-        × Slots (info .dims .«num_gauss») (info .dims .«feat_dim») r (now (seen .exit)) (now (tot .exit)) (now (sum .exit))
-        × ((es : List Entry) → Sums (info .dims .«feat_dim») es m (now (seen .entry)) (now (tot .entry)) (now (sum .entry))
-        → Sums (info .dims .«feat_dim») (es ++ frameEntries info (now (gconsts .entry)) (now («means_invvars_t» .entry)) (now («inv_vars_t» .entry)) (now («lda_t» .entry)) (now («lda_offset» .entry)) (now (global .entry))
-        (ringFrames (info .dims .«base_dim») accepted (now (frames .entry)) (now (rows .entry))) t weight (now (cmvn .entry))) r (now (seen .exit)) (now (tot .exit)) (now (sum .exit))) ⌝ }
+    ensures { λ r. ⌜ (
+        let M : Model = model info (viewTables (now (gconsts .entry)) (now («means_invvars_t» .entry)) (now («inv_vars_t» .entry)) (now («lda_t» .entry)) (now («lda_offset» .entry)) (now (global .entry))) in
+        let F : Frames = ringFrames (info .dims .«base_dim») accepted (now (frames .entry)) (now (rows .entry)) in
+        let d = info .dims .«feat_dim» in
+        (now (cmvn .exit) ≡ frameState M F t (now (cmvn .entry)))
+        × Slots (info .dims .«num_gauss») d r (now (seen .exit)) (now (tot .exit)) (now (sum .exit))
+        × ((es : List Entry) → Sums d es m (now (seen .entry)) (now (tot .entry)) (now (sum .entry))
+        → Sums d (es ++ frameEntries M F t weight (now (cmvn .entry))) r (now (seen .exit)) (now (tot .exit)) (now (sum .exit)))) ⌝ }
 {
     let mut normalized = [0.0f32; 64];
     let mut raw = [0.0f32; 64];
@@ -177,11 +187,16 @@ fn take_run(
     sum: &mut [f64],
 ) -> usize
     requires { ⌜ Lent (info .dims .«base_dim») accepted (now global) (now frames) (now rows) (now cmvn) ⌝ }
-    requires { ⌜ Ready info (now gconsts) (now «means_invvars_t») (now «inv_vars_t») (now «lda_t») (now «lda_offset») ⌝ }
+    requires { ⌜ Ready info (viewTables (now gconsts) (now «means_invvars_t») (now «inv_vars_t») (now «lda_t») (now «lda_offset») (now global)) ⌝ }
     requires { ⌜ (first + n ≤ accepted) × Slots (info .dims .«num_gauss») (info .dims .«feat_dim») 0 (now seen) (now tot) (now sum) ⌝ }
-    ensures { λ r. ⌜ (now (cmvn .exit) ≡ entries (viewModel info (now (gconsts .entry)) (now («means_invvars_t» .entry)) (now («inv_vars_t» .entry)) (now («lda_t» .entry)) (now («lda_offset» .entry)) (now (global .entry))) (ringFrames (info .dims .«base_dim») accepted (now (frames .entry)) (now (rows .entry))) (run first weight n) (now (cmvn .entry)) .0)
-        × Slots (info .dims .«num_gauss») (info .dims .«feat_dim») r (now (seen .exit)) (now (tot .exit)) (now (sum .exit))
-        × Sums (info .dims .«feat_dim») (entries (viewModel info (now (gconsts .entry)) (now («means_invvars_t» .entry)) (now («inv_vars_t» .entry)) (now («lda_t» .entry)) (now («lda_offset» .entry)) (now (global .entry))) (ringFrames (info .dims .«base_dim») accepted (now (frames .entry)) (now (rows .entry))) (run first weight n) (now (cmvn .entry)) .1) r (now (seen .exit)) (now (tot .exit)) (now (sum .exit)) ⌝ }
+    ensures { λ r. ⌜ (
+        let M : Model = model info (viewTables (now (gconsts .entry)) (now («means_invvars_t» .entry)) (now («inv_vars_t» .entry)) (now («lda_t» .entry)) (now («lda_offset» .entry)) (now (global .entry))) in
+        let F : Frames = ringFrames (info .dims .«base_dim») accepted (now (frames .entry)) (now (rows .entry)) in
+        let d = info .dims .«feat_dim» in
+        let x = entries M F (run first weight n) (now (cmvn .entry)) in
+        (now (cmvn .exit) ≡ x .0)
+        × Slots (info .dims .«num_gauss») d r (now (seen .exit)) (now (tot .exit)) (now (sum .exit))
+        × Sums d (x .1) r (now (seen .exit)) (now (tot .exit)) (now (sum .exit))) ⌝ }
 {
     let mut m = 0;
     for i in 0..n {
@@ -237,11 +252,17 @@ fn take_changes(
     sum: &mut [f64],
 ) -> usize
     requires { ⌜ Lent (info .dims .«base_dim») accepted (now global) (now frames) (now rows) (now cmvn) ⌝ }
-    requires { ⌜ Ready info (now gconsts) (now «means_invvars_t») (now «inv_vars_t») (now «lda_t») (now «lda_offset») ⌝ }
-    requires { ⌜ (n ≤ length (now «waiting_frames»)) × (n ≤ length (now «waiting_weights»)) × ((k : ℕ) → k < n → getD (now «waiting_frames») k 0 < accepted) × Slots (info .dims .«num_gauss») (info .dims .«feat_dim») 0 (now seen) (now tot) (now sum) ⌝ }
-    ensures { λ r. ⌜ (now (cmvn .exit) ≡ entries (viewModel info (now (gconsts .entry)) (now («means_invvars_t» .entry)) (now («inv_vars_t» .entry)) (now («lda_t» .entry)) (now («lda_offset» .entry)) (now (global .entry))) (ringFrames (info .dims .«base_dim») accepted (now (frames .entry)) (now (rows .entry))) (changesBatch (info .opts) (waitingIn n (now («waiting_frames» .entry)) (now («waiting_weights» .entry)))) (now (cmvn .entry)) .0)
-        × Slots (info .dims .«num_gauss») (info .dims .«feat_dim») r (now (seen .exit)) (now (tot .exit)) (now (sum .exit))
-        × Sums (info .dims .«feat_dim») (entries (viewModel info (now (gconsts .entry)) (now («means_invvars_t» .entry)) (now («inv_vars_t» .entry)) (now («lda_t» .entry)) (now («lda_offset» .entry)) (now (global .entry))) (ringFrames (info .dims .«base_dim») accepted (now (frames .entry)) (now (rows .entry))) (changesBatch (info .opts) (waitingIn n (now («waiting_frames» .entry)) (now («waiting_weights» .entry)))) (now (cmvn .entry)) .1) r (now (seen .exit)) (now (tot .exit)) (now (sum .exit)) ⌝ }
+    requires { ⌜ Ready info (viewTables (now gconsts) (now «means_invvars_t») (now «inv_vars_t») (now «lda_t») (now «lda_offset») (now global)) ⌝ }
+    requires { ⌜ (n ≤ length (now «waiting_frames»)) × (n ≤ length (now «waiting_weights»)) × ((k : ℕ) → k < n → getD (now «waiting_frames») k 0 < accepted)
+        × Slots (info .dims .«num_gauss») (info .dims .«feat_dim») 0 (now seen) (now tot) (now sum) ⌝ }
+    ensures { λ r. ⌜ (
+        let M : Model = model info (viewTables (now (gconsts .entry)) (now («means_invvars_t» .entry)) (now («inv_vars_t» .entry)) (now («lda_t» .entry)) (now («lda_offset» .entry)) (now (global .entry))) in
+        let F : Frames = ringFrames (info .dims .«base_dim») accepted (now (frames .entry)) (now (rows .entry)) in
+        let d = info .dims .«feat_dim» in
+        let x = entries M F (changesBatch (info .opts) (waitingIn n (now («waiting_frames» .entry)) (now («waiting_weights» .entry)))) (now (cmvn .entry)) in
+        (now (cmvn .exit) ≡ x .0)
+        × Slots (info .dims .«num_gauss») d r (now (seen .exit)) (now (tot .exit)) (now (sum .exit))
+        × Sums d (x .1) r (now (seen .exit)) (now (tot .exit)) (now (sum .exit))) ⌝ }
 {
     let o = info.opts;
     let mut m = 0;
@@ -297,11 +318,17 @@ fn acc_run(
     scratch: &mut [f64],
 ) -> f64
     requires { ⌜ Lent (info .dims .«base_dim») accepted (now global) (now frames) (now rows) (now cmvn) ⌝ }
-    requires { ⌜ Ready info (now gconsts) (now «means_invvars_t») (now «inv_vars_t») (now «lda_t») (now «lda_offset») ⌝ }
-    requires { ⌜ Solvable info (now «sigma_inv_m») (now u) (now linear) (now quadratic) (now scratch) ⌝ }
+    requires { ⌜ (
+        let t : Tables = tablesFrom (now gconsts) (now «means_invvars_t») (now «inv_vars_t») (now «sigma_inv_m») (now u) (now «lda_t») (now «lda_offset») (now global) in
+        Ready info t × Solvable info t (now linear) (now quadratic) (length (now scratch))) ⌝ }
     requires { ⌜ (first + n ≤ accepted) × (0 < n) ⌝ }
-    ensures { λ r. ⌜ (now (cmvn .exit) ≡ entries (modelOf info (now (gconsts .entry)) (now («means_invvars_t» .entry)) (now («inv_vars_t» .entry)) (now («sigma_inv_m» .entry)) (now (u .entry)) (now («lda_t» .entry)) (now («lda_offset» .entry)) (now (global .entry))) (ringFrames (info .dims .«base_dim») accepted (now (frames .entry)) (now (rows .entry))) (run first (unweighted (info .opts)) n) (now (cmvn .entry)) .0)
-        × (statsIn r (now (linear .exit)) (now (quadratic .exit)) ≡ accumulated (modelOf info (now (gconsts .entry)) (now («means_invvars_t» .entry)) (now («inv_vars_t» .entry)) (now («sigma_inv_m» .entry)) (now (u .entry)) (now («lda_t» .entry)) (now («lda_offset» .entry)) (now (global .entry))) (run first (unweighted (info .opts)) n) (entries (modelOf info (now (gconsts .entry)) (now («means_invvars_t» .entry)) (now («inv_vars_t» .entry)) (now («sigma_inv_m» .entry)) (now (u .entry)) (now («lda_t» .entry)) (now («lda_offset» .entry)) (now (global .entry))) (ringFrames (info .dims .«base_dim») accepted (now (frames .entry)) (now (rows .entry))) (run first (unweighted (info .opts)) n) (now (cmvn .entry)) .1) (statsIn «num_frames» (now (linear .entry)) (now (quadratic .entry)))) ⌝ }
+    ensures { λ r. ⌜ (
+        let M : Model = model info (tablesFrom (now (gconsts .entry)) (now («means_invvars_t» .entry)) (now («inv_vars_t» .entry)) (now («sigma_inv_m» .entry)) (now (u .entry)) (now («lda_t» .entry)) (now («lda_offset» .entry)) (now (global .entry))) in
+        let F : Frames = ringFrames (info .dims .«base_dim») accepted (now (frames .entry)) (now (rows .entry)) in
+        let bs : Batch = run first (unweighted (info .opts)) n in
+        let x = entries M F bs (now (cmvn .entry)) in
+        (now (cmvn .exit) ≡ x .0)
+        × (statsIn r (now (linear .exit)) (now (quadratic .exit)) ≡ accumulated M bs (x .1) (statsIn «num_frames» (now (linear .entry)) (now (quadratic .entry))))) ⌝ }
 {
     let mut seen = [0usize; 1024];
     let mut tot = [0.0f64; 1024];
@@ -369,11 +396,17 @@ fn acc_changes(
     scratch: &mut [f64],
 ) -> f64
     requires { ⌜ Lent (info .dims .«base_dim») accepted (now global) (now frames) (now rows) (now cmvn) ⌝ }
-    requires { ⌜ Ready info (now gconsts) (now «means_invvars_t») (now «inv_vars_t») (now «lda_t») (now «lda_offset») ⌝ }
-    requires { ⌜ Solvable info (now «sigma_inv_m») (now u) (now linear) (now quadratic) (now scratch) ⌝ }
+    requires { ⌜ (
+        let t : Tables = tablesFrom (now gconsts) (now «means_invvars_t») (now «inv_vars_t») (now «sigma_inv_m») (now u) (now «lda_t») (now «lda_offset») (now global) in
+        Ready info t × Solvable info t (now linear) (now quadratic) (length (now scratch))) ⌝ }
     requires { ⌜ (n ≤ length (now «waiting_frames»)) × (n ≤ length (now «waiting_weights»)) × ((k : ℕ) → k < n → getD (now «waiting_frames») k 0 < accepted) ⌝ }
-    ensures { λ r. ⌜ (now (cmvn .exit) ≡ entries (modelOf info (now (gconsts .entry)) (now («means_invvars_t» .entry)) (now («inv_vars_t» .entry)) (now («sigma_inv_m» .entry)) (now (u .entry)) (now («lda_t» .entry)) (now («lda_offset» .entry)) (now (global .entry))) (ringFrames (info .dims .«base_dim») accepted (now (frames .entry)) (now (rows .entry))) (changesBatch (info .opts) (waitingIn n (now («waiting_frames» .entry)) (now («waiting_weights» .entry)))) (now (cmvn .entry)) .0)
-        × (statsIn r (now (linear .exit)) (now (quadratic .exit)) ≡ accumulated (modelOf info (now (gconsts .entry)) (now («means_invvars_t» .entry)) (now («inv_vars_t» .entry)) (now («sigma_inv_m» .entry)) (now (u .entry)) (now («lda_t» .entry)) (now («lda_offset» .entry)) (now (global .entry))) (changesBatch (info .opts) (waitingIn n (now («waiting_frames» .entry)) (now («waiting_weights» .entry)))) (entries (modelOf info (now (gconsts .entry)) (now («means_invvars_t» .entry)) (now («inv_vars_t» .entry)) (now («sigma_inv_m» .entry)) (now (u .entry)) (now («lda_t» .entry)) (now («lda_offset» .entry)) (now (global .entry))) (ringFrames (info .dims .«base_dim») accepted (now (frames .entry)) (now (rows .entry))) (changesBatch (info .opts) (waitingIn n (now («waiting_frames» .entry)) (now («waiting_weights» .entry)))) (now (cmvn .entry)) .1) (statsIn «num_frames» (now (linear .entry)) (now (quadratic .entry)))) ⌝ }
+    ensures { λ r. ⌜ (
+        let M : Model = model info (tablesFrom (now (gconsts .entry)) (now («means_invvars_t» .entry)) (now («inv_vars_t» .entry)) (now («sigma_inv_m» .entry)) (now (u .entry)) (now («lda_t» .entry)) (now («lda_offset» .entry)) (now (global .entry))) in
+        let F : Frames = ringFrames (info .dims .«base_dim») accepted (now (frames .entry)) (now (rows .entry)) in
+        let bs : Batch = changesBatch (info .opts) (waitingIn n (now («waiting_frames» .entry)) (now («waiting_weights» .entry))) in
+        let x = entries M F bs (now (cmvn .entry)) in
+        (now (cmvn .exit) ≡ x .0)
+        × (statsIn r (now (linear .exit)) (now (quadratic .exit)) ≡ accumulated M bs (x .1) (statsIn «num_frames» (now (linear .entry)) (now (quadratic .entry))))) ⌝ }
 {
     if n == 0 {
         return num_frames;
@@ -447,11 +480,17 @@ fn acc_until(
     scratch: &mut [f64],
 ) -> f64
     requires { ⌜ Lent (info .dims .«base_dim») accepted (now global) (now frames) (now rows) (now cmvn) ⌝ }
-    requires { ⌜ Ready info (now gconsts) (now «means_invvars_t») (now «inv_vars_t») (now «lda_t») (now «lda_offset») ⌝ }
-    requires { ⌜ Solvable info (now «sigma_inv_m») (now u) (now linear) (now quadratic) (now scratch) ⌝ }
+    requires { ⌜ (
+        let t : Tables = tablesFrom (now gconsts) (now «means_invvars_t») (now «inv_vars_t») (now «sigma_inv_m») (now u) (now «lda_t») (now «lda_offset») (now global) in
+        Ready info t × Solvable info t (now linear) (now quadratic) (length (now scratch))) ⌝ }
     requires { ⌜ (next ≤ f) × (f < accepted) × (n ≤ length (now «waiting_frames»)) × (n ≤ length (now «waiting_weights»)) × ((k : ℕ) → k < n → getD (now «waiting_frames») k 0 < accepted) ⌝ }
-    ensures { λ r. ⌜ (now (cmvn .exit) ≡ entries (modelOf info (now (gconsts .entry)) (now («means_invvars_t» .entry)) (now («inv_vars_t» .entry)) (now («sigma_inv_m» .entry)) (now (u .entry)) (now («lda_t» .entry)) (now («lda_offset» .entry)) (now (global .entry))) (ringFrames (info .dims .«base_dim») accepted (now (frames .entry)) (now (rows .entry))) (batchOf (info .opts) called next f (waitingIn n (now («waiting_frames» .entry)) (now («waiting_weights» .entry)))) (now (cmvn .entry)) .0)
-        × (statsIn r (now (linear .exit)) (now (quadratic .exit)) ≡ accumulated (modelOf info (now (gconsts .entry)) (now («means_invvars_t» .entry)) (now («inv_vars_t» .entry)) (now («sigma_inv_m» .entry)) (now (u .entry)) (now («lda_t» .entry)) (now («lda_offset» .entry)) (now (global .entry))) (batchOf (info .opts) called next f (waitingIn n (now («waiting_frames» .entry)) (now («waiting_weights» .entry)))) (entries (modelOf info (now (gconsts .entry)) (now («means_invvars_t» .entry)) (now («inv_vars_t» .entry)) (now («sigma_inv_m» .entry)) (now (u .entry)) (now («lda_t» .entry)) (now («lda_offset» .entry)) (now (global .entry))) (ringFrames (info .dims .«base_dim») accepted (now (frames .entry)) (now (rows .entry))) (batchOf (info .opts) called next f (waitingIn n (now («waiting_frames» .entry)) (now («waiting_weights» .entry)))) (now (cmvn .entry)) .1) (statsIn «num_frames» (now (linear .entry)) (now (quadratic .entry)))) ⌝ }
+    ensures { λ r. ⌜ (
+        let M : Model = model info (tablesFrom (now (gconsts .entry)) (now («means_invvars_t» .entry)) (now («inv_vars_t» .entry)) (now («sigma_inv_m» .entry)) (now (u .entry)) (now («lda_t» .entry)) (now («lda_offset» .entry)) (now (global .entry))) in
+        let F : Frames = ringFrames (info .dims .«base_dim») accepted (now (frames .entry)) (now (rows .entry)) in
+        let bs : Batch = batchOf (info .opts) called next f (waitingIn n (now («waiting_frames» .entry)) (now («waiting_weights» .entry))) in
+        let x = entries M F bs (now (cmvn .entry)) in
+        (now (cmvn .exit) ≡ x .0)
+        × (statsIn r (now (linear .exit)) (now (quadratic .exit)) ≡ accumulated M bs (x .1) (statsIn «num_frames» (now (linear .entry)) (now (quadratic .entry))))) ⌝ }
 {
     if called {
         return acc_changes(
@@ -529,10 +568,18 @@ pub fn update_stats_until(
     scratch: &mut [f64],
 ) -> f64
     requires { ⌜ Lent (info .dims .«base_dim») accepted (now global) (now frames) (now rows) (now cmvn) ⌝ }
-    requires { ⌜ Ready info (now gconsts) (now «means_invvars_t») (now «inv_vars_t») (now «lda_t») (now «lda_offset») ⌝ }
-    requires { ⌜ Solvable info (now «sigma_inv_m») (now u) (now linear) (now quadratic) (now scratch) ⌝ }
-    requires { ⌜ (next ≤ f) × (f < accepted) × (n ≤ length (now «waiting_frames»)) × (n ≤ length (now «waiting_weights»)) × ((k : ℕ) → k < n → getD (now «waiting_frames») k 0 < accepted) × (length (now current) ≡ info .dims .«ivector_dim») ⌝ }
-    ensures { λ r. ⌜ estimate (now (cmvn .exit)) (statsIn r (now (linear .exit)) (now (quadratic .exit))) (now (current .exit)) ≡ updated (modelOf info (now (gconsts .entry)) (now («means_invvars_t» .entry)) (now («inv_vars_t» .entry)) (now («sigma_inv_m» .entry)) (now (u .entry)) (now («lda_t» .entry)) (now («lda_offset» .entry)) (now (global .entry))) (ringFrames (info .dims .«base_dim») accepted (now (frames .entry)) (now (rows .entry))) (batchOf (info .opts) called next f (waitingIn n (now («waiting_frames» .entry)) (now («waiting_weights» .entry)))) (estimate (now (cmvn .entry)) (statsIn «num_frames» (now (linear .entry)) (now (quadratic .entry))) (now (current .entry))) ⌝ }
+    requires { ⌜ (
+        let t : Tables = tablesFrom (now gconsts) (now «means_invvars_t») (now «inv_vars_t») (now «sigma_inv_m») (now u) (now «lda_t») (now «lda_offset») (now global) in
+        Ready info t × Solvable info t (now linear) (now quadratic) (length (now scratch))) ⌝ }
+    requires { ⌜ (next ≤ f) × (f < accepted) × (n ≤ length (now «waiting_frames»)) × (n ≤ length (now «waiting_weights»)) × ((k : ℕ) → k < n → getD (now «waiting_frames») k 0 < accepted)
+        × (length (now current) ≡ info .dims .«ivector_dim») ⌝ }
+    ensures { λ r. ⌜ (
+        let M : Model = model info (tablesFrom (now (gconsts .entry)) (now («means_invvars_t» .entry)) (now («inv_vars_t» .entry)) (now («sigma_inv_m» .entry)) (now (u .entry)) (now («lda_t» .entry)) (now («lda_offset» .entry)) (now (global .entry))) in
+        let F : Frames = ringFrames (info .dims .«base_dim») accepted (now (frames .entry)) (now (rows .entry)) in
+        let bs : Batch = batchOf (info .opts) called next f (waitingIn n (now («waiting_frames» .entry)) (now («waiting_weights» .entry))) in
+        let e₀ : Estimate = record { cmvn = now (cmvn .entry); stats = statsIn «num_frames» (now (linear .entry)) (now (quadratic .entry)); current = now (current .entry) } in
+        let e : Estimate = updated M F bs e₀ in
+        (now (cmvn .exit) ≡ e .cmvn) × (statsIn r (now (linear .exit)) (now (quadratic .exit)) ≡ e .stats) × (now (current .exit) ≡ e .current)) ⌝ }
 {
     let count = acc_until(
         info,
@@ -601,15 +648,19 @@ pub fn update_rooms(
     current: &mut [f64],
     scratch: &mut [f64],
 ) -> f64
-    requires { ⌜ Roomy info (now gconsts) (now «means_invvars_t») (now «inv_vars_t») (now «sigma_inv_m») (now u) (now «lda_t») (now «lda_offset») (now global) (now frames) (now rows) (now cmvn) (now linear) (now quadratic) (now current) (now scratch) ⌝ }
+    requires { ⌜ (
+        let t : Tables = tablesFrom (now gconsts) (now «means_invvars_t») (now «inv_vars_t») (now «sigma_inv_m») (now u) (now «lda_t») (now «lda_offset») (now global) in
+        let z : Rooms = roomsFrom (ringsFrom (now frames) (now rows) (now «waiting_frames») (now «waiting_weights»)) (estimateFrom (now cmvn) (now linear) (now quadratic) (now current)) in
+        (recordSound info ≡ true) × (tablesFit (info .opts) (info .dims) (tableLengthsOf t) ≡ true) × (roomsFit (info .dims) (roomLengthsOf z (length (now scratch))) ≡ true)) ⌝ }
     requires { ⌜ (next ≤ f) × (f < accepted) × (accepted ≤ 1000000000) × (n ≤ length (now «waiting_frames»)) × (n ≤ length (now «waiting_weights»)) × ((k : ℕ) → k < n → getD (now «waiting_frames») k 0 < accepted) ⌝ }
     ensures { λ r. ⌜ (
-        let e : Estimate = updated (keptModel info (now (gconsts .entry)) (now («means_invvars_t» .entry)) (now («inv_vars_t» .entry)) (now («sigma_inv_m» .entry)) (now (u .entry)) (now («lda_t» .entry)) (now («lda_offset» .entry)) (now (global .entry))) (ringFrames (info .dims .«base_dim») accepted (now (frames .entry)) (now (rows .entry))) (batchOf (info .opts) called next f (waitingIn n (now («waiting_frames» .entry)) (now («waiting_weights» .entry)))) (keptEstimate info (now (cmvn .entry)) «num_frames» (now (linear .entry)) (now (quadratic .entry)) (now (current .entry))) in
+        let t : Tables = tablesFrom (now (gconsts .entry)) (now («means_invvars_t» .entry)) (now («inv_vars_t» .entry)) (now («sigma_inv_m» .entry)) (now (u .entry)) (now («lda_t» .entry)) (now («lda_offset» .entry)) (now (global .entry)) in
+        let e₀ : EstimateRooms = estimateFrom (now (cmvn .entry)) (now (linear .entry)) (now (quadratic .entry)) (now (current .entry)) in
+        let F : Frames = ringFrames (info .dims .«base_dim») accepted (now (frames .entry)) (now (rows .entry)) in
+        let bs : Batch = batchOf (info .opts) called next f (waitingIn n (now («waiting_frames» .entry)) (now («waiting_weights» .entry))) in
+        let e : Estimate = updated (modelIn info t) F bs (estimateAt (info .dims) «num_frames» e₀) in
         (r ≡ e .stats .num-frames)
-        × (now (cmvn .exit) ≡ over (e .cmvn) (now (cmvn .entry)))
-        × (now (linear .exit) ≡ over (e .stats .linear) (now (linear .entry)))
-        × (now (quadratic .exit) ≡ over (e .stats .quadratic) (now (quadratic .entry)))
-        × (now (current .exit) ≡ over (e .current) (now (current .entry)))) ⌝ }
+        × (estimateFrom (now (cmvn .exit)) (now (linear .exit)) (now (quadratic .exit)) (now (current .exit)) ≡ overEstimate e e₀)) ⌝ }
 {
     let o = info.opts;
     let d = info.dims;

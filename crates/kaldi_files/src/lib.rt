@@ -25,7 +25,7 @@ use kaldi_io::same_at;
 use kaldi_io::skip_double_vec;
 use kaldi_io::skip_float_vec;
 ghost use mathlib.Core.Path.{_≡_};
-ghost use mathlib.Core.Bool.{Bool, true, false, _&&_};
+ghost use mathlib.Core.Bool.{true, false, _&&_};
 ghost use lib.Ieee.{binary32, binary64};
 ghost use Rattle.definition.specs.Options.{maxFeat, maxIvector, maxColumns};
 ghost use Rattle.definition.specs.Reader.{times};

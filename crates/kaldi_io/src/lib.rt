@@ -1,7 +1,7 @@
 // Reader of Kaldi's binary format, on lent bytes and a position: as `KaldiReader` in the Rust. A block is checked where it stands; its
 // numbers are read from there once everything is checked.
 ghost use mathlib.Core.Path.{_≡_};
-ghost use mathlib.Core.Bool.{Bool, not};
+ghost use mathlib.Core.Bool.{not};
 ghost use Prim.Native.Nat.{_+_, _-_, _≤_, _<_};
 ghost use lib.ListN.{length, take, drop};
 ghost use lib.Ieee.{binary32, binary64, ofBits};

@@ -1,23 +1,53 @@
--- A stream's record: what a test of it tells, and what is known of one that is not broken.
-use mathlib.Core.Path.{_≡_, sym, ap, _∙_}
+-- A stream's rooms and its record: what a test of them tells, as code makes it, and what is known of a record that is not broken.
+use mathlib.Core.Path.{_≡_, refl, sym, ap, _∙_}
 use mathlib.Core.Bool.{Bool, true, false, not, _||_, or-false}
-use mathlib.Core.List.{List}
-use Prim.Native.Nat.{ℕ, _+_, _-_, _≤_, min}
+use mathlib.Core.List.{List, zipWith}
+use Prim.Native.Nat.{ℕ, _+_, _-_, _≤_, _<_, min}
 use native.Mathlib.Omega.{arith}
-use lib.ListN.{length, take}
+use lib.ListN.{length, getD, take}
 use lib.Seq.{take-all, take-length}
 use native.Mathlib.Nat.{min-eq-left, min-eq-right}
 use native.Mathlib.Decide.{decLe}
-use lib.Dec.{ltb}
-use borrow.Author.Tests.{ltb-false, not-false}
+use lib.Dec.{leb, ltb}
+use borrow.Author.Tests.{ltb-false, not-false, le-leb, lt-leb}
 use Rattle.loops.specs.Lists.{anyOf}
 use Rattle.loops.specs.Ring.{rowsIn}
-use Rattle.loops.proofs.Tests.{none-of}
+use Rattle.loops.proofs.Tests.{none-of, at-some, at-fail}
+use Rattle.definition.specs.declared.Dimensions.{Dimensions}
+use Rattle.definition.specs.declared.RoomLengths.{RoomLengths}
 use Rattle.definition.specs.declared.IvectorStream.{IvectorStream}
 use Rattle.definition.specs.Machine.{framesHeld, rowsHeld, waitingRoom}
-use Rattle.definition.specs.Stream.{infoSound, roomsFit, rising, breaks, isBroken}
+use Rattle.definition.specs.Stream.{infoSound, streamScratch, estimateLengths, estimateSizes, roomsFit, rising, breaks, isBroken}
 use Rattle.limits.specs.Steps.{waitingBroken}
-use Rattle.limits.proofs.Listed.{FirstAre, any-rest}
+use Rattle.limits.proofs.Listed.{FirstAre, all-last, any-rest, pair-fail, pair-last}
+
+-- ---- rooms
+
+module _ (d : Dimensions) (z : RoomLengths) where
+  abbrev pub estimate-tests : List Bool
+  estimate-tests = zipWith leb (estimateSizes d) (estimateLengths (z .estimate))
+
+  pub few-frames : rowsIn (z .rings .frames) (d .«base_dim») < 1 → false ≡ roomsFit d z
+  unfolding roomsFit
+  few-frames h = sym (at-fail (λ t. t) false _ 0 (omega arith) (lt-leb _ _ h))
+
+  pub few-rows : rowsIn (z .rings .rows) (d .«base_dim») < 2 → false ≡ roomsFit d z
+  unfolding roomsFit
+  few-rows h = sym (at-fail (λ t. t) false _ 1 (omega arith) (lt-leb _ _ h))
+
+  pub short-room : (k : ℕ) → k < length estimate-tests → getD estimate-tests k false ≡ false → false ≡ roomsFit d z
+  unfolding roomsFit
+  short-room k l h = sym (at-fail (λ t. t) false _ 2 (omega arith) (sym (pair-fail leb (estimateSizes d) (estimateLengths (z .estimate)) k refl l h)))
+
+  -- scratch decides
+  pub last-room : 1 ≤ rowsIn (z .rings .frames) (d .«base_dim») → 2 ≤ rowsIn (z .rings .rows) (d .«base_dim») → FirstAre true 4 estimate-tests
+      → leb (streamScratch d) (z .estimate .scratch) ≡ roomsFit d z
+  unfolding roomsFit zipWith
+  last-room f r h =
+      pair-last leb (estimateSizes d) (estimateLengths (z .estimate)) 4 refl refl h
+      ∙ all-last 2 _ refl (le-leb _ _ f, (le-leb _ _ r, tt))
+
+-- ---- a record
 
 pub record Whole (s : IvectorStream) (waiting : List ℕ) : Type 0 where
   pub info-is : infoSound (s .info) ≡ true
@@ -25,9 +55,9 @@ pub record Whole (s : IvectorStream) (waiting : List ℕ) : Type 0 where
   pub few : s .accepted ≤ 1000000000
   pub next-is : s .«num_frames_stats» ≤ s .accepted
   pub mark-is : s .mark ≤ s .«num_frames_stats» - s .info .opts .«left_context»
-  pub frames-fit : s .accepted - s .mark ≤ rowsIn (s .rooms .frames) (s .info .dims .«base_dim»)
-  pub rows-fit : s .accepted + 1 - (s .mark + 1 - s .info .opts .«cmn_window») ≤ rowsIn (s .rooms .rows) (s .info .dims .«base_dim»)
-  pub waiting-fit : s .waiting ≤ waitingRoom (s .rooms)
+  pub frames-fit : s .accepted - s .mark ≤ rowsIn (s .rooms .rings .frames) (s .info .dims .«base_dim»)
+  pub rows-fit : s .accepted + 1 - (s .mark + 1 - s .info .opts .«cmn_window») ≤ rowsIn (s .rooms .rings .rows) (s .info .dims .«base_dim»)
+  pub waiting-fit : s .waiting ≤ waitingRoom (s .rooms .rings)
   pub in-order : rising 0 (take (s .waiting) waiting) ≡ true
   pub held-back : anyOf (λ f. ltb (f - s .info .opts .«left_context») (s .mark)) (take (s .waiting) waiting) ≡ false
 
@@ -47,6 +77,11 @@ whole s waiting e =
       in-order = not-false _ (h .1 .1 .1 .1 .1 .1 .1 .1 .0);
       held-back = h .1 .1 .1 .1 .1 .1 .1 .1 .1 .0;
     }
+
+-- one of the tests holds
+pub broken-at : (s : IvectorStream) (waiting : List ℕ) (k : ℕ) → k < length (breaks s waiting) → getD (breaks s waiting) k false ≡ true → true ≡ isBroken s waiting
+unfolding isBroken
+broken-at s waiting k l h = sym (at-some (λ t. t) false (breaks s waiting) k l h)
 
 take-min : (n : ℕ) (l : List ℕ) → take (min n (length l)) l ≡ take n l
 take-min n l = go (decLe n (length l))

@@ -1,19 +1,23 @@
 // Limits of options, dimensions and lent lengths, and what makes a record one that no call has made. Pure tests.
 use definition::Dimensions;
+use definition::EstimateLengths;
 use definition::IvectorInfo;
 use definition::IvectorOptions;
 use definition::IvectorStream;
+use definition::RingLengths;
 use definition::RoomLengths;
 use definition::TableLengths;
 ghost use mathlib.Core.Path.{_≡_};
 ghost use mathlib.Core.Bool.{true, _&&_};
 ghost use Prim.Native.Nat.{_-_, _≤_, min, max};
+ghost use lib.Dec.{eqb};
 ghost use lib.Ieee.{le, lt};
+ghost use Rattle.loops.specs.Lists.{pairwise};
 ghost use Rattle.floats.specs.Operators.{zero₃₂, one₃₂};
 ghost use Rattle.definition.specs.Options.{within, optionsInRange, dimsInRange, dimsAgree};
 ghost use Rattle.definition.specs.Model.{tablesFit, loadScratch};
 ghost use Rattle.definition.specs.Machine.{framesHeld, rowsHeld, framesReady};
-ghost use Rattle.definition.specs.Stream.{infoSound, sameTables, streamScratch, roomsFit, isBroken, sameRings, sameRooms};
+ghost use Rattle.definition.specs.Stream.{recordSound, infoSound, sameTables, streamScratch, estimateLengths, roomsFit, isBroken, sameRings, sameRooms};
 ghost use Rattle.limits.specs.Steps.{waitingBroken};
 
 // a less b, not below 0.
@@ -162,6 +166,21 @@ pub fn tables_fit(o: IvectorOptions, d: Dimensions, z: TableLengths) -> bool
     d.base_dim + 1 <= z.global_mean_stats
 }
 
+// Refusal 10 of a fresh stream, where false: options and dimensions that no load takes.
+pub fn record_sound(i: IvectorInfo) -> bool
+    ensures { λ r. ⌜ r ≡ recordSound i ⌝ }
+{
+    let o = i.opts;
+    let d = i.dims;
+    if !options_in_range(o) {
+        return false;
+    }
+    if !dims_in_range(d) {
+        return false;
+    }
+    dims_agree(o, d)
+}
+
 // Whether a model's record could come from a load.
 pub fn info_sound(i: IvectorInfo) -> bool
     ensures { λ r. ⌜ r ≡ infoSound i ⌝ }
@@ -169,13 +188,7 @@ pub fn info_sound(i: IvectorInfo) -> bool
     let o = i.opts;
     let d = i.dims;
     let z = i.tables;
-    if !options_in_range(o) {
-        return false;
-    }
-    if !dims_in_range(d) {
-        return false;
-    }
-    if !dims_agree(o, d) {
+    if !record_sound(i) {
         return false;
     }
     tables_fit(o, d, z)
@@ -231,30 +244,32 @@ pub fn rooms_fit(d: Dimensions, z: RoomLengths) -> bool
     ensures { λ r. ⌜ r ≡ roomsFit d z ⌝ }
 {
     let s = d.ivector_dim;
-    if z.frames < d.base_dim {
+    let r = z.rings;
+    let e = z.estimate;
+    if r.frames < d.base_dim {
         return false;
     }
-    if z.rows < 2 * d.base_dim {
+    if r.rows < 2 * d.base_dim {
         return false;
     }
-    if z.cmvn_stats < d.base_dim + 1 {
+    if e.cmvn_stats < d.base_dim + 1 {
         return false;
     }
-    if z.linear < s {
+    if e.linear < s {
         return false;
     }
-    if z.quadratic < s * (s + 1) / 2 {
+    if e.quadratic < s * (s + 1) / 2 {
         return false;
     }
-    if z.current < s {
+    if e.current < s {
         return false;
     }
     let scratch = stream_scratch(d);
-    scratch <= z.scratch
+    scratch <= e.scratch
 }
 
-// Of the rooms that every call is lent.
-pub fn same_rings(a: RoomLengths, b: RoomLengths) -> bool
+// Of the rings that every call is lent.
+pub fn same_rings(a: RingLengths, b: RingLengths) -> bool
     ensures { λ r. ⌜ r ≡ sameRings a b ⌝ }
 {
     if a.frames != b.frames {
@@ -269,12 +284,10 @@ pub fn same_rings(a: RoomLengths, b: RoomLengths) -> bool
     a.waiting_weights == b.waiting_weights
 }
 
-pub fn same_rooms(a: RoomLengths, b: RoomLengths) -> bool
-    ensures { λ r. ⌜ r ≡ sameRooms a b ⌝ }
+// Of the rooms that a fetch is lent besides.
+fn same_estimate(a: EstimateLengths, b: EstimateLengths) -> bool
+    ensures { λ r. ⌜ r ≡ pairwise eqb (estimateLengths a) (estimateLengths b) ⌝ }
 {
-    if !same_rings(a, b) {
-        return false;
-    }
     if a.cmvn_stats != b.cmvn_stats {
         return false;
     }
@@ -288,6 +301,19 @@ pub fn same_rooms(a: RoomLengths, b: RoomLengths) -> bool
         return false;
     }
     a.scratch == b.scratch
+}
+
+pub fn same_rooms(a: RoomLengths, b: RoomLengths) -> bool
+    ensures { λ r. ⌜ r ≡ sameRooms a b ⌝ }
+{
+    let x = a.rings;
+    let y = b.rings;
+    if !same_rings(x, y) {
+        return false;
+    }
+    let e = a.estimate;
+    let f = b.estimate;
+    same_estimate(e, f)
 }
 
 // ---- a stream's record
@@ -353,6 +379,7 @@ pub fn is_broken(s: IvectorStream, waiting: &[usize]) -> bool
     let o = i.opts;
     let d = i.dims;
     let z = s.rooms;
+    let r = z.rings;
     if !info_sound(i) {
         return true;
     }
@@ -370,14 +397,14 @@ pub fn is_broken(s: IvectorStream, waiting: &[usize]) -> bool
         return true;
     }
     let frames = frames_held(s.accepted, s.mark);
-    if z.frames < frames * d.base_dim {
+    if r.frames < frames * d.base_dim {
         return true;
     }
     let rows = rows_held(o.cmn_window, s.accepted, s.mark);
-    if z.rows < rows * d.base_dim {
+    if r.rows < rows * d.base_dim {
         return true;
     }
-    let room = smaller(z.waiting_frames, z.waiting_weights);
+    let room = smaller(r.waiting_frames, r.waiting_weights);
     if room < s.waiting {
         return true;
     }

@@ -10,7 +10,8 @@ use lib.ListN.{length, getD, set, take, drop, replicate, length-append, length-t
 use lib.Seq.{drop-cons, set-at, append-snoc, take-at, drop-at, drop-drop, drop-length, length-take-le, getD-append-add, getD-take, getD-drop, paste, paste-suc}
 use Rattle.loops.specs.Loop.{iter}
 use Rattle.loops.specs.Lists.{build, over}
-use Rattle.loops.specs.Steps.{fill, put}
+use Rattle.loops.specs.Steps.{fill}
+use Rattle.loops.specs.Ring.{put}
 use Rattle.loops.proofs.Loop.{at-end}
 use Rattle.loops.proofs.Build.{length-build, at-build, build-snoc, build-ext, build-add, build-take, build-list, build-same}
 

@@ -9,7 +9,7 @@ use borrow.Author.Needs.{needs}
 use lib.ListN.{length, getD, take, drop, length-append, List·getD-append}
 use lib.Seq.{take-at, drop-at, getD-append-add}
 use Rattle.loops.specs.Lists.{build, flat, over}
-use Rattle.loops.specs.Steps.{put}
+use Rattle.loops.specs.Ring.{put}
 use Rattle.loops.proofs.Loop.{at-end}
 use Rattle.loops.proofs.Cells.{cell-row, cell-column}
 use Rattle.loops.proofs.Build.{length-build, at-build, build-ext, build-add}

@@ -11,8 +11,7 @@ use borrow.Author.Tests.{le-leb, lt-leb}
 use lib.Dec.{leb}
 use lib.ListN.{length, getD}
 use Rattle.loops.specs.Lists.{if_then_else_}
-use Rattle.loops.specs.Ring.{rowsIn}
-use Rattle.loops.specs.Steps.{put, place}
+use Rattle.loops.specs.Ring.{rowsIn, put, place}
 use Rattle.loops.proofs.Cells.{row-in}
 use Rattle.loops.proofs.Choose.{choose-true, choose-false}
 use Rattle.loops.proofs.Fill.{put-at, put-before, put-past}

@@ -1,19 +1,14 @@
 -- What loops in code leave. Not for readers.
 use mathlib.Core.Bool.{Bool, true, false}
 use mathlib.Core.List.{List, _++_}
-use Prim.Native.Nat.{ℕ, _+_, _-_, _*_, _%_}
-use lib.ListN.{length, take, drop}
+use Prim.Native.Nat.{ℕ, _+_, _-_}
+use lib.ListN.{drop}
 use Rattle.loops.specs.Loop.{iter, Out, on, off}
 use Rattle.loops.specs.Lists.{build}
-use Rattle.loops.specs.Ring.{rowsIn}
 
 -- a room with f 0, f 1, .., f (n - 1) in its first n places
 unfoldable pub fill : {A : Type 0} → ℕ → (ℕ → A) → List A → List A
 fill n f x = build n f ++ drop n x
-
--- a room with xs from place a on
-unfoldable pub put : {A : Type 0} → ℕ → List A → List A → List A
-put a xs room = take a room ++ (xs ++ drop (a + length xs) room)
 
 -- `for i in a..e { s = f(i, s) }`
 unfoldable pub from : {S : Type 0} → ℕ → ℕ → (ℕ → S → S) → S → S
@@ -23,7 +18,3 @@ from a e f s = iter (e - a) (λ t. f (a + t)) s
 abbrev pub done : {S : Type 0} → Bool → S → Out S
 done true s = on s
 done false s = off s
-
--- where row t of a ring begins: it has the place of a row that is gone
-unfoldable pub place : ℕ → ℕ → ℕ → ℕ
-place length width t = t % rowsIn length width * width

@@ -1,4 +1,6 @@
 // The lines of a script that load a model, or call a stream: the lent rooms cut to the lengths that a line asks for.
+use definition::EstimateLengths;
+use definition::RingLengths;
 use definition::RoomLengths;
 use definition::TableLengths;
 use replay_session::Files;
@@ -232,15 +234,17 @@ pub fn new_in(
 ) -> Session {
     let p = session.playing;
     let s = p.forged;
-    let n0 = at_most(z.frames, frames.len());
-    let n1 = at_most(z.rows, rows.len());
-    let n2 = at_most(z.waiting_frames, waiting_frames.len());
-    let n3 = at_most(z.waiting_weights, waiting_weights.len());
-    let n4 = at_most(z.cmvn_stats, cmvn_stats.len());
-    let n5 = at_most(z.linear, linear.len());
-    let n6 = at_most(z.quadratic, quadratic.len());
-    let n7 = at_most(z.current, current.len());
-    let n8 = at_most(z.scratch, scratch.len());
+    let rings = z.rings;
+    let estimate = z.estimate;
+    let n0 = at_most(rings.frames, frames.len());
+    let n1 = at_most(rings.rows, rows.len());
+    let n2 = at_most(rings.waiting_frames, waiting_frames.len());
+    let n3 = at_most(rings.waiting_weights, waiting_weights.len());
+    let n4 = at_most(estimate.cmvn_stats, cmvn_stats.len());
+    let n5 = at_most(estimate.linear, linear.len());
+    let n6 = at_most(estimate.quadratic, quadratic.len());
+    let n7 = at_most(estimate.current, current.len());
+    let n8 = at_most(estimate.scratch, scratch.len());
     let answer = ivector_stream::new(
         s.info,
         gconsts,
@@ -294,17 +298,20 @@ pub fn new_line(
     let s = p.stream;
     let i = s.info;
     let z = read_rooms(text, at, i.dims);
-    let room = RoomLengths {
+    let rings = RingLengths {
         frames: frames.len(),
         rows: rows.len(),
         waiting_frames: waiting_frames.len(),
         waiting_weights: waiting_weights.len(),
+    };
+    let estimate = EstimateLengths {
         cmvn_stats: cmvn_stats.len(),
         linear: linear.len(),
         quadratic: quadratic.len(),
         current: current.len(),
         scratch: scratch.len(),
     };
+    let room = RoomLengths { rings, estimate };
     if !rooms_in(z, room) {
         does_not_fit();
         return closed_stream(session);
@@ -377,11 +384,12 @@ pub fn push_in(
 ) -> Session {
     let p = session.playing;
     let z = p.rooms;
+    let rings = z.rings;
     let n = at_most(count, frame.len());
-    let n0 = at_most(z.frames, frames.len());
-    let n1 = at_most(z.rows, rows.len());
-    let n2 = at_most(z.waiting_frames, waiting_frames.len());
-    let n3 = at_most(z.waiting_weights, waiting_weights.len());
+    let n0 = at_most(rings.frames, frames.len());
+    let n1 = at_most(rings.rows, rows.len());
+    let n2 = at_most(rings.waiting_frames, waiting_frames.len());
+    let n3 = at_most(rings.waiting_weights, waiting_weights.len());
     let call = ivector_stream::push_frame(
         p.forged,
         &frame[..n],
@@ -406,10 +414,11 @@ pub fn mark_line(
 ) -> Session {
     let p = session.playing;
     let z = p.rooms;
-    let n0 = at_most(z.frames, frames.len());
-    let n1 = at_most(z.rows, rows.len());
-    let n2 = at_most(z.waiting_frames, waiting_frames.len());
-    let n3 = at_most(z.waiting_weights, waiting_weights.len());
+    let rings = z.rings;
+    let n0 = at_most(rings.frames, frames.len());
+    let n1 = at_most(rings.rows, rows.len());
+    let n2 = at_most(rings.waiting_frames, waiting_frames.len());
+    let n3 = at_most(rings.waiting_weights, waiting_weights.len());
     if letter == b'f' {
         let call = ivector_stream::set_input_finished(
             p.forged,
@@ -472,12 +481,13 @@ pub fn change_in(
 ) -> Session {
     let p = session.playing;
     let z = p.rooms;
+    let rings = z.rings;
     let na = at_most(frame_count, delta_frames.len());
     let nb = at_most(weight_count, delta_weights.len());
-    let n0 = at_most(z.frames, frames.len());
-    let n1 = at_most(z.rows, rows.len());
-    let n2 = at_most(z.waiting_frames, waiting_frames.len());
-    let n3 = at_most(z.waiting_weights, waiting_weights.len());
+    let n0 = at_most(rings.frames, frames.len());
+    let n1 = at_most(rings.rows, rows.len());
+    let n2 = at_most(rings.waiting_frames, waiting_frames.len());
+    let n3 = at_most(rings.waiting_weights, waiting_weights.len());
     let call = ivector_stream::update_frame_weights(
         p.forged,
         &delta_frames[..na],
@@ -515,13 +525,15 @@ pub fn fetch_in(
 ) -> Session {
     let p = session.playing;
     let z = p.rooms;
-    let n0 = at_most(z.waiting_frames, waiting_frames.len());
-    let n1 = at_most(z.waiting_weights, waiting_weights.len());
-    let n2 = at_most(z.cmvn_stats, cmvn_stats.len());
-    let n3 = at_most(z.linear, linear.len());
-    let n4 = at_most(z.quadratic, quadratic.len());
-    let n5 = at_most(z.current, current.len());
-    let n6 = at_most(z.scratch, scratch.len());
+    let rings = z.rings;
+    let estimate = z.estimate;
+    let n0 = at_most(rings.waiting_frames, waiting_frames.len());
+    let n1 = at_most(rings.waiting_weights, waiting_weights.len());
+    let n2 = at_most(estimate.cmvn_stats, cmvn_stats.len());
+    let n3 = at_most(estimate.linear, linear.len());
+    let n4 = at_most(estimate.quadratic, quadratic.len());
+    let n5 = at_most(estimate.current, current.len());
+    let n6 = at_most(estimate.scratch, scratch.len());
     let n7 = at_most(n, out.len());
     let call = ivector_fetch::get_frame(
         p.forged,
@@ -577,6 +589,7 @@ pub fn fetch_line(
     let p = session.playing;
     let t = p.tables;
     let z = p.rooms;
+    let rings = z.rings;
     let n0 = at_most(t.gconsts, gconsts.len());
     let n1 = at_most(t.means_invvars_t, means_invvars_t.len());
     let n2 = at_most(t.inv_vars_t, inv_vars_t.len());
@@ -585,8 +598,8 @@ pub fn fetch_line(
     let n5 = at_most(t.lda_t, lda_t.len());
     let n6 = at_most(t.lda_offset, lda_offset.len());
     let n7 = at_most(t.global_mean_stats, global_mean_stats.len());
-    let n8 = at_most(z.frames, frames.len());
-    let n9 = at_most(z.rows, rows.len());
+    let n8 = at_most(rings.frames, frames.len());
+    let n9 = at_most(rings.rows, rows.len());
     fetch_in(
         frame.value,
         n.value,

@@ -1,6 +1,7 @@
 // What a replay of a script of calls keeps from line to line, and how it reads a line and prints an answer.
 use definition::DecoderFrame;
 use definition::Dimensions;
+use definition::EstimateLengths;
 use definition::InputFrame;
 use definition::IvectorInfo;
 use definition::IvectorOptions;
@@ -8,6 +9,7 @@ use definition::IvectorStream;
 use definition::Loaded;
 use definition::NewStream;
 use definition::NewTable;
+use definition::RingLengths;
 use definition::RoomLengths;
 use definition::SilenceAnswer;
 use definition::SilenceWeighting;
@@ -105,15 +107,19 @@ pub fn no_tables() -> TableLengths {
 
 pub fn no_rooms() -> RoomLengths {
     RoomLengths {
-        frames: 0,
-        rows: 0,
-        waiting_frames: 0,
-        waiting_weights: 0,
-        cmvn_stats: 0,
-        linear: 0,
-        quadratic: 0,
-        current: 0,
-        scratch: 0,
+        rings: RingLengths {
+            frames: 0,
+            rows: 0,
+            waiting_frames: 0,
+            waiting_weights: 0,
+        },
+        estimate: EstimateLengths {
+            cmvn_stats: 0,
+            linear: 0,
+            quadratic: 0,
+            current: 0,
+            scratch: 0,
+        },
     }
 }
 
@@ -174,7 +180,7 @@ pub fn no_table() -> Table {
         subsampling: 1,
         phones: 0,
         table: 0,
-        length: 0,
+        length: DecoderFrame(0),
     };
     Table {
         silence: s,
@@ -868,20 +874,23 @@ pub fn read_rooms(text: &[u8], at: usize, d: Dimensions) -> RoomLengths {
     let scratch = read_signed(text, current.next);
     let s = d.ivector_dim;
     let n = limits::larger(times(d.num_gauss, d.feat_dim), times(s, s));
-    RoomLengths {
+    let rings = RingLengths {
         frames: frames.value,
         rows: rows.value,
         waiting_frames: waiting_frames.value,
         waiting_weights: waiting_weights.value,
+    };
+    let estimate = EstimateLengths {
         cmvn_stats: moved(plus(d.base_dim, 1), cmvn_stats),
         linear: moved(s, linear),
         quadratic: moved(triangle(s), quadratic),
         current: moved(s, current),
         scratch: moved(n, scratch),
-    }
+    };
+    RoomLengths { rings, estimate }
 }
 
-pub fn rooms_in(z: RoomLengths, room: RoomLengths) -> bool {
+fn rings_in(z: RingLengths, room: RingLengths) -> bool {
     if !fits(z.frames, room.frames) {
         return false;
     }
@@ -891,9 +900,10 @@ pub fn rooms_in(z: RoomLengths, room: RoomLengths) -> bool {
     if !fits(z.waiting_frames, room.waiting_frames) {
         return false;
     }
-    if !fits(z.waiting_weights, room.waiting_weights) {
-        return false;
-    }
+    fits(z.waiting_weights, room.waiting_weights)
+}
+
+fn estimate_in(z: EstimateLengths, room: EstimateLengths) -> bool {
     if !fits(z.cmvn_stats, room.cmvn_stats) {
         return false;
     }
@@ -909,10 +919,18 @@ pub fn rooms_in(z: RoomLengths, room: RoomLengths) -> bool {
     fits(z.scratch, room.scratch)
 }
 
+pub fn rooms_in(z: RoomLengths, room: RoomLengths) -> bool {
+    if !rings_in(z.rings, room.rings) {
+        return false;
+    }
+    estimate_in(z.estimate, room.estimate)
+}
+
 pub fn opened(session: Session, answer: NewStream) -> Session {
     match answer {
-        NewStream::Stream(s) => {
-            say(b"0 0 1\n");
+        NewStream::Stream(call) => {
+            print_answer_line(call.answer);
+            let s = call.stream;
             set_playing(session, with_stream(s, true))
         }
         NewStream::Refused(n) => {
@@ -986,6 +1004,17 @@ pub fn forge_table(k: usize, by: Signed, z: TableLengths) -> TableLengths {
 
 // `x r K D`, the stream's rooms
 pub fn forge_room(k: usize, by: Signed, z: RoomLengths) -> RoomLengths {
+    if k < 12 {
+        let rings = forge_ring(k, by, z.rings);
+        let estimate = z.estimate;
+        return RoomLengths { rings, estimate };
+    }
+    let rings = z.rings;
+    let estimate = forge_estimate(k, by, z.estimate);
+    RoomLengths { rings, estimate }
+}
+
+fn forge_ring(k: usize, by: Signed, z: RingLengths) -> RingLengths {
     let mut t = z;
     match k {
         8 => {
@@ -1000,6 +1029,14 @@ pub fn forge_room(k: usize, by: Signed, z: RoomLengths) -> RoomLengths {
         11 => {
             t.waiting_weights = moved(z.waiting_weights, by);
         }
+        _ => {}
+    }
+    t
+}
+
+fn forge_estimate(k: usize, by: Signed, z: EstimateLengths) -> EstimateLengths {
+    let mut t = z;
+    match k {
         12 => {
             t.cmvn_stats = moved(z.cmvn_stats, by);
         }
@@ -1242,7 +1279,8 @@ pub fn forge_silence(text: &[u8], at: usize, session: Session) -> Session {
             t.lent = moved(t.lent, n);
         }
         b'l' => {
-            s.length = n.size;
+            let length = DecoderFrame(n.size);
+            s.length = length;
         }
         b's' => {
             s.subsampling = n.size;

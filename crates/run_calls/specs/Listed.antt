@@ -2,18 +2,18 @@
 use Prim.Native.Nat.{ℕ, _+_, _-_, _*_, _/_, min}
 use mathlib.Core.Bool.{Bool}
 use mathlib.Core.List.{List, [], _∷_}
-use lib.ListN.{length, getD, take, drop, replicate}
+use lib.ListN.{length, getD, take, drop}
 use lib.Dec.{eqb, ltb}
 use lib.Ieee.{Float}
 use Rattle.loops.specs.Lists.{if_then_else_, build}
 use Rattle.loops.specs.Refusal.{firstOf, taken}
-use Rattle.loops.specs.Steps.{put}
+use Rattle.loops.specs.Ring.{put}
 use Rattle.definition.specs.declared.IvectorInfo.{IvectorInfo}
 use Rattle.definition.specs.declared.StreamAnswer.{StreamAnswer}
-use Rattle.definition.specs.Machine.{Answer}
-use Rattle.ivector_stream.specs.Rooms.{Tables, tableLengthsOf, Rooms, roomLengthsOf}
-use Rattle.ivector_stream.specs.Calls.{newRefusal, freshStream, freshRooms}
-use Rattle.keeping.specs.Keeping.{Given, push, finish, change, forget, fetch, Program, program, refusalOf, leaves}
+use Rattle.definition.specs.Model.{Tables, tableLengthsOf}
+use Rattle.definition.specs.Machine.{Call, push, finish, change, forget, fetch, Answer}
+use Rattle.definition.specs.Stream.{newRefusal}
+use Rattle.program.specs.Rooms.{Rooms, roomLengthsOf}
 
 -- ---- the list
 
@@ -21,40 +21,28 @@ use Rattle.keeping.specs.Keeping.{Given, push, finish, change, forget, fetch, P
 unfoldable pub part : {A : Type 0} → ℕ → ℕ → List A → List A
 part a b l = take (b - a) (drop a l)
 
-unfoldable pub given : ℕ → ℕ → List Float → List ℕ → List Float → List ℕ → Given
-given kind f x fs ws out =
-    if eqb kind 0 then push x else (if eqb kind 1 then finish else (if eqb kind 2 then change fs ws else (if eqb kind 3 then forget f else fetch f out)))
+-- by its kind: x is what a push is lent, fs and ws are a change's frames and weights, f is the frame of a forget and of a fetch, m the length of
+-- a fetch's output
+unfoldable pub ofKind : ℕ → ℕ → List Float → List ℕ → List Float → ℕ → Call
+ofKind kind f x fs ws m =
+    if eqb kind 0 then push x else (if eqb kind 1 then finish else (if eqb kind 2 then change fs ws else (if eqb kind 3 then forget f else fetch f m)))
 
--- call i has four numbers: a push is lent samples a to b, a change frames a to b and weights c to d, a forget has frame a,
--- and a fetch has frame a and an output of b numbers, 128 at most
-unfoldable pub callAt : List ℕ → List ℕ → List ℕ → List Float → ℕ → Given
-callAt kinds numbers lists samples i =
+-- call i has kind i and four numbers a b c d: a push is lent samples a to b; a change has frames a to b of `lists`, and samples c to d for weights; a
+-- forget has frame a; a fetch has frame a, and its output is from b to c in outputs of n numbers, cut at their end
+unfoldable pub callAt : List ℕ → List ℕ → List ℕ → List Float → ℕ → ℕ → Call
+callAt kinds numbers lists samples n i =
     let a = getD numbers (i * 4) 0 in
     let b = getD numbers (i * 4 + 1) 0 in
     let c = getD numbers (i * 4 + 2) 0 in
     let d = getD numbers (i * 4 + 3) 0 in
-    given (getD kinds i 0) a (part a b samples) (part a b lists) (part c d samples) (replicate (min b 128) 0)
+    ofKind (getD kinds i 0) a (part a b samples) (part a b lists) (part c d samples) (min (c - b) (n - b))
 
-unfoldable pub calls : List ℕ → List ℕ → List ℕ → List Float → List Given
-calls kinds numbers lists samples = build (length kinds) (callAt kinds numbers lists samples)
-
--- ---- the calls, on a stream and its rooms
-
--- the program after a call, and after a list of calls
-unfoldable pub after : Tables → ℕ → Program → Given → Program
-after t n p g = taken (refusalOf t n p g) (leaves t n p g) p
-
-unfoldable pub afterAll : Tables → ℕ → Program → List Given → Program
-afterAll t n p [] = p
-afterAll t n p (g ∷ gs) = afterAll t n (after t n p g) gs
-
--- what the rooms hold after a list of calls on a fresh stream
-unfoldable pub roomsAfter : IvectorInfo → Tables → Rooms → ℕ → List Given → Rooms
-roomsAfter i t z n gs = afterAll t n (program (freshStream i (roomLengthsOf z n)) (freshRooms i z)) gs .rooms
+unfoldable pub calls : List ℕ → List ℕ → List ℕ → List Float → ℕ → List Call
+calls kinds numbers lists samples n = build (length kinds) (callAt kinds numbers lists samples n)
 
 -- ---- the answers
 
--- the rooms for the answers: four numbers of each call, and 128 places for its vector
+-- the rooms for the answers: four numbers of each call, and the outputs
 pub record Written : Type 0 where
   pub answers : List ℕ
   pub outs : List ℕ
@@ -62,31 +50,30 @@ pub record Written : Type 0 where
 abbrev pub written : List ℕ → List ℕ → Written
 written a o = record { answers = a; outs = o }
 
--- answer j
-unfoldable pub write : ℕ → Answer → Written → Written
-write j a o =
-    written (put (j * 4) (a .refusal ∷ a .frames-held ∷ a .rows-held ∷ a .not-finite ∷ []) (o .answers)) (put (j * 128) (a .vector) (o .outs))
-
--- answers j, j + 1, ..
-unfoldable pub writes : ℕ → List Answer → Written → Written
-writes j [] o = o
-writes j (a ∷ rest) o = writes (j + 1) rest (write j a o)
-
--- an answer as code has it
 abbrev pub numbersOf : StreamAnswer → List ℕ
 numbersOf a = a .refusal ∷ a .«frames_held» ∷ a .«rows_held» ∷ a .«not_finite» ∷ []
 
+-- answer i, its vector where the output of call i begins
+unfoldable pub write : List ℕ → ℕ → Answer → Written → Written
+write numbers i a o =
+    written (put (i * 4) (numbersOf (a .told)) (o .answers)) (put (min (getD numbers (i * 4 + 1) 0) (length (o .outs))) (a .vector) (o .outs))
+
+-- answers i, i + 1, ..
+unfoldable pub writes : List ℕ → ℕ → List Answer → Written → Written
+writes numbers i [] o = o
+writes numbers i (a ∷ rest) o = writes numbers (i + 1) rest (write numbers i a o)
+
 -- ---- refusals
 
--- 99: the numbers of n calls, or the rooms for their answers, are too short
-abbrev pub listTests : ℕ → ℕ → ℕ → ℕ → List (Bool × ℕ)
-listTests n numbers answers outs = (ltb (numbers / 4) n, 99) ∷ (ltb (answers / 4) n, 99) ∷ (ltb (outs / 128) n, 99) ∷ []
+-- 99: the numbers of n calls, or the room for their answers, are too short. It is no number of the scope: the list itself is malformed
+abbrev pub listTests : ℕ → ℕ → ℕ → List (Bool × ℕ)
+listTests n numbers answers = (ltb (numbers / 4) n, 99) ∷ (ltb (answers / 4) n, 99) ∷ []
 
-unfoldable pub listRefusal : ℕ → ℕ → ℕ → ℕ → ℕ
-listRefusal n numbers answers outs = firstOf (listTests n numbers answers outs)
+unfoldable pub listRefusal : ℕ → ℕ → ℕ → ℕ
+listRefusal n numbers answers = firstOf (listTests n numbers answers)
 
 -- the list's, else the fresh stream's
-unfoldable pub runRefusal : IvectorInfo → Tables → Rooms → ℕ → ℕ → ℕ → ℕ → ℕ → ℕ
-runRefusal i t z scratch n numbers answers outs =
-    let r = listRefusal n numbers answers outs in
+unfoldable pub runRefusal : IvectorInfo → Tables → Rooms → ℕ → ℕ → ℕ → ℕ → ℕ
+runRefusal i t z scratch n numbers answers =
+    let r = listRefusal n numbers answers in
     taken r (newRefusal i (tableLengthsOf t) (roomLengthsOf z scratch)) r

@@ -1,28 +1,27 @@
 -- What the inner functions leave. Not for readers.
 use mathlib.Core.Path.{_≡_}
 use mathlib.Core.List.{List}
-use Prim.Native.Nat.{ℕ, _≤_}
-use lib.ListN.{length, take}
+use Prim.Native.Nat.{ℕ}
+use Rattle.loops.specs.Lists.{over}
+use Rattle.definition.specs.declared.IvectorStream.{IvectorStream}
 use Rattle.definition.specs.declared.StreamAnswer.{StreamAnswer}
-use Rattle.definition.specs.Machine.{Answer}
-use Rattle.ivector_stream.specs.Rooms.{Tables, Rooms}
-use Rattle.keeping.specs.Keeping.{Given, Program, program, refusalOf, replyOf}
-use Rattle.run_calls.specs.declared.Step.{Step}
-use Rattle.run_calls.specs.Listed.{after, Written, write}
+use Rattle.definition.specs.declared.StreamCall.{StreamCall}
+use Rattle.definition.specs.Model.{Tables}
+use Rattle.definition.specs.Machine.{Call, push, finish, change, forget, fetch, Answer}
+use Rattle.program.specs.Rooms.{Rings, Rooms}
+use Rattle.program.specs.Calls.{RingStep, pushFrame, setInputFinished, updateFrameWeights, forgetBefore}
+use Rattle.program.specs.Session.{Program, program, stepped, stepOf, reply}
+use Rattle.run_calls.specs.Listed.{Written, write}
 
--- the answer to a call
-unfoldable pub answerTo : Tables → ℕ → Program → Given → Answer
-answerTo t n p g = replyOf t n (refusalOf t n p g) p (after t n p g) g
-
-abbrev pub answered : StreamAnswer → List ℕ → Answer
-answered a v = record { refusal = a .refusal; frames-held = a .«frames_held»; rows-held = a .«rows_held»; vector = v; not-finite = a .«not_finite» }
-
-pub record Called (t : Tables) (n : ℕ) (p : Program) (g : Given) (r : Step) (z : Rooms) (out : List ℕ) : Type 0 where
-  pub step : after t n p g ≡ program (r .stream) z
-  pub reply : answerTo t n p g ≡ answered (r .answer) (take (r .words) out)
-  pub fits : r .words ≤ length out
+-- a call that gets the rings alone; a fetch is none
+unfoldable pub ringStepOf : IvectorStream → Rings → Call → RingStep
+ringStepOf s z (push x) = pushFrame s z x
+ringStepOf s z finish = setInputFinished s z
+ringStepOf s z (change fs ws) = updateFrameWeights s z fs ws
+ringStepOf s z (forget f) = forgetBefore s z f
+ringStepOf s z (fetch f m) = setInputFinished s z
 
 -- call i of a list, and its answer written
-pub record Turned (t : Tables) (n i : ℕ) (p : Program) (g : Given) (o : Written) (q : Program) (o′ : Written) : Type 0 where
-  pub step : after t n p g ≡ q
-  pub wrote : o′ ≡ write i (answerTo t n p g) o
+pub record Turned (t : Tables) (n : ℕ) (numbers : List ℕ) (i : ℕ) (p : Program) (c : Call) (o : Written) (q : Program) (o′ : Written) : Type 0 where
+  pub step : stepped p (stepOf t n p c) ≡ q
+  pub wrote : o′ ≡ write numbers i (reply p (stepOf t n p c)) o

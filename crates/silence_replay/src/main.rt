@@ -24,7 +24,7 @@ fn no_table() -> Session {
         subsampling: 1,
         phones: 0,
         table: 0,
-        length: 0,
+        length: DecoderFrame(0),
     };
     Session {
         silence: s,
@@ -223,7 +223,8 @@ fn forge(text: &[u8], at: usize, session: Session) -> Session {
             lent = moved(lent, at + 2 < from, n.value);
         }
         b'l' => {
-            s.length = n.value;
+            let length = DecoderFrame(n.value);
+            s.length = length;
         }
         b's' => {
             s.subsampling = n.value;

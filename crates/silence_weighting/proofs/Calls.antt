@@ -1,4 +1,5 @@
--- What the two calls on a table answer and leave. `Recorded` and `Weighs` are their contracts, over plain values.
+-- What the two calls on a table return and leave, over plain values: each is taken apart by its refusal, and a call that is taken by its table and its
+-- changes.
 use Prim.Native.Nat.{ℕ, _+_, _-_, _*_, _≤_, _<_, min, max}
 use mathlib.Core.Path.{_≡_, refl, sym, ap, _∙_}
 use mathlib.Core.Bool.{Bool, true, false, _||_}
@@ -11,17 +12,20 @@ use lib.ListN.{length, getD}
 use lib.Ieee.{Float, nan}
 use Rattle.loops.specs.Lists.{build, over}
 use Rattle.loops.specs.Refusal.{firstOf, taken}
-use Rattle.loops.specs.Steps.{put}
+use Rattle.loops.specs.Ring.{put}
 use Rattle.loops.proofs.Choose.{choose-true, choose-false, or-first, or-second, or-none}
 use Rattle.loops.proofs.Build.{build-ext, map-build}
 use Rattle.loops.proofs.Fill.{over-none, over-self}
 use Rattle.loops.proofs.Refusal.{first-is, first-none, taken-new, taken-old}
 use Rattle.floats.specs.Operators.{zero₃₂}
+use Rattle.definition.specs.declared.InputFrame.{InputFrame}
+use Rattle.definition.specs.declared.DecoderFrame.{DecoderFrame}
 use Rattle.definition.specs.declared.SilenceWeighting.{SilenceWeighting}
 use Rattle.definition.specs.declared.SilenceAnswer.{SilenceAnswer}
 use Rattle.definition.specs.Changes.{Change}
-use Rattle.definition.specs.Silence.{FrameInfo, Table, infoAt, tableIn, segments, traced, weighted, decoderFrames, deltaWeights, places, tableBroken, tracebackTests, wanted, asked, askedTable, deltaTests, silenceAnswer}
-use Rattle.silence_weighting.specs.Steps.{flagAt}
+use Rattle.definition.specs.Silence.{decoder, FrameInfo, TableRooms, tableRooms, Table, infoAt, tableIn, overRooms, segments, traced, weighted, deltaWeights, places, tableBroken, tracebackTests, wanted, asked, askedTable, deltaTests}
+use Rattle.definition.specs.Silence.{TableStep, computeCurrentTraceback, getDeltaWeights, silenceAnswer, tableCall, tableDone}
+use Rattle.silence_weighting.specs.Steps.{tableOf, flagAt}
 use Rattle.silence_weighting.proofs.Refusals.{TracebackTaken, DeltaTaken}
 use Rattle.silence_weighting.proofs.Tables.{length-table, grown}
 use Rattle.silence_weighting.proofs.Walk.{known-at, silence-at, length-weighted, few-changes}
@@ -36,205 +40,202 @@ silences = map (λ f. f .is-silence)
 abbrev pub weights : Table → List Float
 weights = map (λ f. f .current-weight)
 
--- a call that is taken: c changes, a table of l frames
-answer-taken : (r : SilenceAnswer) (s : SilenceWeighting) {k c n l m : ℕ} → r ≡ silenceAnswer 0 s c l → 0 ≡ k → c ≡ n → l ≡ m → r ≡ silenceAnswer k s n m
-answer-taken r s {k} {c} {n} {l} {m} a e p q = a ∙ ap (λ (i : ℕ). silenceAnswer 0 s i l) p ∙ ap (λ (i : ℕ). silenceAnswer 0 s n i) q ∙ ap (λ (i : ℕ). silenceAnswer i s n m) e
+-- ---- what a step leaves
 
--- a call that is refused
+call-is : {a a′ : SilenceAnswer} {z z′ : TableRooms} {fs fs′ : List ℕ} {os os′ : List Float} → a ≡ a′ → z ≡ z′ → fs ≡ fs′ → os ≡ os′ → tableCall a z fs os ≡ tableCall a′ z′ fs′ os′
+call-is ea ez ef eo = rw (ea, ez, ef, eo)
+
+rooms-are : {ks ks′ ss ss′ : List Bool} {ws ws′ : List Float} → ks ≡ ks′ → ss ≡ ss′ → ws ≡ ws′ → tableRooms ks ss ws ≡ tableRooms ks′ ss′ ws′
+rooms-are ek es ew = rw (ek, es, ew)
+
+-- a call that is refused answers so, whatever it would give
 abbrev Refused : SilenceAnswer → SilenceWeighting → ℕ → Type 0
 Refused r s k = (n m : ℕ) → (k ≡ 0 → ⊥) → r ≡ silenceAnswer k s n m
 
-answer-refused : (r : SilenceAnswer) (s : SilenceWeighting) (i k n m : ℕ) → Refused r s i → i ≡ k → (i ≡ 0 → ⊥) → r ≡ silenceAnswer k s n m
-answer-refused r s i k n m a e h = a n m h ∙ ap (λ (i : ℕ). silenceAnswer i s n m) e
+module _ (s : SilenceWeighting) (z : TableRooms) (fs : List ℕ) (os : List Float) (x : TableStep) where
+  step-refused : (r : SilenceAnswer) (k : ℕ) → Refused r s k → k ≡ x .refusal → (k ≡ 0 → ⊥) → tableCall r z fs os ≡ tableDone s z fs os x
+  step-refused r k a e h =
+      let q : x .refusal ≡ 0 → ⊥ = λ y. h (e ∙ y) in
+      call-is (a (length (x .changes)) (length (x .table)) h ∙ ap (λ (i : ℕ). silenceAnswer i s (length (x .changes)) (length (x .table))) e) (sym (taken-old _ _ z q)) (sym (taken-old _ _ fs q)) (sym (taken-old _ _ os q))
+
+  -- c changes, a table of m frames
+  step-taken : (r : SilenceAnswer) (c m : ℕ) (z′ : TableRooms) (fs′ : List ℕ) (os′ : List Float) → r ≡ silenceAnswer 0 s c m → 0 ≡ x .refusal → c ≡ length (x .changes) → m ≡ length (x .table)
+      → z′ ≡ overRooms (x .table) z → fs′ ≡ over (map (λ x. x .0) (x .changes)) fs → os′ ≡ over (map (λ x. x .1) (x .changes)) os
+      → tableCall r z′ fs′ os′ ≡ tableDone s z fs os x
+  step-taken r c m z′ fs′ os′ a e ec em ez ef eo =
+      call-is (a ∙ ap (λ (i : ℕ). silenceAnswer 0 s i m) ec ∙ ap (λ (i : ℕ). silenceAnswer 0 s (length (x .changes)) i) em ∙ ap (λ (i : ℕ). silenceAnswer i s (length (x .changes)) (length (x .table))) e)
+      (ez ∙ sym (taken-new _ _ z (sym e))) (ef ∙ sym (taken-new _ _ fs (sym e))) (eo ∙ sym (taken-new _ _ os (sym e)))
 
 -- ---- compute_current_traceback
 
-abbrev pub tracebackRefusal : SilenceWeighting → List ℤ → List Bool → List Bool → List Float → List ℤ → List ℕ → List ℕ → ℕ → ℕ
-tracebackRefusal s phones ks ss ws ps starts ends decoded =
-    firstOf ((tableBroken s (length ks) (length ss) (length ws), 10) ∷ tracebackTests s (length phones) decoded (length ps) (length starts) (length ends))
+module _ (s : SilenceWeighting) (phones : List ℤ) (ks ss : List Bool) (ws : List Float) (ps : List ℤ) (starts ends : List ℕ) (n : DecoderFrame) where
+  abbrev tracebackRefusal : ℕ
+  tracebackRefusal = firstOf ((tableBroken s (length ks) (length ss) (length ws), 10) ∷ tracebackTests s (length phones) n (length ps) (length starts) (length ends))
 
-abbrev pub Recorded : SilenceWeighting → List ℤ → List Bool → List Bool → List Float → List ℤ → List ℕ → List ℕ → ℕ → SilenceAnswer → List Bool → List Bool → List Float → Type 0
-Recorded s phones ks ss ws ps starts ends decoded r ks′ ss′ ws′ =
-    let n : ℕ = tracebackRefusal s phones ks ss ws ps starts ends decoded in
-    let t : Table = traced phones decoded (segments ps starts ends) (tableIn (s .length) ks ss ws) in
-    (r ≡ silenceAnswer n s 0 (length t)) × (ks′ ≡ taken n (over (knowns t) ks) ks) × (ss′ ≡ taken n (over (silences t) ss) ss) × (ws′ ≡ taken n (over (weights t) ws) ws)
+  abbrev Traced : SilenceAnswer → List Bool → List Bool → List Float → Type 0
+  Traced r ks′ ss′ ws′ = tableCall r (tableRooms ks′ ss′ ws′) [] [] ≡ tableDone s (tableRooms ks ss ws) [] [] (computeCurrentTraceback s (tableRooms ks ss ws) phones ps starts ends n)
 
-module _ (s : SilenceWeighting) (phones : List ℤ) (ks ss : List Bool) (ws : List Float) (ps : List ℤ) (starts ends : List ℕ) (decoded : ℕ) where
-  pub traceback-refused : (r : SilenceAnswer) (k : ℕ) → Refused r s k → k ≡ tracebackRefusal s phones ks ss ws ps starts ends decoded → (k ≡ 0 → ⊥)
-      → Recorded s phones ks ss ws ps starts ends decoded r ks ss ws
-  traceback-refused r k a e h =
-      let z : tracebackRefusal s phones ks ss ws ps starts ends decoded ≡ 0 → ⊥ = λ q. h (e ∙ q) in
-      (answer-refused r s k _ _ _ a e h, sym (taken-old _ _ ks z), sym (taken-old _ _ ss z), sym (taken-old _ _ ws z))
+  pub traceback-refused : (r : SilenceAnswer) (k : ℕ) → Refused r s k → k ≡ tracebackRefusal → (k ≡ 0 → ⊥) → Traced r ks ss ws
+  unfolding computeCurrentTraceback
+  traceback-refused r k a e h = step-refused s (tableRooms ks ss ws) [] [] (computeCurrentTraceback s (tableRooms ks ss ws) phones ps starts ends n) r k a e h
 
-  pub traceback-done : (r : SilenceAnswer) (more size : ℕ) (ks₁ ss₁ : List Bool) (ws₁ : List Float) (ks₂ ss₂ : List Bool) → r ≡ silenceAnswer 0 s 0 size → 0 ≡ tracebackRefusal s phones ks ss ws ps starts ends decoded
-      → TracebackTaken s (length ks) (length ss) (length ws) decoded (length ps) (length starts) (length ends)
-      → more ≡ decoded - s .length → size ≡ max (s .length) decoded
-      → ks₁ ≡ put (s .length) (build more (λ i. false)) ks → ss₁ ≡ put (s .length) (build more (λ i. false)) ss → ws₁ ≡ put (s .length) (build more (λ i. zero₃₂)) ws
-      → ((n : ℕ) (v : List Float) → decoded ≤ n → n ≤ length ks₁ → n ≤ length ss₁
-      → (ks₂ ≡ over (knowns (traced phones decoded (segments ps starts ends) (tableIn n ks₁ ss₁ v))) ks₁) × (ss₂ ≡ over (silences (traced phones decoded (segments ps starts ends) (tableIn n ks₁ ss₁ v))) ss₁))
+  pub traceback-done : (r : SilenceAnswer) (more size : ℕ) (ks₁ ss₁ : List Bool) (ws₁ : List Float) (ks₂ ss₂ : List Bool) → r ≡ silenceAnswer 0 s 0 size → 0 ≡ tracebackRefusal
+      → TracebackTaken s (length ks) (length ss) (length ws) n (length ps) (length starts) (length ends)
+      → more ≡ n .0 - s .length .0 → size ≡ max (s .length .0) (n .0)
+      → ks₁ ≡ put (s .length .0) (build more (λ i. false)) ks → ss₁ ≡ put (s .length .0) (build more (λ i. false)) ss → ws₁ ≡ put (s .length .0) (build more (λ i. zero₃₂)) ws
+      → ((m : ℕ) (v : List Float) → n .0 ≤ m → m ≤ length ks₁ → m ≤ length ss₁
+      → (ks₂ ≡ over (knowns (traced phones n (segments ps starts ends) (tableOf m ks₁ ss₁ v))) ks₁) × (ss₂ ≡ over (silences (traced phones n (segments ps starts ends) (tableOf m ks₁ ss₁ v))) ss₁))
       → length ks₁ ≡ length ks → length ss₁ ≡ length ss
-      → Recorded s phones ks ss ws ps starts ends decoded r ks₂ ss₂ ws₁
+      → Traced r ks₂ ss₂ ws₁
+  unfolding computeCurrentTraceback
   traceback-done r more size ks₁ ss₁ ws₁ ks₂ ss₂ q e t em es k1 s1 w1 m lk ls =
       let g = segments ps starts ends in
+      let l = s .length .0 in
+      let d = n .0 in
       let u = m size ws₁ (omega arith) (omega arith) (omega arith) in
-      let a : size ≡ s .length + more = omega arith in
+      let a : size ≡ s .length .0 + more = omega arith in
       let x : size ≤ length ks = omega arith in
       let y : size ≤ length ss = omega arith in
-      let z : size ≤ length ws = omega arith in (
-        answer-taken r s q e refl (es ∙ sym (length-traced phones decoded g (tableIn (s .length) ks ss ws) ∙ ap (λ (i : ℕ). max i decoded) (length-table (s .length) ks ss ws))),
-        marked-room (s .length) more size a ks ss ws ks₁ ss₁ ws₁ x y z k1 s1 w1 phones decoded g es (λ f. f .known) ks ks₁ ks₂ x k1 (u .0) ∙ sym (taken-new _ _ ks (sym e)),
-        marked-room (s .length) more size a ks ss ws ks₁ ss₁ ws₁ x y z k1 s1 w1 phones decoded g es (λ f. f .is-silence) ss ss₁ ss₂ y s1 (u .1) ∙ sym (taken-new _ _ ss (sym e)),
-        marked-weight (s .length) more size a ks ss ws ks₁ ss₁ ws₁ x y z k1 s1 w1 phones decoded g es ∙ sym (taken-new _ _ ws (sym e)),
-      )
+      let z : size ≤ length ws = omega arith in
+      step-taken s (tableRooms ks ss ws) [] [] (computeCurrentTraceback s (tableRooms ks ss ws) phones ps starts ends n) r 0 size _ [] [] q e refl
+      (es ∙ sym (length-traced phones d g (tableOf l ks ss ws) ∙ ap (λ (i : ℕ). max i d) (length-table l ks ss ws)))
+      (rooms-are (marked-room l more size a ks ss ws ks₁ ss₁ ws₁ x y z k1 s1 w1 phones d g es (λ f. f .known) ks ks₁ ks₂ x k1 (u .0))
+      (marked-room l more size a ks ss ws ks₁ ss₁ ws₁ x y z k1 s1 w1 phones d g es (λ f. f .is-silence) ss ss₁ ss₂ y s1 (u .1))
+      (marked-weight l more size a ks ss ws ks₁ ss₁ ws₁ x y z k1 s1 w1 phones d g es))
+      (over-none []) (over-none [])
 
 -- ---- get_delta_weights
 
-abbrev pub deltaRefusal : SilenceWeighting → List Bool → List Bool → List Float → ℕ → ℕ → List ℕ → List Float → ℕ
-deltaRefusal s ks ss ws ready first fs os =
-    firstOf ((tableBroken s (length ks) (length ss) (length ws), 10) ∷ deltaTests s ready first (tableIn (s .length) ks ss ws) (length fs) (length os))
-
-abbrev pub Weighs : SilenceWeighting → List Bool → List Bool → List Float → ℕ → ℕ → List ℕ → List Float → SilenceAnswer → List Bool → List Bool → List Float → List ℕ → List Float → Type 0
-Weighs s ks ss ws ready first fs os r ks′ ss′ ws′ fs′ os′ =
-    let t : Table = tableIn (s .length) ks ss ws in
-    let n : ℕ = deltaRefusal s ks ss ws ready first fs os in
-    (r ≡ silenceAnswer n s (length (asked s ready first t)) (length (askedTable s ready first t)))
-    × (ks′ ≡ taken n (over (knowns (askedTable s ready first t)) ks) ks)
-    × (ss′ ≡ taken n (over (silences (askedTable s ready first t)) ss) ss)
-    × (ws′ ≡ taken n (over (weights (askedTable s ready first t)) ws) ws)
-    × (fs′ ≡ taken n (over (map (λ x. x .0) (asked s ready first t)) fs) fs)
-    × (os′ ≡ taken n (over (map (λ x. x .1) (asked s ready first t)) os) os)
-
-module _ (s : SilenceWeighting) (ks ss : List Bool) (ws : List Float) (ready first : ℕ) where
-  nothing-table : ready ≤ first → askedTable s ready first (tableIn (s .length) ks ss ws) ≡ tableIn (s .length) ks ss ws
+module _ (s : SilenceWeighting) (ks ss : List Bool) (ws : List Float) (ready first : InputFrame) where
+  nothing-table : ready .0 ≤ first .0 → askedTable s ready first (tableOf (s .length .0) ks ss ws) ≡ tableOf (s .length .0) ks ss ws
   unfolding askedTable
-  nothing-table l = sym (choose-true _ (le-leb ready first l) refl)
+  nothing-table l = sym (choose-true _ (le-leb (ready .0) (first .0) l) refl)
 
-  pub nothing-asked : ready ≤ first → asked s ready first (tableIn (s .length) ks ss ws) ≡ []
+  pub nothing-asked : ready .0 ≤ first .0 → asked s ready first (tableOf (s .length .0) ks ss ws) ≡ []
   unfolding asked
-  nothing-asked l = sym (choose-true _ (le-leb ready first l) refl)
+  nothing-asked l = sym (choose-true _ (le-leb (ready .0) (first .0) l) refl)
 
-  module _ (l : first < ready) (n : ℕ) (en : n ≡ max (s .length) (wanted s ready first)) where
-    size-is : n ≡ max (length (tableIn (s .length) ks ss ws)) (wanted s ready first)
-    size-is = en ∙ ap (λ (z : ℕ). max z (wanted s ready first)) (sym (length-table (s .length) ks ss ws))
+  module _ (l : first .0 < ready .0) (n : ℕ) (en : n ≡ max (s .length .0) (wanted s ready first .0)) where
+    size-is : n ≡ max (length (tableOf (s .length .0) ks ss ws)) (wanted s ready first .0)
+    size-is = en ∙ ap (λ (z : ℕ). max z (wanted s ready first .0)) (sym (length-table (s .length .0) ks ss ws))
 
-    some-table : askedTable s ready first (tableIn (s .length) ks ss ws) ≡ weighted (s .«silence_weight») n (tableIn (s .length) ks ss ws)
+    some-table : askedTable s ready first (tableOf (s .length .0) ks ss ws) ≡ weighted (s .«silence_weight») (decoder n) (tableOf (s .length .0) ks ss ws)
     unfolding askedTable
-    some-table = sym (choose-false _ (lt-leb ready first l) (ap (λ (z : ℕ). weighted (s .«silence_weight») z (tableIn (s .length) ks ss ws)) size-is))
+    some-table = sym (choose-false _ (lt-leb (ready .0) (first .0) l) (ap (λ (z : ℕ). weighted (s .«silence_weight») (decoder z) (tableOf (s .length .0) ks ss ws)) size-is))
 
-    pub some-asked : asked s ready first (tableIn (s .length) ks ss ws) ≡ deltaWeights (s .«silence_weight») (s .subsampling) first n (tableIn (s .length) ks ss ws)
+    pub some-asked : asked s ready first (tableOf (s .length .0) ks ss ws) ≡ deltaWeights (s .«silence_weight») (s .subsampling) first (decoder n) (tableOf (s .length .0) ks ss ws)
     unfolding asked
-    some-asked = sym (choose-false _ (lt-leb ready first l) (ap (λ (z : ℕ). deltaWeights (s .«silence_weight») (s .subsampling) first z (tableIn (s .length) ks ss ws)) size-is))
+    some-asked = sym (choose-false _ (lt-leb (ready .0) (first .0) l) (ap (λ (z : ℕ). deltaWeights (s .«silence_weight») (s .subsampling) first (decoder z) (tableOf (s .length .0) ks ss ws)) size-is))
 
 -- the refusal, from what the code's branches tell; the answer's lists have f and w places
-module _ (s : SilenceWeighting) (ks ss : List Bool) (ws : List Float) (ready first f w : ℕ) where
+module _ (s : SilenceWeighting) (ks ss : List Bool) (ws : List Float) (ready first : InputFrame) (f w : ℕ) where
   abbrev refusal : ℕ
-  refusal = firstOf ((tableBroken s (length ks) (length ss) (length ws), 10) ∷ deltaTests s ready first (tableIn (s .length) ks ss ws) f w)
+  refusal = getDeltaWeights s (tableRooms ks ss ws) ready first f w .refusal
 
   pub refusal-broken : tableBroken s (length ks) (length ss) (length ws) ≡ true → 10 ≡ refusal
+  unfolding getDeltaWeights
   refusal-broken b = first-is 0 _ b
 
   module _ (b : tableBroken s (length ks) (length ss) (length ws) ≡ false) where
-    pub refusal-ready : 1000000000 < ready → 23 ≡ refusal
-    unfolding deltaTests
-    refusal-ready h = first-is 1 _ (b, or-first _ _ (or-first _ _ (lt-ltb 1000000000 ready h)))
+    pub refusal-ready : 1000000000 < ready .0 → 23 ≡ refusal
+    unfolding deltaTests getDeltaWeights
+    refusal-ready h = first-is 1 _ (b, or-first _ _ (or-first _ _ (lt-ltb 1000000000 (ready .0) h)))
 
-    pub refusal-first : 1000000000 < first → 23 ≡ refusal
-    unfolding deltaTests
-    refusal-first h = first-is 1 _ (b, or-first _ _ (or-second (ltb 1000000000 ready) _ (lt-ltb 1000000000 first h)))
+    pub refusal-first : 1000000000 < first .0 → 23 ≡ refusal
+    unfolding deltaTests getDeltaWeights
+    refusal-first h = first-is 1 _ (b, or-first _ _ (or-second (ltb 1000000000 (ready .0)) _ (lt-ltb 1000000000 (first .0) h)))
 
-    module _ (hr : ready ≤ 1000000000) (hf : first ≤ 1000000000) (p d m : ℕ) (ep : p ≡ places s) (ed : d ≡ decoderFrames (s .subsampling) m) (em : m ≡ ready - first) where
-      pub wanted-is : d ≡ wanted s ready first
-      wanted-is = ed ∙ ap (decoderFrames (s .subsampling)) em
+    module _ (hr : ready .0 ≤ 1000000000) (hf : first .0 ≤ 1000000000) (p : ℕ) (d : DecoderFrame) (ep : p ≡ places s) (ed : d ≡ wanted s ready first) where
+      wanted-is : d .0 ≡ wanted s ready first .0
+      wanted-is = ap (λ (x : DecoderFrame). x .0) ed
 
-      pub refusal-wanted : p < d → 23 ≡ refusal
-      unfolding deltaTests
-      refusal-wanted h = first-is 1 _ (b, or-second (ltb 1000000000 ready || ltb 1000000000 first) _ (lt-ltb (places s) (wanted s ready first) (omega (arith, wanted-is))))
+      pub refusal-wanted : p < d .0 → 23 ≡ refusal
+      unfolding deltaTests getDeltaWeights
+      refusal-wanted h = first-is 1 _ (b, or-second (ltb 1000000000 (ready .0) || ltb 1000000000 (first .0)) _ (lt-ltb (places s) (wanted s ready first .0) (omega (arith, wanted-is))))
 
-      module _ (hp : d ≤ p) where
-        no-23 : (ltb 1000000000 ready || ltb 1000000000 first || ltb (places s) (wanted s ready first)) ≡ false
-        no-23 = or-none _ _ (or-none _ _ (le-ltb 1000000000 ready hr) (le-ltb 1000000000 first hf)) (le-ltb (places s) (wanted s ready first) (omega (arith, wanted-is)))
+      module _ (hp : d .0 ≤ p) where
+        no-23 : (ltb 1000000000 (ready .0) || ltb 1000000000 (first .0) || ltb (places s) (wanted s ready first .0)) ≡ false
+        no-23 = or-none _ _ (or-none _ _ (le-ltb 1000000000 (ready .0) hr) (le-ltb 1000000000 (first .0) hf)) (le-ltb (places s) (wanted s ready first .0) (omega (arith, wanted-is)))
 
-        pub refusal-nothing : ready ≤ first → 0 ≡ refusal
-        unfolding deltaTests
+        pub refusal-nothing : ready .0 ≤ first .0 → 0 ≡ refusal
+        unfolding deltaTests getDeltaWeights
         refusal-nothing l = first-none _ (b, (no-23, (le-ltb (min f w) _ (omega (arith, ap length (nothing-asked s ks ss ws ready first l))), tt)))
 
-        module _ (l : first < ready) (n c r : ℕ) (en : n ≡ max (s .length) d) (ec : c ≡ length (deltaWeights (s .«silence_weight») (s .subsampling) first n (tableIn (s .length) ks ss ws))) (er : r ≡ min f w) where
-          count-is : c ≡ length (asked s ready first (tableIn (s .length) ks ss ws))
-          count-is = ec ∙ ap length (sym (some-asked s ks ss ws ready first l n (en ∙ ap (max (s .length)) wanted-is)))
+        module _ (l : first .0 < ready .0) (n c r : ℕ) (en : n ≡ max (s .length .0) (d .0)) (ec : c ≡ length (deltaWeights (s .«silence_weight») (s .subsampling) first (decoder n) (tableOf (s .length .0) ks ss ws))) (er : r ≡ min f w) where
+          count-is : c ≡ length (asked s ready first (tableOf (s .length .0) ks ss ws))
+          count-is = ec ∙ ap length (sym (some-asked s ks ss ws ready first l n (en ∙ ap (max (s .length .0)) wanted-is)))
 
           pub refusal-short : r < c → 24 ≡ refusal
-          unfolding deltaTests
-          refusal-short h = first-is 2 _ (b, (no-23, lt-ltb (min f w) (length (asked s ready first (tableIn (s .length) ks ss ws))) (omega (arith, count-is))))
+          unfolding deltaTests getDeltaWeights
+          refusal-short h = first-is 2 _ (b, (no-23, lt-ltb (min f w) (length (asked s ready first (tableOf (s .length .0) ks ss ws))) (omega (arith, count-is))))
 
           pub refusal-none : c ≤ r → 0 ≡ refusal
-          unfolding deltaTests
-          refusal-none h = first-none _ (b, (no-23, (le-ltb (min f w) (length (asked s ready first (tableIn (s .length) ks ss ws))) (omega (arith, count-is)), tt)))
+          unfolding deltaTests getDeltaWeights
+          refusal-none h = first-none _ (b, (no-23, (le-ltb (min f w) (length (asked s ready first (tableOf (s .length .0) ks ss ws))) (omega (arith, count-is)), tt)))
 
           -- where a change of each input frame would find room
-          pub refusal-roomy : (b o : ℕ) → b ≡ s .length - 100 → o ≡ n - b → o * s .subsampling ≤ r → 0 ≡ refusal
+          pub refusal-roomy : (b o : ℕ) → b ≡ s .length .0 - 100 → o ≡ n - b → o * s .subsampling ≤ r → 0 ≡ refusal
           refusal-roomy b o eb eo h =
-              let t : Table = tableIn (s .length) ks ss ws in
-              let e : o ≡ n - (length t - 100) = eo ∙ ap (λ (z : ℕ). n - z) (eb ∙ ap (λ (z : ℕ). z - 100) (sym (length-table (s .length) ks ss ws))) in
+              let t : Table = tableOf (s .length .0) ks ss ws in
+              let e : o ≡ n - (length t - 100) = eo ∙ ap (λ (z : ℕ). n - z) (eb ∙ ap (λ (z : ℕ). z - 100) (sym (length-table (s .length .0) ks ss ws))) in
               refusal-none (omega (arith, ec, few-changes (s .«silence_weight») (s .subsampling) first n t, ap (λ (z : ℕ). z * s .subsampling) e, h))
 
-module _ (s : SilenceWeighting) (ks ss : List Bool) (ws : List Float) (ready first : ℕ) (fs : List ℕ) (os : List Float) where
+module _ (s : SilenceWeighting) (ks ss : List Bool) (ws : List Float) (ready first : InputFrame) (fs : List ℕ) (os : List Float) where
   abbrev t : Table
-  t = tableIn (s .length) ks ss ws
+  t = tableOf (s .length .0) ks ss ws
 
   abbrev refused : ℕ
-  refused = deltaRefusal s ks ss ws ready first fs os
+  refused = getDeltaWeights s (tableRooms ks ss ws) ready first (length fs) (length os) .refusal
 
-  pub delta-refused : (r : SilenceAnswer) (k : ℕ) → Refused r s k → k ≡ refused → (k ≡ 0 → ⊥) → Weighs s ks ss ws ready first fs os r ks ss ws fs os
-  delta-refused r k a e h =
-      let z : refused ≡ 0 → ⊥ = λ q. h (e ∙ q) in
-      (answer-refused r s k _ _ _ a e h, sym (taken-old _ _ ks z), sym (taken-old _ _ ss z), sym (taken-old _ _ ws z), sym (taken-old _ _ fs z), sym (taken-old _ _ os z))
+  abbrev Weighs : SilenceAnswer → List Bool → List Bool → List Float → List ℕ → List Float → Type 0
+  Weighs r ks′ ss′ ws′ fs′ os′ = tableCall r (tableRooms ks′ ss′ ws′) fs′ os′ ≡ tableDone s (tableRooms ks ss ws) fs os (getDeltaWeights s (tableRooms ks ss ws) ready first (length fs) (length os))
+
+  pub delta-refused : (r : SilenceAnswer) (k : ℕ) → Refused r s k → k ≡ refused → (k ≡ 0 → ⊥) → Weighs r ks ss ws fs os
+  delta-refused r k a e h = step-refused s (tableRooms ks ss ws) fs os (getDeltaWeights s (tableRooms ks ss ws) ready first (length fs) (length os)) r k a e h
 
   -- a call that is taken, the table and the changes given by equations
   delta-taken-as : (r : SilenceAnswer) (u : Table) (g : List Change) (c m : ℕ) (ks′ ss′ : List Bool) (ws′ : List Float) (fs′ : List ℕ) (os′ : List Float) → r ≡ silenceAnswer 0 s c m → 0 ≡ refused
-      → askedTable s ready first t ≡ u → asked s ready first t ≡ g → c ≡ length g → m ≡ length u
+      → u ≡ askedTable s ready first t → g ≡ asked s ready first t → c ≡ length g → m ≡ length u
       → ks′ ≡ over (knowns u) ks → ss′ ≡ over (silences u) ss → ws′ ≡ over (weights u) ws → fs′ ≡ over (map (λ x. x .0) g) fs → os′ ≡ over (map (λ x. x .1) g) os
-      → Weighs s ks ss ws ready first fs os r ks′ ss′ ws′ fs′ os′
-  delta-taken-as r u g c m ks′ ss′ ws′ fs′ os′ a e eu eg ec em k1 s1 w1 f1 o1 = (
-    answer-taken r s a e (ec ∙ ap length (sym eg)) (em ∙ ap length (sym eu)),
-    k1 ∙ ap (λ (z : Table). over (knowns z) ks) (sym eu) ∙ sym (taken-new _ _ ks (sym e)),
-    s1 ∙ ap (λ (z : Table). over (silences z) ss) (sym eu) ∙ sym (taken-new _ _ ss (sym e)),
-    w1 ∙ ap (λ (z : Table). over (weights z) ws) (sym eu) ∙ sym (taken-new _ _ ws (sym e)),
-    f1 ∙ ap (λ (z : List Change). over (map (λ x. x .0) z) fs) (sym eg) ∙ sym (taken-new _ _ fs (sym e)),
-    o1 ∙ ap (λ (z : List Change). over (map (λ x. x .1) z) os) (sym eg) ∙ sym (taken-new _ _ os (sym e)),
-  )
+      → Weighs r ks′ ss′ ws′ fs′ os′
+  unfolding getDeltaWeights
+  delta-taken-as r u g c m ks′ ss′ ws′ fs′ os′ a e eu eg ec em k1 s1 w1 f1 o1 =
+      step-taken s (tableRooms ks ss ws) fs os (getDeltaWeights s (tableRooms ks ss ws) ready first (length fs) (length os)) r c m _ fs′ os′ a e (ec ∙ ap length eg) (em ∙ ap length eu)
+      (rooms-are k1 s1 w1 ∙ ap (λ (x : Table). overRooms x (tableRooms ks ss ws)) eu)
+      (f1 ∙ ap (λ (x : List Change). over (map (λ x. x .0) x) fs) eg) (o1 ∙ ap (λ (x : List Change). over (map (λ x. x .1) x) os) eg)
 
   -- a room's own table
-  own : {A : Type 0} (part : FrameInfo → A) (d : A) (room : List A) → s .length ≤ length room → ((k : ℕ) → part (record { known = getD ks k false; is-silence = getD ss k false; current-weight = getD ws k nan }) ≡ getD room k d)
+  own : {A : Type 0} (part : FrameInfo → A) (d : A) (room : List A) → s .length .0 ≤ length room → ((k : ℕ) → part (record { known = getD ks k false; is-silence = getD ss k false; current-weight = getD ws k nan }) ≡ getD room k d)
       → room ≡ over (map part t) room
   unfolding tableIn
-  own {A} part d room l h = sym (ap (λ (x : List A). over x room) (map-build part _ _ ∙ build-ext _ _ _ (λ k q. h k)) ∙ over-self d (s .length) room l)
+  own {A} part d room l h = sym (ap (λ (x : List A). over x room) (map-build part _ _ ∙ build-ext _ _ _ (λ k q. h k)) ∙ over-self d (s .length .0) room l)
 
-  pub delta-nothing : (r : SilenceAnswer) → r ≡ silenceAnswer 0 s 0 (s .length) → 0 ≡ refused → ready ≤ first → DeltaTaken s (length ks) (length ss) (length ws) ready first t (length fs) (length os)
-      → Weighs s ks ss ws ready first fs os r ks ss ws fs os
+  pub delta-nothing : (r : SilenceAnswer) → r ≡ silenceAnswer 0 s 0 (s .length .0) → 0 ≡ refused → ready .0 ≤ first .0 → DeltaTaken s (length ks) (length ss) (length ws) ready first t (length fs) (length os)
+      → Weighs r ks ss ws fs os
   delta-nothing r a e l d =
-      delta-taken-as r t [] 0 (s .length) ks ss ws fs os a e (nothing-table s ks ss ws ready first l) (nothing-asked s ks ss ws ready first l) refl (sym (length-table (s .length) ks ss ws))
+      delta-taken-as r t [] 0 (s .length .0) ks ss ws fs os a e (sym (nothing-table s ks ss ws ready first l)) (sym (nothing-asked s ks ss ws ready first l)) refl (sym (length-table (s .length .0) ks ss ws))
       (own (λ f. f .known) false ks (omega arith) (λ k. refl)) (own (λ f. f .is-silence) false ss (omega arith) (λ k. refl)) (own (λ f. f .current-weight) nan ws (omega arith) (λ k. refl)) (over-none fs) (over-none os)
 
-  module _ (l : first < ready) (n : ℕ) (en : n ≡ max (s .length) (wanted s ready first)) where
+  module _ (l : first .0 < ready .0) (n : ℕ) (en : n ≡ max (s .length .0) (wanted s ready first .0)) where
     -- a room of flags that has grown
-    flags : (part : FrameInfo → Bool) (room l′ : List Bool) (more : ℕ) → more ≡ n - s .length → n ≤ length room → l′ ≡ put (s .length) (build more (λ i. false)) room
-        → ((k : ℕ) → flagAt (s .length) room k ≡ part (infoAt t k)) → map part (weighted (s .«silence_weight») n t) ≡ build n (λ k. part (infoAt t k)) → l′ ≡ over (map part (weighted (s .«silence_weight») n t)) room
+    flags : (part : FrameInfo → Bool) (room l′ : List Bool) (more : ℕ) → more ≡ n - s .length .0 → n ≤ length room → l′ ≡ put (s .length .0) (build more (λ i. false)) room
+        → ((k : ℕ) → flagAt (s .length .0) room k ≡ part (infoAt t k)) → map part (weighted (s .«silence_weight») (decoder n) t) ≡ build n (λ k. part (infoAt t k)) → l′ ≡ over (map part (weighted (s .«silence_weight») (decoder n) t)) room
     flags part room l′ more em h g p q =
-        grown false false (s .length) room more n l′ (omega arith) h g ∙ ap (λ (x : List Bool). over x room) (build-ext n _ _ (λ k i. p k) ∙ sym q)
+        grown false false (s .length .0) room more n l′ (omega arith) h g ∙ ap (λ (x : List Bool). over x room) (build-ext n _ _ (λ k i. p k) ∙ sym q)
 
-    weighted-known : knowns (weighted (s .«silence_weight») n t) ≡ build n (λ k. infoAt t k .known)
+    weighted-known : knowns (weighted (s .«silence_weight») (decoder n) t) ≡ build n (λ k. infoAt t k .known)
     unfolding weighted
     weighted-known = map-build _ _ _
 
-    weighted-silence : silences (weighted (s .«silence_weight») n t) ≡ build n (λ k. infoAt t k .is-silence)
+    weighted-silence : silences (weighted (s .«silence_weight») (decoder n) t) ≡ build n (λ k. infoAt t k .is-silence)
     unfolding weighted
     weighted-silence = map-build _ _ _
 
-    pub delta-done : (r : SilenceAnswer) (more c : ℕ) (ks′ ss′ : List Bool) (ws′ : List Float) (fs′ : List ℕ) (os′ : List Float) → r ≡ silenceAnswer 0 s c n → 0 ≡ refused → DeltaTaken s (length ks) (length ss) (length ws) ready first t (length fs) (length os) → more ≡ n - s .length
-        → c ≡ length (deltaWeights (s .«silence_weight») (s .subsampling) first n t) → ks′ ≡ put (s .length) (build more (λ i. false)) ks → ss′ ≡ put (s .length) (build more (λ i. false)) ss
-        → ws′ ≡ over (weights (weighted (s .«silence_weight») n t)) ws
-        → fs′ ≡ over (map (λ x. x .0) (deltaWeights (s .«silence_weight») (s .subsampling) first n t)) fs → os′ ≡ over (map (λ x. x .1) (deltaWeights (s .«silence_weight») (s .subsampling) first n t)) os
-        → Weighs s ks ss ws ready first fs os r ks′ ss′ ws′ fs′ os′
+    pub delta-done : (r : SilenceAnswer) (more c : ℕ) (ks′ ss′ : List Bool) (ws′ : List Float) (fs′ : List ℕ) (os′ : List Float) → r ≡ silenceAnswer 0 s c n → 0 ≡ refused → DeltaTaken s (length ks) (length ss) (length ws) ready first t (length fs) (length os) → more ≡ n - s .length .0
+        → c ≡ length (deltaWeights (s .«silence_weight») (s .subsampling) first (decoder n) t) → ks′ ≡ put (s .length .0) (build more (λ i. false)) ks → ss′ ≡ put (s .length .0) (build more (λ i. false)) ss
+        → ws′ ≡ over (weights (weighted (s .«silence_weight») (decoder n) t)) ws
+        → fs′ ≡ over (map (λ x. x .0) (deltaWeights (s .«silence_weight») (s .subsampling) first (decoder n) t)) fs → os′ ≡ over (map (λ x. x .1) (deltaWeights (s .«silence_weight») (s .subsampling) first (decoder n) t)) os
+        → Weighs r ks′ ss′ ws′ fs′ os′
     delta-done r more c ks′ ss′ ws′ fs′ os′ a e d em ec k1 s1 w1 f1 o1 =
-        delta-taken-as r _ _ c n ks′ ss′ ws′ fs′ os′ a e (some-table s ks ss ws ready first l n en) (some-asked s ks ss ws ready first l n en) ec (sym (length-weighted (s .«silence_weight») n t))
-        (flags (λ f. f .known) ks ks′ more em (omega arith) k1 (known-at (s .length) ks ss ws) weighted-known) (flags (λ f. f .is-silence) ss ss′ more em (omega arith) s1 (silence-at (s .length) ks ss ws) weighted-silence) w1 f1 o1
+        delta-taken-as r _ _ c n ks′ ss′ ws′ fs′ os′ a e (sym (some-table s ks ss ws ready first l n en)) (sym (some-asked s ks ss ws ready first l n en)) ec (sym (length-weighted (s .«silence_weight») n t))
+        (flags (λ f. f .known) ks ks′ more em (omega arith) k1 (known-at (s .length .0) ks ss ws) weighted-known) (flags (λ f. f .is-silence) ss ss′ more em (omega arith) s1 (silence-at (s .length .0) ks ss ws) weighted-silence) w1 f1 o1

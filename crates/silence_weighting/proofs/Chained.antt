@@ -16,23 +16,26 @@ use Rattle.loops.proofs.Choose.{by-test, or-none, or-fails}
 use Rattle.loops.proofs.Build.{build-ext, build-list}
 use Rattle.loops.proofs.Fill.{length-over, over-at}
 use Rattle.loops.proofs.Refusal.{first-past}
+use Rattle.definition.specs.declared.InputFrame.{InputFrame}
+use Rattle.definition.specs.declared.DecoderFrame.{DecoderFrame}
 use Rattle.definition.specs.declared.SilenceWeighting.{SilenceWeighting}
 use Rattle.definition.specs.declared.SilenceAnswer.{SilenceAnswer}
 use Rattle.definition.specs.declared.NewTable.the-variants as N
-use Rattle.definition.specs.Silence.{FrameInfo, Table, tableIn, segments, traced, settingsRefusal, newTable, places, tableBroken, tracebackTests, wanted, asked, askedTable, deltaTests, silenceAnswer}
+use Rattle.definition.specs.Silence.{decoder, FrameInfo, TableRooms, Table, tableIn, overRooms, segments, traced, settingsRefusal, newTable, places, tableBroken, tracebackTests, wanted, asked, askedTable, deltaTests}
+use Rattle.definition.specs.Silence.{computeCurrentTraceback, getDeltaWeights, silenceAnswer, TableCall, tableCall, tableDone}
 use Rattle.silence_weighting.proofs.Refusals.{sound, traceback-taken, delta-taken}
 use Rattle.silence_weighting.proofs.Tables.{length-table}
 use Rattle.silence_weighting.proofs.Marks.{length-traced}
 use Rattle.silence_weighting.proofs.Walk.{length-weighted}
-use Rattle.silence_weighting.proofs.Calls.{knowns, silences, weights, tracebackRefusal, Recorded, deltaRefusal, Weighs}
+use Rattle.silence_weighting.proofs.Calls.{knowns, silences, weights}
 
 -- ---- the table machine
 
 -- a call, with what it is lent besides the table: the silence phones, the segments' phones, starts and ends, and the frames decoded; or
 -- the frames ready, the first, and the answer's two lists
 pub data Call : Type 0 where
-  traceback : List ℤ → List ℤ → List ℕ → List ℕ → ℕ → Call
-  deltas : ℕ → ℕ → List ℕ → List Float → Call
+  traceback : List ℤ → List ℤ → List ℕ → List ℕ → DecoderFrame → Call
+  deltas : InputFrame → InputFrame → List ℕ → List Float → Call
 
 -- what it answers: its refusal, how many changes it gives, and its two lists afterwards
 pub record Answer : Type 0 where
@@ -73,61 +76,61 @@ answers s t (c ∷ cs) = said s t c ∷ answers s (after s t c) cs
 abbrev pub answerOf : SilenceAnswer → List ℕ → List Float → Answer
 answerOf r fs os = record { refusal = r .refusal; changes = r .changes; frames = fs; weights = os }
 
-pub data Run : SilenceWeighting → List Bool → List Bool → List Float → List Call → List Answer → Type 0 where
-  none : {s : SilenceWeighting} {ks ss : List Bool} {ws : List Float} → Run s ks ss ws [] []
-  recorded : {s : SilenceWeighting} {ks ss ks′ ss′ : List Bool} {ws ws′ : List Float} {phones ps : List ℤ} {starts ends : List ℕ} {decoded : ℕ} {r : SilenceAnswer} {cs : List Call} {as′ : List Answer}
-      → Recorded s phones ks ss ws ps starts ends decoded r ks′ ss′ ws′ → Run (r .silence) ks′ ss′ ws′ cs as′
-      → Run s ks ss ws (traceback phones ps starts ends decoded ∷ cs) (answerOf r [] [] ∷ as′)
-  weighs : {s : SilenceWeighting} {ks ss ks′ ss′ : List Bool} {ws ws′ : List Float} {ready first : ℕ} {fs fs′ : List ℕ} {os os′ : List Float} {r : SilenceAnswer} {cs : List Call} {as′ : List Answer}
-      → Weighs s ks ss ws ready first fs os r ks′ ss′ ws′ fs′ os′ → Run (r .silence) ks′ ss′ ws′ cs as′
-      → Run s ks ss ws (deltas ready first fs os ∷ cs) (answerOf r fs′ os′ ∷ as′)
+pub data Run : SilenceWeighting → TableRooms → List Call → List Answer → Type 0 where
+  none : {s : SilenceWeighting} {z : TableRooms} → Run s z [] []
+  recorded : {s : SilenceWeighting} {z z′ : TableRooms} {phones ps : List ℤ} {starts ends : List ℕ} {n : DecoderFrame} {r : SilenceAnswer} {cs : List Call} {as′ : List Answer}
+      → tableCall r z′ [] [] ≡ tableDone s z [] [] (computeCurrentTraceback s z phones ps starts ends n) → Run (r .silence) z′ cs as′
+      → Run s z (traceback phones ps starts ends n ∷ cs) (answerOf r [] [] ∷ as′)
+  weighs : {s : SilenceWeighting} {z z′ : TableRooms} {ready first : InputFrame} {fs fs′ : List ℕ} {os os′ : List Float} {r : SilenceAnswer} {cs : List Call} {as′ : List Answer}
+      → tableCall r z′ fs′ os′ ≡ tableDone s z fs os (getDeltaWeights s z ready first (length fs) (length os)) → Run (r .silence) z′ cs as′
+      → Run s z (deltas ready first fs os ∷ cs) (answerOf r fs′ os′ ∷ as′)
 
 -- ---- the rooms at exit hold the new table
 
-table-back : (t : Table) (ks ss : List Bool) (ws : List Float) → tableIn (length t) (over (knowns t) ks) (over (silences t) ss) (over (weights t) ws) ≡ t
+abbrev broken : SilenceWeighting → TableRooms → Bool
+broken s z = tableBroken s (length (z .known)) (length (z .is-silence)) (length (z .current-weight))
+
+table-back : (t : Table) (z : TableRooms) → tableIn (decoder (length t)) (overRooms t z) ≡ t
 unfolding tableIn
-table-back t ks ss ws =
+table-back t z =
     let d : FrameInfo = record { known = false; is-silence = false; current-weight = nan } in
     build-ext (length t) _ _
     (λ k l.
-    rw (over-at false (knowns t) ks k (omega (arith, length-map t (λ (f : FrameInfo). f .known))), over-at false (silences t) ss k (omega (arith, length-map t (λ (f : FrameInfo). f .is-silence))), over-at nan (weights t) ws k (omega (arith, length-map t (λ (f : FrameInfo). f .current-weight))))
+    rw (over-at false (knowns t) (z .known) k (omega (arith, length-map t (λ (f : FrameInfo). f .known))), over-at false (silences t) (z .is-silence) k (omega (arith, length-map t (λ (f : FrameInfo). f .is-silence))), over-at nan (weights t) (z .current-weight) k (omega (arith, length-map t (λ (f : FrameInfo). f .current-weight))))
     (rw (List·getD-map (λ (f : FrameInfo). f .known) t k d, List·getD-map (λ (f : FrameInfo). f .is-silence) t k d, List·getD-map (λ (f : FrameInfo). f .current-weight) t k d)))
     ∙ build-list d t
 
-module _ (s : SilenceWeighting) (ks ss : List Bool) (ws : List Float) (t : Table) (b : tableBroken s (length ks) (length ss) (length ws) ≡ false) where
+module _ (s : SilenceWeighting) (z : TableRooms) (t : Table) (b : broken s z ≡ false) where
   abbrev grown : SilenceWeighting
-  grown = record { «silence_weight» = s .«silence_weight»; subsampling = s .subsampling; phones = s .phones; table = s .table; length = length t }
+  grown = record { «silence_weight» = s .«silence_weight»; subsampling = s .subsampling; phones = s .phones; table = s .table; length = decoder (length t) }
 
-  unbroken : (k i w : ℕ) → length t ≤ places s → k ≡ length ks → i ≡ length ss → w ≡ length ws → tableBroken grown k i w ≡ false
+  unbroken : (k i w : ℕ) → length t ≤ places s → k ≡ length (z .known) → i ≡ length (z .is-silence) → w ≡ length (z .current-weight) → tableBroken grown k i w ≡ false
   unfolding tableBroken
   unbroken k i w h ek ei ew =
-      let rest : Bool = not (eqb (length ks) (s .table)) || not (eqb (length ss) (s .table)) || not (eqb (length ws) (s .table)) || not (eqb (settingsRefusal (s .phones) (s .«silence_weight») (s .subsampling)) 0) in
-      rw (ek, ei, ew) (or-none rest _ (or-fails rest (ltb (places s) (s .length)) b .0) (le-ltb (places s) (length t) h))
+      let rest : Bool = not (eqb (length (z .known)) (s .table)) || not (eqb (length (z .is-silence)) (s .table)) || not (eqb (length (z .current-weight)) (s .table)) || not (eqb (settingsRefusal (s .phones) (s .«silence_weight») (s .subsampling)) 0) in
+      rw (ek, ei, ew) (or-none rest _ (or-fails rest (ltb (places s) (s .length .0)) b .0) (le-ltb (places s) (length t) h))
 
   -- what a call leaves that makes the table t, or is refused: the record is not broken, and the rooms hold the machine's table
-  pub left : (n c : ℕ) (r : SilenceAnswer) (ks′ ss′ : List Bool) (ws′ : List Float) → (n ≡ 0 → length t ≤ places s) → r ≡ silenceAnswer n s c (length t)
-      → ks′ ≡ taken n (over (knowns t) ks) ks → ss′ ≡ taken n (over (silences t) ss) ss → ws′ ≡ taken n (over (weights t) ws) ws
-      → (tableBroken (r .silence) (length ks′) (length ss′) (length ws′) ≡ false)
-      × (tableIn (r .silence .length) ks′ ss′ ws′ ≡ taken n t (tableIn (s .length) ks ss ws))
-      × (r .silence ≡ taken n grown s)
+  pub left : (n c : ℕ) (r : SilenceAnswer) (z′ : TableRooms) → (n ≡ 0 → length t ≤ places s) → r ≡ silenceAnswer n s c (length t) → z′ ≡ taken n (overRooms t z) z
+      → (broken (r .silence) z′ ≡ false) × (tableIn (r .silence .length) z′ ≡ taken n t (tableIn (s .length) z)) × (r .silence ≡ taken n grown s)
   unfolding silenceAnswer
-  left zero c r ks′ ss′ ws′ h a k1 s1 w1 =
+  left zero c r z′ h a ez =
       let e : r .silence ≡ grown = ap (λ (x : SilenceAnswer). x .silence) a in
       let l = h refl in
-      let d = sound s (length ks) (length ss) (length ws) b in (
-        rw (e, k1, s1, w1) (unbroken _ _ _ l (length-over (knowns t) ks (omega (arith, length-map t (λ (f : FrameInfo). f .known)))) (length-over (silences t) ss (omega (arith, length-map t (λ (f : FrameInfo). f .is-silence)))) (length-over (weights t) ws (omega (arith, length-map t (λ (f : FrameInfo). f .current-weight))))),
-        rw (e, k1, s1, w1) (table-back t ks ss ws),
+      let d = sound s _ _ _ b in (
+        rw (e, ez) (unbroken _ _ _ l (length-over (knowns t) (z .known) (omega (arith, length-map t (λ (f : FrameInfo). f .known)))) (length-over (silences t) (z .is-silence) (omega (arith, length-map t (λ (f : FrameInfo). f .is-silence)))) (length-over (weights t) (z .current-weight) (omega (arith, length-map t (λ (f : FrameInfo). f .current-weight))))),
+        rw (e, ez) (table-back t z),
         e,
       )
-  left (suc n) c r ks′ ss′ ws′ h a k1 s1 w1 =
+  left (suc n) c r z′ h a ez =
       let e : r .silence ≡ s = ap (λ (x : SilenceAnswer). x .silence) a in
-      (rw (e, k1, s1, w1) b, rw (e, k1, s1, w1), e)
+      (rw (e, ez) b, rw (e, ez), e)
 
 -- ---- the machine asks of a record only its settings
 
 module _ (s : SilenceWeighting) (m : ℕ) where
   abbrev other : SilenceWeighting
-  other = record { «silence_weight» = s .«silence_weight»; subsampling = s .subsampling; phones = s .phones; table = s .table; length = m }
+  other = record { «silence_weight» = s .«silence_weight»; subsampling = s .subsampling; phones = s .phones; table = s .table; length = decoder m }
 
   said-same : (t : Table) (c : Call) → said other t c ≡ said s t c
   unfolding tracebackTests deltaTests asked
@@ -154,47 +157,49 @@ taken-same zero a = refl
 taken-same (suc n) a = refl
 
 -- one call more
-module _ (s : SilenceWeighting) (ks ss : List Bool) (ws : List Float) (b : tableBroken s (length ks) (length ss) (length ws) ≡ false) (c : Call) where
+module _ (s : SilenceWeighting) (z : TableRooms) (b : broken s z ≡ false) (c : Call) where
   abbrev t : Table
-  t = tableIn (s .length) ks ss ws
+  t = tableIn (s .length) z
 
-  more : (k n : ℕ) (r : SilenceAnswer) (ks′ ss′ : List Bool) (ws′ : List Float) (a : Answer) (cs : List Call) (as′ : List Answer) → k ≡ number s t c → (k ≡ 0 → length (made s t c) ≤ places s)
-      → r ≡ silenceAnswer k s n (length (made s t c)) → ks′ ≡ taken k (over (knowns (made s t c)) ks) ks → ss′ ≡ taken k (over (silences (made s t c)) ss) ss → ws′ ≡ taken k (over (weights (made s t c)) ws) ws
-      → a ≡ saying k s t c → (tableBroken (r .silence) (length ks′) (length ss′) (length ws′) ≡ false → as′ ≡ answers (r .silence) (tableIn (r .silence .length) ks′ ss′ ws′) cs)
+  more : (k n : ℕ) (r : SilenceAnswer) (z′ : TableRooms) (a : Answer) (cs : List Call) (as′ : List Answer) → k ≡ number s t c → (k ≡ 0 → length (made s t c) ≤ places s)
+      → r ≡ silenceAnswer k s n (length (made s t c)) → z′ ≡ taken k (overRooms (made s t c) z) z
+      → a ≡ saying k s t c → (broken (r .silence) z′ ≡ false → as′ ≡ answers (r .silence) (tableIn (r .silence .length) z′) cs)
       → a ∷ as′ ≡ answers s t (c ∷ cs)
-  more k n r ks′ ss′ ws′ a cs as′ e h er k1 s1 w1 ea rest =
-      let x = left s ks ss ws (made s t c) b k n r ks′ ss′ ws′ h er k1 s1 w1 in
+  more k n r z′ a cs as′ e h er ez ea rest =
+      let x = left s z (made s t c) b k n r z′ h er ez in
       ap (λ (z : Answer). z ∷ as′) (ea ∙ ap (λ (i : ℕ). saying i s t c) e)
       ∙ ap (λ (l : List Answer). said s t c ∷ l)
       (rest (x .0) ∙ answers-kept k (length (made s t c)) s (r .silence) _ cs (x .2) ∙ ap (λ (z : Table). answers s z cs) (x .1 ∙ ap (λ (i : ℕ). taken i (made s t c) t) e))
 
-length-made : (s : SilenceWeighting) (ready first : ℕ) (t : Table) → length (askedTable s ready first t) ≤ max (length t) (wanted s ready first)
+length-made : (s : SilenceWeighting) (ready first : InputFrame) (t : Table) → length (askedTable s ready first t) ≤ max (length t) (wanted s ready first .0)
 unfolding askedTable
-length-made s ready first t = by-test (leb ready first) (λ e. rw e (omega arith)) (λ e. rw e (omega (arith, length-weighted (s .«silence_weight») (max (length t) (wanted s ready first)) t)))
+length-made s ready first t = by-test (leb (ready .0) (first .0)) (λ e. rw e (omega arith)) (λ e. rw e (omega (arith, length-weighted (s .«silence_weight») (max (length t) (wanted s ready first .0)) t)))
 
-chain : {s : SilenceWeighting} {ks ss : List Bool} {ws : List Float} {cs : List Call} {as′ : List Answer} → tableBroken s (length ks) (length ss) (length ws) ≡ false → Run s ks ss ws cs as′ → as′ ≡ answers s (tableIn (s .length) ks ss ws) cs
-unfolding silenceAnswer
+chain : {s : SilenceWeighting} {z : TableRooms} {cs : List Call} {as′ : List Answer} → broken s z ≡ false → Run s z cs as′ → as′ ≡ answers s (tableIn (s .length) z) cs
+unfolding silenceAnswer computeCurrentTraceback getDeltaWeights
 chain b none = refl
-chain {s} {ks} {ss} {ws} b (recorded {ks′ = ks′} {ss′ = ss′} {ws′ = ws′} {phones = phones} {ps = ps} {starts = starts} {ends = ends} {decoded = decoded} {r = r} {cs = cs} {as′ = as′} h run) =
-    let k : ℕ = tracebackRefusal s phones ks ss ws ps starts ends decoded in
-    more s ks ss ws b (traceback phones ps starts ends decoded) k 0 r ks′ ss′ ws′ (answerOf r [] []) cs as′ (first-past _ _ b)
-    (λ z.
-    let d = traceback-taken s (length ks) (length ss) (length ws) (length phones) decoded (length ps) (length starts) (length ends) z in
-    omega (arith, length-traced phones decoded (segments ps starts ends) (tableIn (s .length) ks ss ws), length-table (s .length) ks ss ws))
-    (h .0) (h .1) (h .2) (h .3)
-    (ap (λ (x : SilenceAnswer). answerOf x [] []) (h .0) ∙ ap (λ (i : ℕ). record { refusal = k; changes = i; frames = []; weights = [] }) (taken-same k 0))
+chain {s} {z} b (recorded {z′ = z′} {phones = phones} {ps = ps} {starts = starts} {ends = ends} {n = n} {r = r} {cs = cs} {as′ = as′} h run) =
+    let k : ℕ = computeCurrentTraceback s z phones ps starts ends n .refusal in
+    let er = ap (λ (x : TableCall). x .answer) h in
+    more s z b (traceback phones ps starts ends n) k 0 r z′ (answerOf r [] []) cs as′ (first-past _ _ b)
+    (λ q.
+    let d = traceback-taken s _ _ _ (length phones) n (length ps) (length starts) (length ends) q in
+    omega (arith, length-traced phones (n .0) (segments ps starts ends) (tableIn (s .length) z), length-table (s .length .0) (z .known) (z .is-silence) (z .current-weight)))
+    er (ap (λ (x : TableCall). x .rooms) h)
+    (ap (λ (x : SilenceAnswer). answerOf x [] []) er ∙ ap (λ (i : ℕ). record { refusal = k; changes = i; frames = []; weights = [] }) (taken-same k 0))
     (λ d. chain d run)
-chain {s} {ks} {ss} {ws} b (weighs {ks′ = ks′} {ss′ = ss′} {ws′ = ws′} {ready = ready} {first = first} {fs = fs} {fs′ = fs′} {os = os} {os′ = os′} {r = r} {cs = cs} {as′ = as′} h run) =
-    let k : ℕ = deltaRefusal s ks ss ws ready first fs os in
-    let t : Table = tableIn (s .length) ks ss ws in
-    more s ks ss ws b (deltas ready first fs os) k (length (asked s ready first t)) r ks′ ss′ ws′ (answerOf r fs′ os′) cs as′ (first-past _ _ b)
-    (λ z.
-    let d = delta-taken s (length ks) (length ss) (length ws) ready first t (length fs) (length os) z in
-    omega (arith, length-made s ready first t, length-table (s .length) ks ss ws))
-    (h .0) (h .1) (h .2) (h .3)
-    (ap (λ (x : SilenceAnswer). answerOf x fs′ os′) (h .0)
-    ∙ ap (λ (l : List ℕ). record { refusal = k; changes = taken k (length (asked s ready first t)) 0; frames = l; weights = os′ }) (h .4)
-    ∙ ap (λ (l : List Float). record { refusal = k; changes = taken k (length (asked s ready first t)) 0; frames = taken k (over (map (λ x. x .0) (asked s ready first t)) fs) fs; weights = l }) (h .5))
+chain {s} {z} b (weighs {z′ = z′} {ready = ready} {first = first} {fs = fs} {fs′ = fs′} {os = os} {os′ = os′} {r = r} {cs = cs} {as′ = as′} h run) =
+    let k : ℕ = getDeltaWeights s z ready first (length fs) (length os) .refusal in
+    let t : Table = tableIn (s .length) z in
+    let er = ap (λ (x : TableCall). x .answer) h in
+    more s z b (deltas ready first fs os) k (length (asked s ready first t)) r z′ (answerOf r fs′ os′) cs as′ (first-past _ _ b)
+    (λ q.
+    let d = delta-taken s z ready first (length fs) (length os) q in
+    omega (arith, length-made s ready first t, length-table (s .length .0) (z .known) (z .is-silence) (z .current-weight)))
+    er (ap (λ (x : TableCall). x .rooms) h)
+    (ap (λ (x : SilenceAnswer). answerOf x fs′ os′) er
+    ∙ ap (λ (l : List ℕ). record { refusal = k; changes = taken k (length (asked s ready first t)) 0; frames = l; weights = os′ }) (ap (λ (x : TableCall). x .frames) h)
+    ∙ ap (λ (l : List Float). record { refusal = k; changes = taken k (length (asked s ready first t)) 0; frames = taken k (over (map (λ x. x .0) (asked s ready first t)) fs) fs; weights = l }) (ap (λ (x : TableCall). x .weights) h))
     (λ d. chain d run)
 
 -- a table that was made
@@ -204,10 +209,10 @@ made-is (suc r) s s′ e = let z : _≡_ {A = ℕ} 0 1 = cc in absurd (omega ari
 
 -- From a table that was made without refusal, in rooms of its length with whatever in them: every list of calls is answered as the
 -- definition answers it from the empty table. So 10 comes only for another number of silence phones.
-pub chained : (phones : ℕ) (w : Float) (subsampling n : ℕ) (s : SilenceWeighting) (ks ss : List Bool) (ws : List Float) (cs : List Call) (as′ : List Answer)
-    → newTable phones w subsampling n ≡ N.Table s → length ks ≡ n → length ss ≡ n → length ws ≡ n → Run s ks ss ws cs as′ → as′ ≡ answers s [] cs
+pub chained : (phones : ℕ) (w : Float) (subsampling n : ℕ) (s : SilenceWeighting) (z : TableRooms) (cs : List Call) (as′ : List Answer)
+    → newTable phones w subsampling n ≡ N.Table s → length (z .known) ≡ n → length (z .is-silence) ≡ n → length (z .current-weight) ≡ n → Run s z cs as′ → as′ ≡ answers s [] cs
 unfolding newTable tableBroken tableIn build
-chained phones w subsampling n s ks ss ws cs as′ e lk ls lw run =
+chained phones w subsampling n s z cs as′ e lk ls lw run =
     let m = made-is (settingsRefusal phones w subsampling) _ s e in
-    let b : tableBroken s (length ks) (length ss) (length ws) ≡ false = rw (← m .1, lk, ls, lw, eq-eqb n n refl, m .0, le-ltb (min n 1000000) 0 (omega arith)) in
-    chain b run ∙ ap (λ (i : ℕ). answers s (tableIn i ks ss ws) cs) (ap (λ (x : SilenceWeighting). x .length) (sym (m .1)))
+    let b : broken s z ≡ false = rw (← m .1, lk, ls, lw, eq-eqb n n refl, m .0, le-ltb (min n 1000000) 0 (omega arith)) in
+    chain b run ∙ ap (λ (i : DecoderFrame). answers s (tableIn i z) cs) (ap (λ (x : SilenceWeighting). x .length) (sym (m .1)))

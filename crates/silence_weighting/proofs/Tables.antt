@@ -10,11 +10,11 @@ use lib.ListN.{length, getD}
 use lib.Ieee.{Float}
 use Rattle.loops.specs.Lists.{build, over}
 use Rattle.loops.proofs.Choose.{by-test, choose-true, choose-false}
-use Rattle.loops.specs.Steps.{put}
+use Rattle.loops.specs.Ring.{put}
 use Rattle.loops.proofs.Build.{length-build, at-build, past-build}
 use Rattle.loops.proofs.Fill.{over-at, put-fit}
 use Rattle.definition.specs.Silence.{infoAt, tableIn}
-use Rattle.silence_weighting.specs.Steps.{placeAt, flagAt, weightAt}
+use Rattle.silence_weighting.specs.Steps.{tableOf, placeAt, flagAt, weightAt}
 
 module _ {A : Type 0} (d z : A) (n : ℕ) (room : List A) where
   pub place-in : (k : ℕ) → k < n → getD room k d ≡ placeAt d z n room k
@@ -40,11 +40,11 @@ module _ {A : Type 0} (d z : A) (n : ℕ) (room : List A) where
         (λ t. rw t (place-past k (omega (arith, ltb-false k size t))))
 
 module _ (n : ℕ) (ks ss : List Bool) (ws : List Float) where
-  pub length-table : length (tableIn n ks ss ws) ≡ n
+  pub length-table : length (tableOf n ks ss ws) ≡ n
   unfolding tableIn
   length-table = length-build n _
 
-  pub info-is : (k : ℕ) → infoAt (tableIn n ks ss ws) k ≡ record { known = flagAt n ks k; is-silence = flagAt n ss k; current-weight = weightAt n ws k }
+  pub info-is : (k : ℕ) → infoAt (tableOf n ks ss ws) k ≡ record { known = flagAt n ks k; is-silence = flagAt n ss k; current-weight = weightAt n ws k }
   unfolding infoAt tableIn placeAt
   info-is k =
       by-test (ltb k n) (λ e. at-build _ n _ k (ltb-true k n e) ∙ rw e) (λ e. past-build _ n _ k (ltb-false k n e) ∙ rw e)

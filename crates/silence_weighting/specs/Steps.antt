@@ -7,8 +7,14 @@ use lib.Dec.{eqb, ltb}
 use lib.Ieee.{Float, nan, ne}
 use Rattle.loops.specs.Lists.{if_then_else_, build, flat}
 use Rattle.floats.specs.Operators.{_-₃₂_, zero₃₂}
+use Rattle.definition.specs.declared.InputFrame.{InputFrame}
+use Rattle.definition.specs.declared.DecoderFrame.{DecoderFrame}
 use Rattle.definition.specs.Changes.{Change}
-use Rattle.definition.specs.Silence.{Table, infoAt, begin, walked, inputFrame}
+use Rattle.definition.specs.Silence.{decoder, tableRooms, Table, infoAt, tableIn, begin, walked, inputFrame}
+
+-- the table of n frames in three rooms
+abbrev pub tableOf : ℕ → List Bool → List Bool → List Float → Table
+tableOf n ks ss ws = tableIn (decoder n) (tableRooms ks ss ws)
 
 -- place k of a room that n frames use, z where a frame past them is asked for
 unfoldable pub placeAt : {A : Type 0} → A → A → ℕ → List A → ℕ → A
@@ -29,9 +35,9 @@ difference w t i = walked w t (suc i) -₃₂ infoAt t (begin t + i) .current-we
 unfoldable pub number : ℕ → Float → Bool → ℕ
 number subsampling diff last = if ne diff zero₃₂ || last then subsampling else 0
 
-unfoldable pub given : ℕ → ℕ → ℕ → Float → Bool → List Change
-given subsampling first k diff last = build (number subsampling diff last) (λ j. (inputFrame subsampling first k j, diff))
+unfoldable pub given : ℕ → InputFrame → DecoderFrame → Float → Bool → List Change
+given subsampling first k diff last = build (number subsampling diff last) (λ j. (inputFrame subsampling first k j .0, diff))
 
 -- the changes of the walk's first m frames
-unfoldable pub changesTo : Float → ℕ → ℕ → ℕ → Table → ℕ → List Change
-changesTo w subsampling first n t m = flat m (λ i. given subsampling first (begin t + i) (difference w t i) (eqb (begin t + i + 1) n))
+unfoldable pub changesTo : Float → ℕ → InputFrame → ℕ → Table → ℕ → List Change
+changesTo w subsampling first n t m = flat m (λ i. given subsampling first (decoder (begin t + i)) (difference w t i) (eqb (begin t + i + 1) n))

@@ -8,14 +8,15 @@ use definition::SilenceAnswer;
 use definition::SilenceWeighting;
 ghost use mathlib.Core.Path.{_≡_};
 ghost use mathlib.Core.Bool.{Bool, not};
-ghost use mathlib.Core.List.{List, _∷_, map};
+ghost use mathlib.Core.List.{List, [], _∷_, map};
 ghost use Prim.Native.Nat.{ℕ, _+_, _-_, _<_, _≤_, min, max};
 ghost use lib.ListN.{length};
 ghost use lib.Ieee.{Float};
 ghost use Rattle.loops.specs.Lists.{build, anyOf, over};
-ghost use Rattle.loops.specs.Refusal.{firstOf, taken};
-ghost use Rattle.loops.specs.Steps.{put};
-ghost use Rattle.definition.specs.Silence.{Table, infoAt, tableIn, segments, samePhone, traced, before, carried, weighted, decoderFrames, inputFrame, deltaWeights, settingsRefusal, newTable, active, places, tableBroken, tracebackTests, asked, askedTable, deltaTests, silenceAnswer};
+ghost use Rattle.loops.specs.Refusal.{firstOf};
+ghost use Rattle.loops.specs.Ring.{put};
+ghost use Rattle.definition.specs.Silence.{decoder, TableRooms, tableRooms, Table, infoAt, tableIn, segments, samePhone, traced, before, carried, weighted, decoderFrames, inputFrame, deltaWeights};
+ghost use Rattle.definition.specs.Silence.{settingsRefusal, newTable, active, places, tableBroken, tracebackTests, computeCurrentTraceback, getDeltaWeights, silenceAnswer, tableCall, tableDone};
 ghost use Rattle.silence_weighting.specs.Steps.{flagAt, weightAt, number, given};
 
 // a less b, not below 0.
@@ -31,10 +32,11 @@ fn smaller(a: usize, b: usize) -> usize
     if a <= b { a } else { b }
 }
 
-fn larger(a: usize, b: usize) -> usize
-    ensures { λ r. ⌜ r ≡ max a b ⌝ }
+// The longer of two tables.
+fn longer(a: DecoderFrame, b: DecoderFrame) -> DecoderFrame
+    ensures { λ r. ⌜ r .0 ≡ max (a .0) (b .0) ⌝ }
 {
-    if a <= b { b } else { a }
+    if a.0 <= b.0 { b } else { a }
 }
 
 // Refusal 9, or 0.
@@ -74,7 +76,7 @@ pub fn new(
         subsampling,
         phones: silence_phones.len(),
         table,
-        length: 0,
+        length: DecoderFrame(0),
     })
 }
 
@@ -107,8 +109,8 @@ fn refused(s: SilenceWeighting, refusal: usize) -> SilenceAnswer
 }
 
 // What a call that is taken answers, the table having n frames now.
-fn answered(s: SilenceWeighting, changes: usize, n: usize) -> SilenceAnswer
-    ensures { λ r. ⌜ r ≡ silenceAnswer 0 s changes n ⌝ }
+fn answered(s: SilenceWeighting, changes: usize, n: DecoderFrame) -> SilenceAnswer
+    ensures { λ r. ⌜ r ≡ silenceAnswer 0 s changes (n .0) ⌝ }
 {
     let mut t = s;
     t.length = n;
@@ -136,7 +138,7 @@ fn table_broken(s: SilenceWeighting, known: usize, is_silence: usize, current_we
     if refusal != 0 {
         return true;
     }
-    places(s) < s.length
+    places(s) < s.length.0
 }
 
 // n places of a room from place a on, set to v.
@@ -166,7 +168,7 @@ fn traceback_refusal(
     is_silence: usize,
     current_weight: usize,
     phones: usize,
-    decoded: usize,
+    decoded: DecoderFrame,
     n: usize,
     starts: usize,
     ends: usize,
@@ -179,7 +181,7 @@ fn traceback_refusal(
     if phones != s.phones {
         return 10;
     }
-    if places(s) < decoded {
+    if places(s) < decoded.0 {
         return 23;
     }
     if n != starts {
@@ -212,16 +214,17 @@ fn mark_segments(
     segment_phones: &[i32],
     starts: &[usize],
     ends: &[usize],
-    decoded: usize,
+    decoded: DecoderFrame,
 )
-    requires { ⌜ (decoded ≤ length (now known)) × (decoded ≤ length (now «is_silence»)) × (length (now «segment_phones») ≡ length (now starts)) × (length (now «segment_phones») ≡ length (now ends)) ⌝ }
-    ensures { λ _. ⌜ ((n : ℕ) (ws : List Float) → decoded ≤ n → n ≤ length (now (known .entry)) → n ≤ length (now («is_silence» .entry)) →
-        let t : Table = traced (now («silence_phones» .entry)) decoded (segments (now («segment_phones» .entry)) (now (starts .entry)) (now (ends .entry))) (tableIn n (now (known .entry)) (now («is_silence» .entry)) ws) in
+    requires { ⌜ (decoded .0 ≤ length (now known)) × (decoded .0 ≤ length (now «is_silence»)) × (length (now «segment_phones») ≡ length (now starts)) × (length (now «segment_phones») ≡ length (now ends)) ⌝ }
+    ensures { λ _. ⌜ ((n : ℕ) (ws : List Float) → decoded .0 ≤ n → n ≤ length (now (known .entry)) → n ≤ length (now («is_silence» .entry)) →
+        let z : TableRooms = tableRooms (now (known .entry)) (now («is_silence» .entry)) ws in
+        let t : Table = traced (now («silence_phones» .entry)) decoded (segments (now («segment_phones» .entry)) (now (starts .entry)) (now (ends .entry))) (tableIn (decoder n) z) in
         (now (known .exit) ≡ over (map (λ f. f .known) t) (now (known .entry)))
         × (now («is_silence» .exit) ≡ over (map (λ f. f .is-silence) t) (now («is_silence» .entry)))) ⌝ }
 {
     for i in 0..segment_phones.len() {
-        let stop = smaller(ends[i], decoded);
+        let stop = smaller(ends[i], decoded.0);
         let start = smaller(starts[i], stop);
         let n = less(stop, start);
         let sil = contains(silence_phones, segment_phones[i]);
@@ -243,27 +246,17 @@ pub fn compute_current_traceback(
     num_frames_decoded: DecoderFrame,
 ) -> SilenceAnswer
     ensures { λ r. ⌜ (
-        let phones = now («silence_phones» .entry) in
-        let ks = now (known .entry) in
-        let ss = now («is_silence» .entry) in
-        let ws = now («current_weight» .entry) in
-        let ps = now («segment_phones» .entry) in
-        let decoded = «num_frames_decoded» .0 in
-        let n : ℕ = firstOf ((tableBroken s (length ks) (length ss) (length ws), 10) ∷ tracebackTests s (length phones) decoded (length ps) (length (now (starts .entry))) (length (now (ends .entry)))) in
-        let t : Table = traced phones decoded (segments ps (now (starts .entry)) (now (ends .entry))) (tableIn (s .length) ks ss ws) in
-        (r ≡ silenceAnswer n s 0 (length t))
-        × (now (known .exit) ≡ taken n (over (map (λ f. f .known) t) ks) ks)
-        × (now («is_silence» .exit) ≡ taken n (over (map (λ f. f .is-silence) t) ss) ss)
-        × (now («current_weight» .exit) ≡ taken n (over (map (λ f. f .current-weight) t) ws) ws)) ⌝ }
+        let z : TableRooms = tableRooms (now (known .entry)) (now («is_silence» .entry)) (now («current_weight» .entry)) in
+        tableCall r (tableRooms (now (known .exit)) (now («is_silence» .exit)) (now («current_weight» .exit))) [] []
+        ≡ tableDone s z [] [] (computeCurrentTraceback s z (now («silence_phones» .entry)) (now («segment_phones» .entry)) (now (starts .entry)) (now (ends .entry)) «num_frames_decoded»)) ⌝ }
 {
-    let decoded = num_frames_decoded.0;
     let refusal = traceback_refusal(
         s,
         known.len(),
         is_silence.len(),
         current_weight.len(),
         silence_phones.len(),
-        decoded,
+        num_frames_decoded,
         segment_phones.len(),
         starts.len(),
         ends.len(),
@@ -272,10 +265,10 @@ pub fn compute_current_traceback(
         return refused(s, refusal);
     }
     let old = s.length;
-    let more = less(decoded, old);
-    fill(known, old, more, false);
-    fill(is_silence, old, more, false);
-    fill_weights(current_weight, old, more, 0.0);
+    let more = less(num_frames_decoded.0, old.0);
+    fill(known, old.0, more, false);
+    fill(is_silence, old.0, more, false);
+    fill_weights(current_weight, old.0, more, 0.0);
     mark_segments(
         silence_phones,
         known,
@@ -283,52 +276,54 @@ pub fn compute_current_traceback(
         segment_phones,
         starts,
         ends,
-        decoded,
+        num_frames_decoded,
     );
-    answered(s, 0, larger(old, decoded))
+    answered(s, 0, longer(old, num_frames_decoded))
 }
 
 // ---- the weights
 
 // A flag of frame k in a table of n frames.
-fn flag_at(room: &[bool], n: usize, k: usize) -> bool
-    requires { ⌜ n ≤ length (now room) ⌝ }
-    ensures { λ r. ⌜ r ≡ flagAt n (now (room .entry)) k ⌝ }
+fn flag_at(room: &[bool], n: DecoderFrame, k: DecoderFrame) -> bool
+    requires { ⌜ n .0 ≤ length (now room) ⌝ }
+    ensures { λ r. ⌜ r ≡ flagAt (n .0) (now (room .entry)) (k .0) ⌝ }
 {
-    if k < n {
-        return room[k];
+    let place = k.0;
+    if place < n.0 {
+        return room[place];
     }
     false
 }
 
 // The current weight of frame k in a table of n frames.
-fn weight_at(room: &[f32], n: usize, k: usize) -> f32
-    requires { ⌜ n ≤ length (now room) ⌝ }
-    ensures { λ r. ⌜ r ≡ weightAt n (now (room .entry)) k ⌝ }
+fn weight_at(room: &[f32], n: DecoderFrame, k: DecoderFrame) -> f32
+    requires { ⌜ n .0 ≤ length (now room) ⌝ }
+    ensures { λ r. ⌜ r ≡ weightAt (n .0) (now (room .entry)) (k .0) ⌝ }
 {
-    if k < n {
-        return room[k];
+    let place = k.0;
+    if place < n.0 {
+        return room[place];
     }
     0.0
 }
 
 // Where the walk begins.
-fn walk_begin(s: SilenceWeighting) -> usize
-    ensures { λ r. ⌜ r ≡ s .length - 100 ⌝ }
+fn walk_begin(s: SilenceWeighting) -> DecoderFrame
+    ensures { λ r. ⌜ r .0 ≡ s .length .0 - 100 ⌝ }
 {
-    less(s.length, 100)
+    DecoderFrame(less(s.length.0, 100))
 }
 
 // The weight before the walk's first frame.
 fn before_weight(s: SilenceWeighting, current_weight: &[f32]) -> f32
-    requires { ⌜ s .length ≤ length (now «current_weight») ⌝ }
-    ensures { λ r. ⌜ ((ks ss : List Bool) → r ≡ before (s .«silence_weight») (tableIn (s .length) ks ss (now («current_weight» .entry)))) ⌝ }
+    requires { ⌜ s .length .0 ≤ length (now «current_weight») ⌝ }
+    ensures { λ r. ⌜ ((ks ss : List Bool) → r ≡ before (s .«silence_weight») (tableIn (s .length) (tableRooms ks ss (now («current_weight» .entry))))) ⌝ }
 {
     let begin = walk_begin(s);
-    if begin == 0 {
+    if begin.0 == 0 {
         return s.silence_weight;
     }
-    weight_at(current_weight, s.length, begin - 1)
+    weight_at(current_weight, s.length, DecoderFrame(begin.0 - 1))
 }
 
 // The new weight of frame k, p being that of the frame before it.
@@ -337,11 +332,11 @@ fn next_weight(
     known: &[bool],
     is_silence: &[bool],
     blind: bool,
-    k: usize,
+    k: DecoderFrame,
     p: f32,
 ) -> f32
-    requires { ⌜ (s .length ≤ length (now known)) × (s .length ≤ length (now «is_silence»)) ⌝ }
-    ensures { λ r. ⌜ ((ws : List Float) → r ≡ carried (s .«silence_weight») blind (infoAt (tableIn (s .length) (now (known .entry)) (now («is_silence» .entry)) ws) k) p) ⌝ }
+    requires { ⌜ (s .length .0 ≤ length (now known)) × (s .length .0 ≤ length (now «is_silence»)) ⌝ }
+    ensures { λ r. ⌜ ((ws : List Float) → r ≡ carried (s .«silence_weight») blind (infoAt (tableIn (s .length) (tableRooms (now (known .entry)) (now («is_silence» .entry)) ws)) (k .0)) p) ⌝ }
 {
     if blind {
         return p;
@@ -355,18 +350,19 @@ fn next_weight(
     p
 }
 
-// The decoder frames that n input frames reach into.
-fn decoder_frames(subsampling: usize, n: InputFrame) -> DecoderFrame
-    requires { ⌜ (0 < subsampling) × (subsampling ≤ 16) × (n .0 ≤ 1000000000) ⌝ }
-    ensures { λ r. ⌜ r .0 ≡ decoderFrames subsampling (n .0) ⌝ }
+// The decoder frames that the input frames from `first` up to `ready` reach into.
+fn decoder_frames(subsampling: usize, ready: InputFrame, first: InputFrame) -> DecoderFrame
+    requires { ⌜ (0 < subsampling) × (subsampling ≤ 16) × (ready .0 ≤ 1000000000) ⌝ }
+    ensures { λ r. ⌜ r ≡ decoderFrames subsampling ready first ⌝ }
 {
-    DecoderFrame((n.0 + (subsampling - 1)) / subsampling)
+    let n = less(ready.0, first.0);
+    DecoderFrame((n + (subsampling - 1)) / subsampling)
 }
 
 // Input frame j of decoder frame k, decoder frame 0 beginning at `first`.
 fn input_frame(subsampling: usize, first: InputFrame, k: DecoderFrame, j: usize) -> InputFrame
     requires { ⌜ (subsampling ≤ 16) × (first .0 ≤ 1000000000) × (k .0 ≤ 1000000) × (j < subsampling) ⌝ }
-    ensures { λ r. ⌜ r .0 ≡ inputFrame subsampling (first .0) (k .0) j ⌝ }
+    ensures { λ r. ⌜ r ≡ inputFrame subsampling first k j ⌝ }
 {
     InputFrame(first.0 + k.0 * subsampling + j)
 }
@@ -390,21 +386,23 @@ fn count_changes(
     known: &[bool],
     is_silence: &[bool],
     current_weight: &[f32],
-    n: usize,
+    n: DecoderFrame,
 ) -> usize
-    requires { ⌜ (s .length ≤ length (now known)) × (s .length ≤ length (now «is_silence»)) × (s .length ≤ length (now «current_weight»)) × (s .length ≤ n) × (n ≤ 1000000) × (s .subsampling ≤ 16) ⌝ }
-    ensures { λ r. ⌜ ((first : ℕ) → r ≡ length (deltaWeights (s .«silence_weight») (s .subsampling) first n (tableIn (s .length) (now (known .entry)) (now («is_silence» .entry)) (now («current_weight» .entry))))) ⌝ }
+    requires { ⌜ (s .length .0 ≤ length (now known)) × (s .length .0 ≤ length (now «is_silence»)) × (s .length .0 ≤ length (now «current_weight»)) × (s .length .0 ≤ n .0) × (n .0 ≤ 1000000) × (s .subsampling ≤ 16) ⌝ }
+    ensures { λ r. ⌜ ((first : InputFrame) →
+        let z : TableRooms = tableRooms (now (known .entry)) (now («is_silence» .entry)) (now («current_weight» .entry)) in
+        r ≡ length (deltaWeights (s .«silence_weight») (s .subsampling) first n (tableIn (s .length) z))) ⌝ }
 {
     let begin = walk_begin(s);
     let blind = !flag_at(known, s.length, begin);
     let mut weight = before_weight(s, current_weight);
     let mut count = 0;
-    let frames_out = less(n, begin);
+    let frames_out = less(n.0, begin.0);
     for offset in 0..frames_out {
-        let frame = begin + offset;
+        let frame = DecoderFrame(begin.0 + offset);
         let w = next_weight(s, known, is_silence, blind, frame, weight);
         let diff = w - weight_at(current_weight, s.length, frame);
-        count = count + number_of(s.subsampling, diff, frame + 1 == n);
+        count = count + number_of(s.subsampling, diff, frame.0 + 1 == n.0);
         weight = w;
     }
     count
@@ -422,7 +420,8 @@ fn give(
     last: bool,
 ) -> usize
     requires { ⌜ (at + number subsampling diff last ≤ length (now frames)) × (at + number subsampling diff last ≤ length (now weights)) × (subsampling ≤ 16) × (first .0 ≤ 1000000000) × (k .0 ≤ 1000000) ⌝ }
-    ensures { λ r. ⌜ (r ≡ at + number subsampling diff last) × (now (frames .exit) ≡ put at (map (λ x. x .0) (given subsampling (first .0) (k .0) diff last)) (now (frames .entry))) × (now (weights .exit) ≡ put at (map (λ x. x .1) (given subsampling (first .0) (k .0) diff last)) (now (weights .entry))) ⌝ }
+    ensures { λ r. ⌜ (r ≡ at + number subsampling diff last) × (now (frames .exit) ≡ put at (map (λ x. x .0) (given subsampling first k diff last)) (now (frames .entry)))
+        × (now (weights .exit) ≡ put at (map (λ x. x .1) (given subsampling first k diff last)) (now (weights .entry))) ⌝ }
 {
     let n = number_of(subsampling, diff, last);
     for j in 0..n {
@@ -439,16 +438,16 @@ fn give_changes(
     known: &[bool],
     is_silence: &[bool],
     current_weight: &mut [f32],
-    n: usize,
+    n: DecoderFrame,
     first: InputFrame,
     frames: &mut [usize],
     weights: &mut [f32],
 ) -> usize
-    requires { ⌜ (s .length ≤ length (now known)) × (s .length ≤ length (now «is_silence»)) × (n ≤ length (now «current_weight»)) × (s .length ≤ n) × (n ≤ 1000000) × (s .subsampling ≤ 16) × (first .0 ≤ 1000000000)
-        × (length (deltaWeights (s .«silence_weight») (s .subsampling) (first .0) n (tableIn (s .length) (now known) (now «is_silence») (now «current_weight»))) ≤ min (length (now frames)) (length (now weights))) ⌝ }
+    requires { ⌜ (s .length .0 ≤ length (now known)) × (s .length .0 ≤ length (now «is_silence»)) × (n .0 ≤ length (now «current_weight»)) × (s .length .0 ≤ n .0) × (n .0 ≤ 1000000) × (s .subsampling ≤ 16) × (first .0 ≤ 1000000000)
+        × (length (deltaWeights (s .«silence_weight») (s .subsampling) first n (tableIn (s .length) (tableRooms (now known) (now «is_silence») (now «current_weight»)))) ≤ min (length (now frames)) (length (now weights))) ⌝ }
     ensures { λ r. ⌜ (
-        let t : Table = tableIn (s .length) (now (known .entry)) (now («is_silence» .entry)) (now («current_weight» .entry)) in
-        let changes = deltaWeights (s .«silence_weight») (s .subsampling) (first .0) n t in
+        let t : Table = tableIn (s .length) (tableRooms (now (known .entry)) (now («is_silence» .entry)) (now («current_weight» .entry))) in
+        let changes = deltaWeights (s .«silence_weight») (s .subsampling) first n t in
         (r ≡ length changes)
         × (now («current_weight» .exit) ≡ over (map (λ f. f .current-weight) (weighted (s .«silence_weight») n t)) (now («current_weight» .entry)))
         × (now (frames .exit) ≡ over (map (λ x. x .0) changes) (now (frames .entry)))
@@ -458,21 +457,22 @@ fn give_changes(
     let blind = !flag_at(known, s.length, begin);
     let mut weight = before_weight(s, current_weight);
     let mut at = 0;
-    let frames_out = less(n, begin);
+    let frames_out = less(n.0, begin.0);
     for offset in 0..frames_out {
-        let frame = begin + offset;
+        let frame = DecoderFrame(begin.0 + offset);
         let w = next_weight(s, known, is_silence, blind, frame, weight);
         let diff = w - weight_at(current_weight, s.length, frame);
-        current_weight[frame] = w;
+        let place = frame.0;
+        current_weight[place] = w;
         at = give(
             frames,
             weights,
             at,
             s.subsampling,
             first,
-            DecoderFrame(frame),
+            frame,
             diff,
-            frame + 1 == n,
+            frame.0 + 1 == n.0,
         );
         weight = w;
     }
@@ -489,7 +489,7 @@ fn delta_refusal(
     frames: usize,
     weights: usize,
 ) -> usize
-    ensures { λ r. ⌜ r ≡ firstOf ((tableBroken s (length (now (known .entry))) (length (now («is_silence» .entry))) (length (now («current_weight» .entry))), 10) ∷ deltaTests s (ready .0) (first .0) (tableIn (s .length) (now (known .entry)) (now («is_silence» .entry)) (now («current_weight» .entry))) frames weights) ⌝ }
+    ensures { λ r. ⌜ r ≡ getDeltaWeights s (tableRooms (now (known .entry)) (now («is_silence» .entry)) (now («current_weight» .entry))) ready first frames weights .refusal ⌝ }
 {
     if table_broken(s, known.len(), is_silence.len(), current_weight.len()) {
         return 10;
@@ -500,18 +500,18 @@ fn delta_refusal(
     if 1000000000 < first.0 {
         return 23;
     }
-    let new = less(ready.0, first.0);
-    let wanted = decoder_frames(s.subsampling, InputFrame(new));
+    let wanted = decoder_frames(s.subsampling, ready, first);
     if places(s) < wanted.0 {
         return 23;
     }
     if ready.0 <= first.0 {
         return 0;
     }
-    let n = larger(s.length, wanted.0);
+    let n = longer(s.length, wanted);
     let room = smaller(frames, weights);
     // where a change of each input frame would find room, the changes need not be counted
-    let frames_out = less(n, walk_begin(s));
+    let begin = walk_begin(s);
+    let frames_out = less(n.0, begin.0);
     if frames_out * s.subsampling <= room {
         return 0;
     }
@@ -534,19 +534,9 @@ pub fn get_delta_weights(
     weights: &mut [f32],
 ) -> SilenceAnswer
     ensures { λ r. ⌜ (
-        let ks = now (known .entry) in
-        let ss = now («is_silence» .entry) in
-        let ws = now («current_weight» .entry) in
-        let ready = «num_frames_ready» .0 in
-        let first = «first_decoder_frame» .0 in
-        let t : Table = tableIn (s .length) ks ss ws in
-        let n : ℕ = firstOf ((tableBroken s (length ks) (length ss) (length ws), 10) ∷ deltaTests s ready first t (length (now (frames .entry))) (length (now (weights .entry)))) in
-        (r ≡ silenceAnswer n s (length (asked s ready first t)) (length (askedTable s ready first t)))
-        × (now (known .exit) ≡ taken n (over (map (λ f. f .known) (askedTable s ready first t)) ks) ks)
-        × (now («is_silence» .exit) ≡ taken n (over (map (λ f. f .is-silence) (askedTable s ready first t)) ss) ss)
-        × (now («current_weight» .exit) ≡ taken n (over (map (λ f. f .current-weight) (askedTable s ready first t)) ws) ws)
-        × (now (frames .exit) ≡ taken n (over (map (λ x. x .0) (asked s ready first t)) (now (frames .entry))) (now (frames .entry)))
-        × (now (weights .exit) ≡ taken n (over (map (λ x. x .1) (asked s ready first t)) (now (weights .entry))) (now (weights .entry)))) ⌝ }
+        let z : TableRooms = tableRooms (now (known .entry)) (now («is_silence» .entry)) (now («current_weight» .entry)) in
+        tableCall r (tableRooms (now (known .exit)) (now («is_silence» .exit)) (now («current_weight» .exit))) (now (frames .exit)) (now (weights .exit))
+        ≡ tableDone s z (now (frames .entry)) (now (weights .entry)) (getDeltaWeights s z «num_frames_ready» «first_decoder_frame» (length (now (frames .entry))) (length (now (weights .entry))))) ⌝ }
 {
     let refusal = delta_refusal(
         s,
@@ -561,14 +551,12 @@ pub fn get_delta_weights(
     if refusal != 0 {
         return refused(s, refusal);
     }
-    let ready = num_frames_ready.0;
-    let first = first_decoder_frame.0;
-    if ready <= first {
-        return answered(s, 0, s.length);
-    }
-    let wanted = decoder_frames(s.subsampling, InputFrame(ready - first));
     let old = s.length;
-    let n = larger(old, wanted.0);
+    if num_frames_ready.0 <= first_decoder_frame.0 {
+        return answered(s, 0, old);
+    }
+    let wanted = decoder_frames(s.subsampling, num_frames_ready, first_decoder_frame);
+    let n = longer(old, wanted);
     let changes = give_changes(
         s,
         known,
@@ -579,8 +567,8 @@ pub fn get_delta_weights(
         frames,
         weights,
     );
-    let more = less(n, old);
-    fill(known, old, more, false);
-    fill(is_silence, old, more, false);
+    let more = less(n.0, old.0);
+    fill(known, old.0, more, false);
+    fill(is_silence, old.0, more, false);
     answered(s, changes, n)
 }

@@ -2,5 +2,4 @@
 pub mod Parsed
 pub mod Loaded
 pub mod Whole
-pub mod Held
 pub mod Witness

@@ -5,8 +5,8 @@ use native.Mathlib.Omega.{arith}
 use lib.ListN.{length}
 use Rattle.loops.specs.Lists.{over}
 use Rattle.loops.proofs.Loop.{at-end}
-use Rattle.delta_weights.specs.Waiting.{framesOf, weightsOf}
-use Rattle.delta_weights.proofs.WaitingRooms.{frames-waiting, weights-waiting}
+use Rattle.program.specs.Rooms.{framesOf, weightsOf}
+use Rattle.program.proofs.WaitingRooms.{frames-waiting, weights-waiting}
 use Rattle.delta_weights.proofs.Inserted.{Now, call-none, call-rising, call-turn}
 use Rattle.delta_weights.proofs.insert_changes.Statement.{statement}
 use Rattle.delta_weights.proofs.insert_changes.Tie as tie

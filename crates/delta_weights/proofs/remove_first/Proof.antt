@@ -7,7 +7,7 @@ use Rattle.loops.specs.Steps.{fill}
 use Rattle.loops.proofs.Fill.{fills}
 use Rattle.floats.specs.Operators.{at}
 use Rattle.definition.specs.Changes.{Change}
-use Rattle.delta_weights.specs.Waiting.{waitingIn}
+use Rattle.program.specs.Rooms.{waitingIn}
 use Rattle.delta_weights.proofs.Inserted.{removed-turn, removed-end}
 use Rattle.delta_weights.proofs.remove_first.Statement.{statement}
 use Rattle.delta_weights.proofs.remove_first.Tie as tie

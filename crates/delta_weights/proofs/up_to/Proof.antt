@@ -1,7 +1,7 @@
 use borrow.Author.Needs.{needs}
 use Prim.Native.Nat.{_≤_}
 use native.Mathlib.Omega.{arith}
-use Rattle.delta_weights.proofs.InOrder.{Above, above-none, above-turn, found-last, found-none}
+use Rattle.program.proofs.InOrder.{Above, above-none, above-turn, found-last, found-none}
 use Rattle.delta_weights.proofs.up_to.Statement.{statement}
 use Rattle.delta_weights.proofs.up_to.Tie as tie
 

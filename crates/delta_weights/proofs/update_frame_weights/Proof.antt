@@ -1,6 +1,6 @@
 use borrow.Author.Needs.{needs}
 use Rattle.definition.specs.Changes.{changed}
-use Rattle.delta_weights.specs.Waiting.{waitingIn}
+use Rattle.program.specs.Rooms.{waitingIn}
 use Rattle.delta_weights.specs.Steps.{insertedTo}
 use Rattle.delta_weights.proofs.update_frame_weights.Statement.{statement}
 use Rattle.delta_weights.proofs.update_frame_weights.Tie as tie

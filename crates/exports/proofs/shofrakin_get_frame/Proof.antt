@@ -1,7 +1,7 @@
 -- `exports::shofrakin_get_frame` meets its contract: a walk of its MIR, by hand. The record's borrow is opened, the record is copied out and passed
 -- by value to `ivector_fetch::get_frame`, the numbers that can change are stored, and the borrow is closed at the record with those.
 -- Of the plain call only its contract is used; the other parameters are handed on to it for good (`Left.antt`).
-use mathlib.Core.Path.{_≡_, refl, ap, _∙_}
+use mathlib.Core.Path.{_≡_, refl, sym, ap, _∙_}
 use Prim.Native.Nat.{ℕ, zero, suc}
 use mathlib.Core.List.{[], _∷_, List}
 use lib.ListN.{length}
@@ -19,7 +19,7 @@ use ghost.Atoms.{Atoms}
 use contract.Lifetimes.{Lfts, Shares, toks}
 use contract.Monad.{Fun, fact}
 use contract.Running.{givenOf, tables as tablesIn, tablesOf}
-use types.Kit.{Given, ‵, raw, _⊛_, ⋆, some, later, _$_, _∵_, !, qed, by, move, keep, drop, use1, use3, split, join, pick, rewrite, fsplit, fsplit3, fjoin, fjoin3, feqI, suffices, frame as framed, await, done}
+use types.Kit.{mean, Given, ‵, raw, _⊛_, ⋆, some, later, _$_, _∵_, !, qed, by, move, keep, drop, use1, use3, split, join, pick, rewrite, fsplit, fsplit3, fjoin, fjoin3, feqI, suffices, frame as framed, await, done}
 use types.Run.{look, look-raw, init, forget, stop, hop, fld, from, load, addr, of-opd, and-then, no-more, assigns, land, returns, enter, alloc1, alloc0, params1, pass1, pass0, free1, free0}
 use types.Part.{agg, whole, sub, look-in, store-in}
 use types.SemTy.{Body}
@@ -44,10 +44,13 @@ use denote.Triple.Call.{calls-at}
 use denote.Triple.Clauses.{ensured, Lasts, lasts}
 use denote.Triple.Table.{entered, cited}
 use denote.Triple.Walked.{says, Stays, stay-ref, walkOf, AllGo, goes-ref, Walks, ends-at, walked, walk-meets}
-use Rattle.loops.specs.Lists.{over}
 use Rattle.loops.specs.Refusal.{taken}
-use Rattle.ivector_stream.specs.Rooms.{Tables, tableLengthsOf, Rooms, roomLengthsOf, tables, rooms}
-use Rattle.ivector_stream.specs.Calls.{callOf, fetchRefusal, fetchStream, fetchVector, fetchRooms, bitsOf, notFinite}
+use Rattle.loops.proofs.Choose.{by-test}
+use Rattle.definition.specs.Changes.{reached}
+use Rattle.definition.specs.Model.{Tables, tablesFrom}
+use Rattle.program.specs.Rooms.{ringsFrom, estimateFrom, Rooms, roomsFrom}
+use Rattle.program.specs.Calls.{Step, FetchCall, fetchCall, fetchedOn, catchesUp, fetchChanges, fetchStream, getFrame}
+use Rattle.exports.specs.Answers.{answered}
 use Rattle.definition.specs.declared.IvectorStream.{IvectorStream}
 use Rattle.definition.specs.declared.StreamCall.{StreamCall}
 use Rattle.definition.proofs.IvectorStream as T
@@ -149,7 +152,7 @@ module _ {M : Type 1} (𝓤 : URA M) (H : Heap 𝓤) (A : Atoms 𝓤) (W : Given
       slice-vals lda-t & slice-vals lda-offset & slice-vals global-mean-stats & slice-vals frames & slice-vals rows & slice-vals waiting-frames & slice-vals waiting-weights &
       slice-vals cmvn-stats & slice-vals linear & slice-vals quadratic & slice-vals current & slice-vals scratch & slice-vals out & tt
 
-  abbrev Post : Val → SProp 𝓤
+  Post : Val → SProp 𝓤
   Post = walkOf 𝓤 H A this.ended stayed (this.clauses 𝓤 H A at-mem run) .post ((κs, qs, tt, a, vss), tt)
 
   -- the tokens of the other parameters' lifetimes, and what those own
@@ -167,41 +170,58 @@ module _ {M : Type 1} (𝓤 : URA M) (H : Heap 𝓤) (A : Atoms 𝓤) (W : Given
 
   -- what the plain call's contract says
   abbrev t : Tables
-  t = tables (now gconsts) (now means-invvars-t) (now inv-vars-t) (now sigma-inv-m) (now u) (now lda-t) (now lda-offset) (now global-mean-stats)
+  t = tablesFrom (now gconsts) (now means-invvars-t) (now inv-vars-t) (now sigma-inv-m) (now u) (now lda-t) (now lda-offset) (now global-mean-stats)
 
   abbrev z : Rooms
-  z = rooms (now frames) (now rows) (now waiting-frames) (now waiting-weights) (now cmvn-stats) (now linear) (now quadratic) (now current)
+  z = roomsFrom (ringsFrom (now frames) (now rows) (now waiting-frames) (now waiting-weights)) (estimateFrom (now cmvn-stats) (now linear) (now quadratic) (now current))
 
-  abbrev n : ℕ
-  n = fetchRefusal h (tableLengthsOf t) (roomLengthsOf z (length (now scratch))) (now waiting-frames) frame (length (now out))
+  abbrev step : Step
+  step = getFrame h t z (length (now scratch)) frame (length (now out))
 
-  abbrev Said : StreamCall → Last → Type 0
-  Said r after = (r ≡ callOf n (taken n (fetchStream h t z frame) h) (taken n (notFinite (fetchVector h t z frame)) 0))
-      × (after .1 .1 .1 .1 .1 .1 .1 .1 .1 .1 .1 .1 .0 ≡ taken n (fetchRooms h t z frame .waiting-frames) (now waiting-frames))
-      × (after .1 .1 .1 .1 .1 .1 .1 .1 .1 .1 .1 .1 .1 .0 ≡ taken n (fetchRooms h t z frame .waiting-weights) (now waiting-weights))
-      × (after .1 .1 .1 .1 .1 .1 .1 .1 .1 .1 .1 .1 .1 .1 .0 ≡ taken n (fetchRooms h t z frame .cmvn) (now cmvn-stats))
-      × (after .1 .1 .1 .1 .1 .1 .1 .1 .1 .1 .1 .1 .1 .1 .1 .0 ≡ taken n (fetchRooms h t z frame .linear) (now linear))
-      × (after .1 .1 .1 .1 .1 .1 .1 .1 .1 .1 .1 .1 .1 .1 .1 .1 .0 ≡ taken n (fetchRooms h t z frame .quadratic) (now quadratic))
-      × (after .1 .1 .1 .1 .1 .1 .1 .1 .1 .1 .1 .1 .1 .1 .1 .1 .1 .0 ≡ taken n (fetchRooms h t z frame .current) (now current))
-      × ((n ≡ 0 → ⊥) → after .1 .1 .1 .1 .1 .1 .1 .1 .1 .1 .1 .1 .1 .1 .1 .1 .1 .1 .0 ≡ now scratch)
-      × (after .1 .1 .1 .1 .1 .1 .1 .1 .1 .1 .1 .1 .1 .1 .1 .1 .1 .1 .1 .0 ≡ taken n (over (bitsOf (fetchVector h t z frame)) (now out)) (now out))
+  -- the rooms and the output afterwards
+  abbrev z′ : Last → Rooms
+  z′ after =
+      roomsFrom (ringsFrom (now frames) (now rows) (after .1 .1 .1 .1 .1 .1 .1 .1 .1 .1 .1 .1 .0) (after .1 .1 .1 .1 .1 .1 .1 .1 .1 .1 .1 .1 .1 .0))
+      (estimateFrom (after .1 .1 .1 .1 .1 .1 .1 .1 .1 .1 .1 .1 .1 .1 .0) (after .1 .1 .1 .1 .1 .1 .1 .1 .1 .1 .1 .1 .1 .1 .1 .0) (after .1 .1 .1 .1 .1 .1 .1 .1 .1 .1 .1 .1 .1 .1 .1 .1 .0) (after .1 .1 .1 .1 .1 .1 .1 .1 .1 .1 .1 .1 .1 .1 .1 .1 .1 .0))
+
+  abbrev out′ : Last → List ℕ
+  out′ after = after .1 .1 .1 .1 .1 .1 .1 .1 .1 .1 .1 .1 .1 .1 .1 .1 .1 .1 .1 .0
+
+  Said : StreamCall → Last → Type 0
+  Said r after = (fetchCall r (z′ after) (out′ after) ≡ fetchedOn h z (now out) step)
+      × ((step .refusal ≡ 0 → ⊥) → after .1 .1 .1 .1 .1 .1 .1 .1 .1 .1 .1 .1 .1 .1 .1 .1 .1 .1 .0 ≡ now scratch)
+
+  -- it is heard once, and named from there on
+  hears : (r : StreamCall)
+      → ent 𝓤 (ensured 𝓤 H A plain-call.ended (plain-call.clauses 𝓤 H A at-mem run) (κs .1) args tt r)
+      (mean 𝓤 H A (some (λ (after : Last). ‵ (lasts plain-call.ended (κs .1) args after) ⊛ raw (fact 𝓤 (Said r after)))))
+  unfolding Said
+  hears r = id⊢ 𝓤 _
 
   -- the record at exit, where the plain call returns s
   abbrev left-by : IvectorStream → IvectorStream
-  left-by s = record { info = h .info; rooms = h .rooms; accepted = h .accepted; «num_frames_stats» = s .«num_frames_stats»; mark = h .mark; waiting = s .waiting; «past_highest» = s .«past_highest»; «delta_weights_provided» = s .«delta_weights_provided»; «input_finished» = h .«input_finished»; «num_frames» = s .«num_frames» }
+  left-by s = record { info = h .info; rooms = h .rooms; accepted = h .accepted; «num_frames_stats» = s .«num_frames_stats»; mark = h .mark; waiting = s .waiting; «past_highest» = h .«past_highest»; «delta_weights_provided» = h .«delta_weights_provided»; «input_finished» = h .«input_finished»; «num_frames» = s .«num_frames» }
 
-  -- nothing else of the record differs
-  only-that : (m : ℕ) → left-by (taken m (fetchStream h t z frame) h) ≡ taken m (fetchStream h t z frame) h
-  unfolding fetchStream
-  only-that zero = refl
+  -- nothing else of the record differs: a fetch keeps the highest changed frame, and whether a change call was taken
+  same-changes : (fetchChanges h (z .rings) frame .past-highest ≡ h .«past_highest») × (fetchChanges h (z .rings) frame .called ≡ h .«delta_weights_provided»)
+  unfolding fetchChanges reached
+  same-changes = by-test (catchesUp h frame) (λ e. rw e (refl, refl)) (λ e. rw e (refl, refl))
+
+  only-that : (m : ℕ) → left-by (taken m (step .stream) h) ≡ taken m (step .stream) h
+  unfolding getFrame fetchStream
+  only-that zero = rw (same-changes .0, same-changes .1)
   only-that (suc m) = refl
+
+  same : (r : StreamCall) (after : Last) → Said r after → left-by (r .stream) ≡ r .stream
+  unfolding Said
+  same r after e = let q : r .stream ≡ taken (step .refusal) (step .stream) h = ap (λ (c : FetchCall). c .call .stream) (e .0) in ap left-by q ∙ only-that (step .refusal) ∙ sym q
 
   left-is : (r : StreamCall) (vs us : List Val) → Is T.the-row h us → Is D.the-row r vs → Is T.the-row (left-by (r .stream)) (stream (left-by (r .stream)) ∷ [])
   left-is r vs us was is =
       let old = LL.owed T.the-type T′.the-laws h us was in
       let new = LL.owed T.the-type T′.the-laws (r .stream) _ (stream-is r vs is) in
       LL.owes T.the-type T′.the-laws (left-by (r .stream))
-      (old .0, (old .1 .0, (old .1 .1 .0, (new .1 .1 .1 .0, (old .1 .1 .1 .1 .0, (new .1 .1 .1 .1 .1 .0, (new .1 .1 .1 .1 .1 .1 .0, (new .1 .1 .1 .1 .1 .1 .1 .0, (old .1 .1 .1 .1 .1 .1 .1 .1 .0, (new .1 .1 .1 .1 .1 .1 .1 .1 .1 .0, tt))))))))))
+      (old .0, (old .1 .0, (old .1 .1 .0, (new .1 .1 .1 .0, (old .1 .1 .1 .1 .0, (new .1 .1 .1 .1 .1 .0, (old .1 .1 .1 .1 .1 .1 .0, (old .1 .1 .1 .1 .1 .1 .1 .0, (old .1 .1 .1 .1 .1 .1 .1 .1 .0, (new .1 .1 .1 .1 .1 .1 .1 .1 .1 .0, tt))))))))))
 
   abbrev to-plain : Plain 𝓤 H A at-mem run .Ghost
   to-plain = ((κs .1, qs .1, tt, args, (stream h ∷ [], vss .1)), tt)
@@ -222,10 +242,11 @@ module _ {M : Type 1} (𝓤 : URA M) (H : Heap 𝓤) (A : Atoms 𝓤) (W : Given
 
   exits : (r : StreamCall) (after : Last) → Said r after → Is N.the-row (r .answer) (answer (r .answer) ∷ [])
       → ent 𝓤 (⋆ 𝓤 H A (‵ (At r) ∷ ‵ Bor ∷ ‵ (flft (κs .0) (qs .0)) ∷ raw Toks ∷ ‵ (Left after) ∷ [])) (Post (answer (r .answer)))
+  unfolding Said Post
   exits r after e is =
       qed W (‵ (At r) ∷ ‵ Bor ∷ ‵ (flft (κs .0) (qs .0)) ∷ raw Toks ∷ ‵ (Left after) ∷ []) ∵
       suffices ! _ (ends-at 𝓤 H A this.ended stayed (this.clauses 𝓤 H A at-mem run) W ((κs, qs, tt, a, vss), tt) (answer (r .answer)) (r .answer) ((left-by (r .stream)), after .1) (tt, fit-left κs (others (this.signature .params)) (this.ended .kept .1) (a .1) (after .1))) $
-      says ! ((ap (λ (c : StreamCall). c .answer) (e .0), ap (λ (c : StreamCall). left-by (c .stream)) (e .0) ∙ only-that n), e .1, e .2, e .3, e .4, e .5, e .6, e .7, e .8) $
+      says ! (ap (λ (s : IvectorStream). fetchCall (answered (r .answer) s) (z′ after) (out′ after)) (same r after e) ∙ e .0, e .1) $
       move ! (2 ∷ 3 ∷ []) $ join ! $ framed ! $ feqI ! (List Val) (vptr b o ∷ []) (vptr b o ∷ []) refl $ fjoin3 ! $ fjoin ! $ framed ! $ owned ! N.the-row (Is N.the-row) ((LL.makes N.the-type N′.the-plain) 𝓤 H A) (r .answer) _ is $ done !
 
   module _ (C : Calls 𝓤 H) (Λ : Loops 𝓤 H) (fm : FmC 𝓤 H (W .laws) C) (met : Triple 𝓤 (C #plain-call) (Plain 𝓤 H A at-mem run)) where
@@ -298,7 +319,7 @@ module _ {M : Type 1} (𝓤 : URA M) (H : Heap 𝓤) (A : Atoms 𝓤) (W : Given
         (and-then ! (load ! (from ! (stop !)) (look ! 33 refl)) (and-then ! (load ! (from ! (stop !)) (look ! 29 refl)) (and-then ! (load ! (from ! (stop !)) (look ! 25 refl)) (and-then ! (load ! (from ! (stop !)) (look ! 21 refl)) (and-then ! (load ! (from ! (stop !)) (look ! 17 refl)) (and-then ! (load ! (from ! (stop !)) (look ! 13 refl))
         (and-then ! (load ! (from ! (stop !)) (look ! 9 refl)) (and-then ! (load ! (from ! (stop !)) (look ! 5 refl)) (no-more !))))))))))))))))))))) (λ v.
         use1 W (later (some (λ (r : StreamCall). (raw Toks ⊛ ‵ (D.the-row .own r (v ∷ []))) ⊛ raw (ensured 𝓤 H A plain-call.ended (plain-call.clauses 𝓤 H A at-mem run) (κs .1) args tt r)))) (id⊢ 𝓤 _) $ await ! tt $ pick ! (λ r.
-        split ! $ move ! (1 ∷ []) $ use1 W (some (λ (after : Last). ‵ (lasts plain-call.ended (κs .1) args after) ⊛ raw (fact 𝓤 (Said r after)))) (id⊢ 𝓤 _) $ pick ! (λ after.
+        split ! $ move ! (1 ∷ []) $ use1 W (some (λ (after : Last). ‵ (lasts plain-call.ended (κs .1) args after) ⊛ raw (fact 𝓤 (Said r after)))) (hears r) $ pick ! (λ after.
         split ! $ move ! (1 ∷ []) $ heard ! (Said r after) (λ e. fsplit ! $ drop ! $ move ! (1 ∷ []) $ split ! $ move ! (1 ∷ []) $
         peeks ! D.the-row (Is D.the-row) (shows 𝓤 H A D.the-row) r (v ∷ []) (λ is.
         -- [what the call returned owns; the tokens; what is said of the rest; the record's cell; the open borrow; obs; auth; _38; …; _1; …; room for _0; …]
@@ -309,10 +330,6 @@ module _ {M : Type 1} (𝓤 : URA M) (H : Heap 𝓤) (A : Atoms 𝓤) (W : Given
         (store-in ! 3 (sub ! 3 refl (whole !)) (uint-lawful 𝓤 H A W w64 .typed (r .stream .«num_frames_stats») _ (LL.owed T.the-type T′.the-laws (r .stream) _ (stream-is r _ is) .1 .1 .1 .0) .0)) $
         assigns ! (of-opd ! (load ! (from ! (fld ! refl (fld ! refl (stop !)))) (look-in ! 41 (sub ! 5 refl (sub ! 1 refl (whole !)))))) (from ! (hop ! (look ! 81 refl) (fld ! refl (stop !))))
         (store-in ! 3 (sub ! 5 refl (whole !)) (uint-lawful 𝓤 H A W w64 .typed (r .stream .waiting) _ (LL.owed T.the-type T′.the-laws (r .stream) _ (stream-is r _ is) .1 .1 .1 .1 .1 .0) .0)) $
-        assigns ! (of-opd ! (load ! (from ! (fld ! refl (fld ! refl (stop !)))) (look-in ! 41 (sub ! 6 refl (sub ! 1 refl (whole !)))))) (from ! (hop ! (look ! 81 refl) (fld ! refl (stop !))))
-        (store-in ! 3 (sub ! 6 refl (whole !)) (uint-lawful 𝓤 H A W w64 .typed (r .stream .«past_highest») _ (LL.owed T.the-type T′.the-laws (r .stream) _ (stream-is r _ is) .1 .1 .1 .1 .1 .1 .0) .0)) $
-        assigns ! (of-opd ! (load ! (from ! (fld ! refl (fld ! refl (stop !)))) (look-in ! 41 (sub ! 7 refl (sub ! 1 refl (whole !)))))) (from ! (hop ! (look ! 81 refl) (fld ! refl (stop !))))
-        (store-in ! 3 (sub ! 7 refl (whole !)) (bool-lawful 𝓤 H A W .typed (r .stream .«delta_weights_provided») _ (LL.owed T.the-type T′.the-laws (r .stream) _ (stream-is r _ is) .1 .1 .1 .1 .1 .1 .1 .0) .0)) $
         assigns ! (of-opd ! (load ! (from ! (fld ! refl (fld ! refl (stop !)))) (look-in ! 41 (sub ! 9 refl (sub ! 1 refl (whole !)))))) (from ! (hop ! (look ! 81 refl) (fld ! refl (stop !))))
         (store-in ! 3 (sub ! 9 refl (whole !)) (float-lawful 𝓤 H A W binary64 .typed (r .stream .«num_frames») _ (LL.owed T.the-type T′.the-laws (r .stream) _ (stream-is r _ is) .1 .1 .1 .1 .1 .1 .1 .1 .1 .0) .0)) $
         assigns ! (of-opd ! (load ! (from ! (fld ! refl (stop !))) (look-in ! 41 (sub ! 0 refl (whole !))))) (from ! (stop !)) (init ! 83 refl (LL.lawful N.the-type N′.the-laws 𝓤 H A W .typed (r .answer) _ (answer-is r _ is) .0)) $
@@ -332,6 +349,7 @@ module _ {M : Type 1} (𝓤 : URA M) (H : Heap 𝓤) (A : Atoms 𝓤) (W : Given
 
 module _ {M : Type 1} (𝓤 : URA M) (H : Heap 𝓤) (A : Atoms 𝓤) (W : Given 𝓤 H A) (at-mem : Memory → SProp 𝓤) (run : Routine → Fun 𝓤) where
   walks : (C : Calls 𝓤 H) (Λ : Loops 𝓤 H) → FmC 𝓤 H (W .laws) C → Triple 𝓤 (C #plain-call) (Plain 𝓤 H A at-mem run) → Walks 𝓤 H A this.ended stayed (WpFn 𝓤 H C Λ code.function) (this.clauses 𝓤 H A at-mem run)
+  unfolding Post
   walks C Λ fm met =
       walked 𝓤 H A this.ended stayed (this.clauses 𝓤 H A at-mem run) (WpFn 𝓤 H C Λ code.function)
       (λ κs. (ptr-vals, (uint-vals w64, (slice-vals, (slice-vals, (slice-vals, (slice-vals, (slice-vals, (slice-vals, (slice-vals, (slice-vals, (slice-vals, (slice-vals, (slice-vals, (slice-vals, (slice-vals, (slice-vals, (slice-vals, (slice-vals, (slice-vals, (slice-vals, tt)))))))))))))))))))))

@@ -1,3 +1,4 @@
+-- The plain load, and its answer as a record: every equation is that of `load`.
 use borrow.Author.Needs.{needs}
 use mathlib.Core.Path.{ap, _∙_}
 use Rattle.exports.specs.Answers.{loadAnswer}
@@ -38,7 +39,9 @@ same-length-9 : tie.Need-same-length-9
 same-length-9 c = (c .before .before .before .before .before .before .before .before .before .before .before .before .before .before .before .before .before .before .before .load) .kept .1 .1 .1 .1 .1 .1 .1 .1 .1 .1 .1 .1 .1 .0
 
 returns : tie.Need-returns
-returns c = ((c .load-answer) .ensures ∙ ap loadAnswer ((c .before .before .before .before .before .before .before .before .before .before .before .before .before .before .before .before .before .before .before .load) .ensures .0), (c .before .before .before .before .before .before .before .before .before .before .before .before .before .before .before .before .before .before .before .load) .ensures .1, (c .before .before .before .before .before .before .before .before .before .before .before .before .before .before .before .before .before .before .before .load) .ensures .2, (c .before .before .before .before .before .before .before .before .before .before .before .before .before .before .before .before .before .before .before .load) .ensures .3, (c .before .before .before .before .before .before .before .before .before .before .before .before .before .before .before .before .before .before .before .load) .ensures .4, (c .before .before .before .before .before .before .before .before .before .before .before .before .before .before .before .before .before .before .before .load) .ensures .5, (c .before .before .before .before .before .before .before .before .before .before .before .before .before .before .before .before .before .before .before .load) .ensures .6, (c .before .before .before .before .before .before .before .before .before .before .before .before .before .before .before .before .before .before .before .load) .ensures .7, (c .before .before .before .before .before .before .before .before .before .before .before .before .before .before .before .before .before .before .before .load) .ensures .8, (c .before .before .before .before .before .before .before .before .before .before .before .before .before .before .before .before .before .before .before .load) .ensures .9)
+returns c =
+    let at-load = c .before .before .before .before .before .before .before .before .before .before .before .before .before .before .before .before .before .before .before in
+    (c .load-answer .ensures ∙ ap (loadAnswer (at-load .before .before .before .before .before .before .before .before .before .before .before .before .before .before .before .before .before .before .before .before .before .before .before .args .opts)) (at-load .load .ensures .0), at-load .load .ensures .1, at-load .load .ensures .2)
 
 pub shofrakin-load-spec : {M : Type 1} → statement M
 shofrakin-load-spec =

@@ -1,3 +1,4 @@
+-- The plain call, and its answer as a record: every equation is that of `new`.
 use borrow.Author.Needs.{needs}
 use mathlib.Core.Path.{ap, _∙_}
 use Rattle.exports.specs.Answers.{newStreamAnswer}
@@ -26,7 +27,9 @@ same-length-5 : tie.Need-same-length-5
 same-length-5 c = (c .before .before .before .before .before .before .before .before .before .before .before .new) .kept .1 .1 .1 .1 .1 .1 .1 .1 .1 .1 .1 .1 .1 .1 .1 .1 .0
 
 returns : tie.Need-returns
-returns c = ((c .stream-answer) .ensures ∙ ap (newStreamAnswer ((c .before .before .before .before .before .before .before .before .before .before .before .before .before .before .before .before .before .before .before .before .before .before .before .before .before .before .before .before .before .before .before .before .before .before .args) .info)) ((c .before .before .before .before .before .before .before .before .before .before .before .new) .ensures .0), (c .before .before .before .before .before .before .before .before .before .before .before .new) .ensures .1, (c .before .before .before .before .before .before .before .before .before .before .before .new) .ensures .2, (c .before .before .before .before .before .before .before .before .before .before .before .new) .ensures .3, (c .before .before .before .before .before .before .before .before .before .before .before .new) .ensures .4, (c .before .before .before .before .before .before .before .before .before .before .before .new) .ensures .5)
+returns c =
+    let at-new = c .before .before .before .before .before .before .before .before .before .before .before in
+    (c .stream-answer .ensures ∙ ap (newStreamAnswer (c .before .before .before .before .before .before .before .before .before .before .before .before .before .before .before .before .before .before .before .before .before .before .before .before .before .before .before .before .before .before .before .before .before .before .args .info)) (at-new .new .ensures .0), at-new .new .ensures .1)
 
 pub shofrakin-new-stream-spec : {M : Type 1} → statement M
 shofrakin-new-stream-spec =

@@ -1,3 +1,4 @@
+-- What a fresh stream answers, case by case (Answered.antt).
 use borrow.Author.Needs.{needs}
 use Rattle.exports.proofs.Answered.{stream-made, stream-refused}
 use Rattle.exports.proofs.stream_answer.Statement.{statement}

@@ -4,7 +4,7 @@ use native.Mathlib.Omega.{arith}
 use lib.ListN.{length}
 use Rattle.floats.specs.Operators.{at}
 use Rattle.loops.specs.Lists.{build}
-use Rattle.loops.specs.Steps.{put}
+use Rattle.loops.specs.Ring.{put}
 use Rattle.loops.proofs.Fill.{puts, put-turn}
 use Rattle.frame_views.proofs.put_row.Statement.{statement}
 use Rattle.frame_views.proofs.put_row.Tie as tie

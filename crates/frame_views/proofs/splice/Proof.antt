@@ -5,7 +5,7 @@ use native.Mathlib.Omega.{arith}
 use lib.ListN.{length}
 use Rattle.loops.specs.Lists.{over}
 use Rattle.loops.proofs.Cells.{row-in}
-use Rattle.frame_views.specs.Ring.{ringFrames}
+use Rattle.program.specs.Rooms.{ringFrames}
 use Rattle.frame_views.specs.Steps.{splicedTo}
 use Rattle.frame_views.proofs.SplicedRows.{spliced-none, room-none, spliced-turn, room-turn, spliced-end, room-end}
 use Rattle.frame_views.proofs.splice.Statement.{statement}

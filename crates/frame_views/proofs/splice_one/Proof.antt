@@ -2,7 +2,7 @@ use borrow.Author.Needs.{needs}
 use mathlib.Core.Path.{ap, _∙_}
 use mathlib.Core.List.{List}
 use lib.Ieee.{Float}
-use Rattle.loops.specs.Steps.{put}
+use Rattle.loops.specs.Ring.{put}
 use Rattle.frame_views.proofs.SplicedRows.{viewed-on}
 use Rattle.frame_views.proofs.splice_one.Statement.{statement}
 use Rattle.frame_views.proofs.splice_one.Tie as tie

@@ -1,13 +1,35 @@
+-- A frame that is in the statistics already leaves everything as it was; another is brought in by `catch_up`.
 use Prim.Native.Nat.{_-_}
 use lib.ListN.{length}
-use Rattle.ivector_stream.specs.Rooms.{Tables, tableLengthsOf, Rooms, roomLengthsOf, tables, rooms}
+use Rattle.definition.specs.declared.RoomLengths.{RoomLengths}
+use Rattle.definition.specs.Model.{Tables, tablesFrom, tableLengthsOf}
+use Rattle.program.specs.Rooms.{ringsFrom, estimateFrom, Rooms, roomsFrom, roomLengthsOf}
 use Rattle.ivector_fetch.proofs.Refusals.{FetchTaken, fetch-taken}
-use Rattle.ivector_fetch.proofs.Fetched.{stream-same, frames-same, weights-same, cmvn-same, linear-same, quadratic-same, current-same}
+use Rattle.ivector_fetch.proofs.Fetched.{stream-same, rooms-same}
 use Rattle.ivector_fetch.proofs.bring_up.Statement.{statement}
 use Rattle.ivector_fetch.proofs.bring_up.Tie as tie
 
+-- what is lent, at the start
+abbrev lent : tie.Start → Tables
+lent b =
+    let a = b .args in
+    tablesFrom (a .gconsts .now) (a .means-invvars-t .now) (a .inv-vars-t .now) (a .sigma-inv-m .now) (a .u .now) (a .lda-t .now) (a .lda-offset .now) (a .global-mean-stats .now)
+
+abbrev held : tie.Start → Rooms
+held b =
+    let a = b .args in
+    roomsFrom (ringsFrom (a .frames .now) (a .rows .now) (a .waiting-frames .now) (a .waiting-weights .now)) (estimateFrom (a .cmvn-stats .now) (a .linear .now) (a .quadratic .now) (a .current .now))
+
+abbrev lengths : tie.Start → RoomLengths
+lengths b = roomLengthsOf (held b) (length (b .args .scratch .now))
+
 returns : tie.Need-returns
-returns c = let a = (c .before .before .before .before .before .before .before .before .before .before .before .before .before .before .before .before .before .before .before .args) in let t : Tables = (tables (a .gconsts .now) (a .means-invvars-t .now) (a .inv-vars-t .now) (a .sigma-inv-m .now) (a .u .now) (a .lda-t .now) (a .lda-offset .now) (a .global-mean-stats .now)) in let z : Rooms = (rooms (a .frames .now) (a .rows .now) (a .waiting-frames .now) (a .waiting-weights .now) (a .cmvn-stats .now) (a .linear .now) (a .quadratic .now) (a .current .now)) in let T : FetchTaken (a .s) (tableLengthsOf t) (roomLengthsOf z (length (a .scratch .now))) (a .waiting-frames .now) (a .frame) (a .s .info .dims .«ivector_dim») = fetch-taken (a .s) (tableLengthsOf t) (roomLengthsOf z (length (a .scratch .now))) (a .waiting-frames .now) (a .frame) (a .s .info .dims .«ivector_dim») ((c .before .before .before .before .before .before .before .before .before .before .before .before .before .before .before .before .before .before .before .pre)) in (stream-same (a .s) t z (a .frame) T ((c .if1) .taken), frames-same (a .s) t z (a .frame) T ((c .if1) .taken), weights-same (a .s) t z (a .frame) T ((c .if1) .taken), cmvn-same (a .s) t z (a .frame) T ((c .if1) .taken), linear-same (a .s) t z (a .frame) T ((c .if1) .taken), quadratic-same (a .s) t z (a .frame) T ((c .if1) .taken), current-same (a .s) t z (a .frame) T ((c .if1) .taken))
+returns c =
+    let start = c .before .before .before .before .before .before .before .before .before .before .before .before .before .before .before .before .before .before .before in
+    let s = start .args .s in
+    let f = start .args .frame in
+    let T : FetchTaken s (tableLengthsOf (lent start)) (held start) (length (start .args .scratch .now)) f (s .info .dims .«ivector_dim») = fetch-taken _ _ _ _ _ _ (start .pre) in
+    (stream-same s (lent start) (held start) f T (c .if1 .taken), rooms-same s (lent start) (held start) f T (c .if1 .taken))
 
 catch-up-requires : tie.Need-catch-up-requires
 catch-up-requires c κs = ((c .before .before .before .before .before .before .before .before .before .before .before .before .before .before .before .before .before .before .before .before .before .before .before .before .before .before .pre), (c .before .before .before .before .before .before .before .if1) .left)

@@ -9,7 +9,7 @@ use Rattle.loops.specs.Lists.{build}
 use Rattle.loops.specs.Steps.{fill}
 use Rattle.loops.proofs.Fill.{fill-none, fill-turn}
 use Rattle.floats.specs.Operators.{at}
-use Rattle.ivector_stream.specs.Calls.{notFinite}
+use Rattle.definition.specs.Machine.{notFinite}
 use Rattle.ivector_fetch.specs.Steps.{fetchedAt}
 use Rattle.ivector_fetch.proofs.Vector.{bad-none, bad-turn, bad-end, bits-end}
 use Rattle.ivector_fetch.proofs.write_vector.Statement.{statement}

@@ -1,3 +1,4 @@
+-- `fill_gmm` meets its contract: three fills, each by what it ensures.
 use borrow.Author.Needs.{needs}
 use native.Mathlib.Omega.{arith}
 use Rattle.ivector_info.proofs.fill_gmm.Statement.{statement}
@@ -5,18 +6,20 @@ use Rattle.ivector_info.proofs.fill_gmm.Tie as tie
 
 fill-gconsts-requires : tie.Need-fill-gconsts-requires
 fill-gconsts-requires c κs =
-    let pre = c .before .before .before .before .before .pre in
-    ((pre .gmm-in), (pre .gconsts-fit))
+    let start = c .before .before .before .before .before in
+    (start .pre .gmm-in, start .pre .gconsts-fit)
 
 fill-transposed-requires : tie.Need-fill-transposed-requires
 fill-transposed-requires c κs =
-    let pre = c .before .before .before .before .before .before .before .before .before .pre in
-    ((pre .gmm-in) .means-ready, ((pre .gmm-in) .gauss-high, omega (arith, (pre .gmm-in) .dim-high), omega arith, (pre .means-fit)))
+    let start = c .before .before .before .before .before .before .before .before .before in
+    let g = start .pre .gmm-in in
+    (g .means-ready, (g .gauss-high, omega (arith, g .dim-high), omega arith, start .pre .means-fit))
 
 fill-transposed-requires-2 : tie.Need-fill-transposed-requires-2
 fill-transposed-requires-2 c κs =
-    let pre = c .before .before .before .before .before .before .before .before .before .before .before .before .before .pre in
-    ((pre .gmm-in) .vars-ready, ((pre .gmm-in) .gauss-high, omega (arith, (pre .gmm-in) .dim-high), omega arith, (pre .vars-fit)))
+    let start = c .before .before .before .before .before .before .before .before .before .before .before .before .before in
+    let g = start .pre .gmm-in in
+    (g .vars-ready, (g .gauss-high, omega (arith, g .dim-high), omega arith, start .pre .vars-fit))
 
 same-length : tie.Need-same-length
 same-length c = search needs
@@ -29,9 +32,10 @@ same-length-3 c = search needs
 
 returns : tie.Need-returns
 returns c =
-    let fill-gconsts = c .before .before .before .before .before .before .before .before .before .before .fill-gconsts in
-    let fill-transposed = c .before .before .before .before .before .before .fill-transposed in
-    ((fill-gconsts .ensures), ((fill-transposed .ensures), ((c .before .before .fill-transposed2) .ensures)))
+    let at-fill-transposed2 = c .before .before in
+    let at-fill-transposed = at-fill-transposed2 .before .before .before .before in
+    let at-fill-gconsts = at-fill-transposed .before .before .before .before in
+    (at-fill-gconsts .fill-gconsts .ensures, at-fill-transposed .fill-transposed .ensures, at-fill-transposed2 .fill-transposed2 .ensures)
 
 pub fill-gmm-spec : {M : Type 1} → statement M
 fill-gmm-spec =

@@ -1,24 +1,69 @@
+-- `judge` meets its contract: the options, the files, then the tests across files and of the rooms, left at the first that fails. `read`
+-- is what is known once the files are read.
 use borrow.Author.Needs.{needs}
-use mathlib.Core.Path.{sym, _∙_, subst}
-use Prim.Native.Nat.{_≤_}
+use mathlib.Core.Path.{_≡_, sym, _∙_, subst}
+use mathlib.Core.Bool.{true}
+use Prim.Native.Nat.{_≤_, _<_}
 use native.Mathlib.Omega.{arith}
 use borrow.Author.Tests.{not-true, not-false}
+use Rattle.definition.specs.Options.{optionsInRange, dimsAgree}
+use Rattle.definition.specs.Model.{Files, tablesFit, loadScratch}
 use Rattle.kaldi_io.proofs.Chain.{told}
 use Rattle.ivector_info.specs.Load.{filesOf}
 use Rattle.ivector_info.specs.Steps.{checkedOf, checkedIn}
 use Rattle.ivector_info.proofs.Files.{dims-in}
-use Rattle.ivector_info.proofs.Judging.{options-out, files-out, dims-apart, rows-apart, dim-apart, tables-short, scratch-short, all-taken, judged-in}
-use Rattle.definition.specs.Model.{loadScratch}
+use Rattle.ivector_info.proofs.Judging.{FilesRead, options-out, files-out, dims-apart, rows-apart, dim-apart, tables-short, scratch-short, all-taken, judged-in}
 use Rattle.ivector_info.proofs.judge.Statement.{statement}
 use Rattle.ivector_info.proofs.judge.Tie as tie
+
+abbrev files : (c : tie.Start) → Files
+files c = filesOf (c .args .gmm .now) (c .args .extractor .now) (c .args .lda .now) (c .args .cmvn .now)
+
+in-range : (c : tie.Else1) →
+    let start = c .before .before .before .before .before .before in
+    optionsInRange (start .args .opts) ≡ true
+in-range c =
+    let at-options-in-range = c .before in
+    sym (at-options-in-range .options-in-range .ensures) ∙ not-false _ (c .if1 .left)
+
+read : (c : tie.After-dims) →
+    let start = c .before .before .before .before .before .before .before .before .before in
+    let (d, (dim, (rows, (prior, (at, _))))) = c .dims .given .0 in
+    FilesRead (start .args .opts) (files start) d dim rows prior at
+read c =
+    let at-check-files = c .before .before in
+    let at-if1 = at-check-files .before in
+    let start = at-if1 .before .before .before .before .before .before in
+    record {
+      options-in = in-range at-if1;
+      inside = subst (checkedIn (files start)) (c .dims .given .1) (at-check-files .check-files .ensures .1);
+      there = sym (told (checkedOf (files start)) (at-check-files .check-files .ensures .0) (c .dims .given .1));
+    }
+
+agree : (c : tie.Else2) →
+    let at-dims = c .before .before .before in
+    let start = at-dims .before .before .before .before .before .before .before .before .before in
+    dimsAgree (start .args .opts) (at-dims .dims .given .0 .0) ≡ true
+agree c =
+    let at-dims-agree = c .before in
+    sym (at-dims-agree .dims-agree .ensures) ∙ not-false _ (c .if2 .left)
+
+fit : (c : tie.Else5) →
+    let at-dims = c .before .before .before .before .before .before .before .before .before in
+    let start = at-dims .before .before .before .before .before .before .before .before .before in
+    tablesFit (start .args .opts) (at-dims .dims .given .0 .0) (start .args .z) ≡ true
+fit c =
+    let at-tables-fit = c .before in
+    sym (at-tables-fit .tables-fit .ensures) ∙ not-false _ (c .if5 .left)
 
 options-in-range-requires : tie.Need-options-in-range-requires
 options-in-range-requires c κs = search needs
 
 returns : tie.Need-returns
 returns c =
-    let args = c .before .before .before .before .before .before .args in
-    (options-out (args .opts) (args .z) (args .scratch) (filesOf (args .gmm .now) (args .extractor .now) (args .lda .now) (args .cmvn .now)) (sym ((c .before .options-in-range) .ensures) ∙ not-true _ ((c .if1) .taken)), tt)
+    let at-options-in-range = c .before in
+    let start = at-options-in-range .before .before .before .before .before in
+    (options-out (start .args .opts) (start .args .z) (start .args .scratch) (files start) (sym (at-options-in-range .options-in-range .ensures) ∙ not-true _ (c .if1 .taken)), tt)
 
 check-files-requires : tie.Need-check-files-requires
 check-files-requires c κs = search needs
@@ -31,149 +76,87 @@ enum-known-dims c = search needs
 
 dims-agree-requires : tie.Need-dims-agree-requires
 dims-agree-requires c κs =
-    let options-in-range = c .before .before .before .before .before .options-in-range in
-    let if1 = c .before .before .before .before .if1 in
-    let args = c .before .before .before .before .before .before .before .before .before .before .args in
-    let dims = c .before .dims in
-    let check-files = c .before .before .before .check-files in (
-      (sym (options-in-range .ensures) ∙ not-false _ (if1 .left)),
-      dims-in (filesOf (args .gmm .now) (args .extractor .now) (args .lda .now) (args .cmvn .now)) (dims .given .0 .0) (dims .given .0 .1 .0) (dims .given .0 .1 .1 .0) (dims .given .0 .1 .1 .1 .0) (dims .given .0 .1 .1 .1 .1 .0) (subst (checkedIn (filesOf (args .gmm .now) (args .extractor .now) (args .lda .now) (args .cmvn .now))) (dims .given .1) (check-files .ensures .1)),
-    )
+    let at-dims = c .before in
+    let at-if1 = at-dims .before .before .before in
+    (in-range at-if1, dims-in (read at-dims .inside))
 
 returns-2 : tie.Need-returns-2
 returns-2 c =
-    let args = c .before .before .before .before .before .before .before .before .before .before .before .before .args in
-    let options-in-range = c .before .before .before .before .before .before .before .options-in-range in
-    let if1 = c .before .before .before .before .before .before .if1 in
-    let dims = c .before .before .before .dims in
-    let check-files = c .before .before .before .before .before .check-files in
-    let f = (filesOf (args .gmm .now) (args .extractor .now) (args .lda .now) (args .cmvn .now)) in
-    let options = sym (options-in-range .ensures) ∙ not-false _ (if1 .left) in
-    let inside = subst (checkedIn f) (dims .given .1) (check-files .ensures .1) in
-    let there = sym (told (checkedOf f) (check-files .ensures .0) (dims .given .1)) in
-    (dims-apart (args .opts) (args .z) (args .scratch) f options (dims .given .0 .0) (dims .given .0 .1 .0) (dims .given .0 .1 .1 .0) (dims .given .0 .1 .1 .1 .0) (dims .given .0 .1 .1 .1 .1 .0) inside there (sym ((c .before .dims-agree) .ensures) ∙ not-true _ ((c .if2) .taken)), tt)
+    let at-dims-agree = c .before in
+    let at-dims = at-dims-agree .before .before in
+    let start = at-dims .before .before .before .before .before .before .before .before .before in
+    (dims-apart (start .args .z) (start .args .scratch) (read at-dims) (sym (at-dims-agree .dims-agree .ensures) ∙ not-true _ (c .if2 .taken)), tt)
 
 returns-3 : tie.Need-returns-3
 returns-3 c =
-    let args = c .before .before .before .before .before .before .before .before .before .before .before .before .before .before .args in
-    let options-in-range = c .before .before .before .before .before .before .before .before .before .options-in-range in
-    let if1 = c .before .before .before .before .before .before .before .before .if1 in
-    let dims = c .before .before .before .before .before .dims in
-    let check-files = c .before .before .before .before .before .before .before .check-files in
-    let dims-agree = c .before .before .before .dims-agree in
-    let f = (filesOf (args .gmm .now) (args .extractor .now) (args .lda .now) (args .cmvn .now)) in
-    let options = sym (options-in-range .ensures) ∙ not-false _ (if1 .left) in
-    let inside = subst (checkedIn f) (dims .given .1) (check-files .ensures .1) in
-    let there = sym (told (checkedOf f) (check-files .ensures .0) (dims .given .1)) in
-    let agree = sym (dims-agree .ensures) ∙ not-false _ ((c .before .before .if2) .left) in
-    (rows-apart (args .opts) (args .z) (args .scratch) f options (dims .given .0 .0) (dims .given .0 .1 .0) (dims .given .0 .1 .1 .0) (dims .given .0 .1 .1 .1 .0) (dims .given .0 .1 .1 .1 .1 .0) inside there agree ((c .if3) .taken), tt)
+    let at-if2 = c .before .before in
+    let at-dims = at-if2 .before .before .before in
+    let start = at-dims .before .before .before .before .before .before .before .before .before in
+    (rows-apart (start .args .z) (start .args .scratch) (read at-dims) (agree at-if2) (c .if3 .taken), tt)
 
 returns-4 : tie.Need-returns-4
 returns-4 c =
-    let args = c .before .before .before .before .before .before .before .before .before .before .before .before .before .before .before .before .args in
-    let options-in-range = c .before .before .before .before .before .before .before .before .before .before .before .options-in-range in
-    let if1 = c .before .before .before .before .before .before .before .before .before .before .if1 in
-    let dims = c .before .before .before .before .before .before .before .dims in
-    let check-files = c .before .before .before .before .before .before .before .before .before .check-files in
-    let dims-agree = c .before .before .before .before .before .dims-agree in
-    let if2 = c .before .before .before .before .if2 in
-    let f = (filesOf (args .gmm .now) (args .extractor .now) (args .lda .now) (args .cmvn .now)) in
-    let options = sym (options-in-range .ensures) ∙ not-false _ (if1 .left) in
-    let inside = subst (checkedIn f) (dims .given .1) (check-files .ensures .1) in
-    let there = sym (told (checkedOf f) (check-files .ensures .0) (dims .given .1)) in
-    let agree = sym (dims-agree .ensures) ∙ not-false _ (if2 .left) in
-    (dim-apart (args .opts) (args .z) (args .scratch) f options (dims .given .0 .0) (dims .given .0 .1 .0) (dims .given .0 .1 .1 .0) (dims .given .0 .1 .1 .1 .0) (dims .given .0 .1 .1 .1 .1 .0) inside there agree ((c .before .before .if3) .left) ((c .if4) .taken), tt)
+    let at-if3 = c .before .before in
+    let at-if2 = at-if3 .before .before in
+    let at-dims = at-if2 .before .before .before in
+    let start = at-dims .before .before .before .before .before .before .before .before .before in
+    (dim-apart (start .args .z) (start .args .scratch) (read at-dims) (agree at-if2) (at-if3 .if3 .left) (c .if4 .taken), tt)
 
 tables-fit-requires : tie.Need-tables-fit-requires
 tables-fit-requires c κs =
-    let options-in-range = c .before .before .before .before .before .before .before .before .before .before .before .options-in-range in
-    let if1 = c .before .before .before .before .before .before .before .before .before .before .if1 in
-    let args = c .before .before .before .before .before .before .before .before .before .before .before .before .before .before .before .before .args in
-    let dims = c .before .before .before .before .before .before .before .dims in
-    let check-files = c .before .before .before .before .before .before .before .before .before .check-files in (
-      (sym (options-in-range .ensures) ∙ not-false _ (if1 .left)),
-      dims-in (filesOf (args .gmm .now) (args .extractor .now) (args .lda .now) (args .cmvn .now)) (dims .given .0 .0) (dims .given .0 .1 .0) (dims .given .0 .1 .1 .0) (dims .given .0 .1 .1 .1 .0) (dims .given .0 .1 .1 .1 .1 .0) (subst (checkedIn (filesOf (args .gmm .now) (args .extractor .now) (args .lda .now) (args .cmvn .now))) (dims .given .1) (check-files .ensures .1)),
-    )
+    let at-dims = c .before .before .before .before .before .before .before in
+    let at-if1 = at-dims .before .before .before in
+    (in-range at-if1, dims-in (read at-dims .inside))
 
 returns-5 : tie.Need-returns-5
 returns-5 c =
-    let args = c .before .before .before .before .before .before .before .before .before .before .before .before .before .before .before .before .before .before .args in
-    let options-in-range = c .before .before .before .before .before .before .before .before .before .before .before .before .before .options-in-range in
-    let if1 = c .before .before .before .before .before .before .before .before .before .before .before .before .if1 in
-    let dims = c .before .before .before .before .before .before .before .before .before .dims in
-    let check-files = c .before .before .before .before .before .before .before .before .before .before .before .check-files in
-    let dims-agree = c .before .before .before .before .before .before .before .dims-agree in
-    let if2 = c .before .before .before .before .before .before .if2 in
-    let if3 = c .before .before .before .before .if3 in
-    let f = (filesOf (args .gmm .now) (args .extractor .now) (args .lda .now) (args .cmvn .now)) in
-    let options = sym (options-in-range .ensures) ∙ not-false _ (if1 .left) in
-    let inside = subst (checkedIn f) (dims .given .1) (check-files .ensures .1) in
-    let there = sym (told (checkedOf f) (check-files .ensures .0) (dims .given .1)) in
-    let agree = sym (dims-agree .ensures) ∙ not-false _ (if2 .left) in (
-      tables-short (args .opts) (args .z) (args .scratch) f options (dims .given .0 .0) (dims .given .0 .1 .0) (dims .given .0 .1 .1 .0) (dims .given .0 .1 .1 .1 .0) (dims .given .0 .1 .1 .1 .1 .0) inside there agree (if3 .left) ((c .before .before .if4) .left) (sym ((c .before .tables-fit) .ensures) ∙ not-true _ ((c .if5) .taken)),
-      tt,
-    )
+    let at-tables-fit = c .before in
+    let at-if4 = at-tables-fit .before in
+    let at-if3 = at-if4 .before .before in
+    let at-if2 = at-if3 .before .before in
+    let at-dims = at-if2 .before .before .before in
+    let start = at-dims .before .before .before .before .before .before .before .before .before in
+    let short = sym (at-tables-fit .tables-fit .ensures) ∙ not-true _ (c .if5 .taken) in
+    (tables-short (start .args .z) (start .args .scratch) (read at-dims) (agree at-if2) (at-if3 .if3 .left) (at-if4 .if4 .left) short, tt)
 
 load-scratch-requires : tie.Need-load-scratch-requires
 load-scratch-requires c κs =
-    let args = c .before .before .before .before .before .before .before .before .before .before .before .before .before .before .before .before .before .before .args in
-    let dims = c .before .before .before .before .before .before .before .before .before .dims in
-    let check-files = c .before .before .before .before .before .before .before .before .before .before .before .check-files in
-    dims-in (filesOf (args .gmm .now) (args .extractor .now) (args .lda .now) (args .cmvn .now)) (dims .given .0 .0) (dims .given .0 .1 .0) (dims .given .0 .1 .1 .0) (dims .given .0 .1 .1 .1 .0) (dims .given .0 .1 .1 .1 .1 .0) (subst (checkedIn (filesOf (args .gmm .now) (args .extractor .now) (args .lda .now) (args .cmvn .now))) (dims .given .1) (check-files .ensures .1))
+    let at-dims = c .before .before .before .before .before .before .before .before .before in
+    dims-in (read at-dims .inside)
 
 returns-6 : tie.Need-returns-6
 returns-6 c =
-    let args = c .before .before .before .before .before .before .before .before .before .before .before .before .before .before .before .before .before .before .before .before .args in
-    let options-in-range = c .before .before .before .before .before .before .before .before .before .before .before .before .before .before .before .options-in-range in
-    let if1 = c .before .before .before .before .before .before .before .before .before .before .before .before .before .before .if1 in
-    let dims = c .before .before .before .before .before .before .before .before .before .before .before .dims in
-    let check-files = c .before .before .before .before .before .before .before .before .before .before .before .before .before .check-files in
-    let dims-agree = c .before .before .before .before .before .before .before .before .before .dims-agree in
-    let if2 = c .before .before .before .before .before .before .before .before .if2 in
-    let tables-fit = c .before .before .before .tables-fit in
-    let if3 = c .before .before .before .before .before .before .if3 in
-    let if4 = c .before .before .before .before .if4 in
-    let f = (filesOf (args .gmm .now) (args .extractor .now) (args .lda .now) (args .cmvn .now)) in
-    let options = sym (options-in-range .ensures) ∙ not-false _ (if1 .left) in
-    let inside = subst (checkedIn f) (dims .given .1) (check-files .ensures .1) in
-    let there = sym (told (checkedOf f) (check-files .ensures .0) (dims .given .1)) in
-    let agree = sym (dims-agree .ensures) ∙ not-false _ (if2 .left) in
-    let fit = sym (tables-fit .ensures) ∙ not-false _ ((c .before .before .if5) .left) in (
-      scratch-short (args .opts) (args .z) (args .scratch) f options (dims .given .0 .0) (dims .given .0 .1 .0) (dims .given .0 .1 .1 .0) (dims .given .0 .1 .1 .1 .0) (dims .given .0 .1 .1 .1 .1 .0) inside there agree (if3 .left) (if4 .left) fit (omega (arith, ((c .if6) .taken), ((c .before .load-scratch) .ensures))),
-      tt,
-    )
+    let at-load-scratch = c .before in
+    let at-if5 = at-load-scratch .before in
+    let at-if4 = at-if5 .before .before in
+    let at-if3 = at-if4 .before .before in
+    let at-if2 = at-if3 .before .before in
+    let at-dims = at-if2 .before .before .before in
+    let start = at-dims .before .before .before .before .before .before .before .before .before in
+    let short : start .args .scratch < loadScratch (at-dims .dims .given .0 .0) = omega (arith, c .if6 .taken, at-load-scratch .load-scratch .ensures) in
+    (scratch-short (start .args .z) (start .args .scratch) (read at-dims) (agree at-if2) (at-if3 .if3 .left) (at-if4 .if4 .left) (fit at-if5) short, tt)
 
 returns-7 : tie.Need-returns-7
 returns-7 c =
-    let args = c .before .before .before .before .before .before .before .before .before .before .args in
-    let options-in-range = c .before .before .before .before .before .options-in-range in
-    let if1 = c .before .before .before .before .if1 in
-    let check-files = c .before .before .before .check-files in (
-      files-out (args .opts) (args .z) (args .scratch) (filesOf (args .gmm .now) (args .extractor .now) (args .lda .now) (args .cmvn .now)) (sym (options-in-range .ensures) ∙ not-false _ (if1 .left)) (sym (told (checkedOf (filesOf (args .gmm .now) (args .extractor .now) (args .lda .now) (args .cmvn .now))) (check-files .ensures .0) ((c .before .e) .given .1))),
-      tt,
-    )
+    let at-e = c .before in
+    let at-check-files = at-e .before .before in
+    let at-if1 = at-check-files .before in
+    let start = at-if1 .before .before .before .before .before .before in
+    let no = sym (told (checkedOf (files start)) (at-check-files .check-files .ensures .0) (at-e .e .given .1)) in
+    (files-out (start .args .opts) (start .args .z) (start .args .scratch) (files start) (in-range at-if1) no, tt)
 
 returns-8 : tie.Need-returns-8
 returns-8 c =
-    let args = c .before .before .before .before .before .before .before .before .before .before .before .before .before .before .before .before .before .before .before .before .args in
-    let options-in-range = c .before .before .before .before .before .before .before .before .before .before .before .before .before .before .before .options-in-range in
-    let if1 = c .before .before .before .before .before .before .before .before .before .before .before .before .before .before .if1 in
-    let dims = c .before .before .before .before .before .before .before .before .before .before .before .dims in
-    let check-files = c .before .before .before .before .before .before .before .before .before .before .before .before .before .check-files in
-    let dims-agree = c .before .before .before .before .before .before .before .before .before .dims-agree in
-    let if2 = c .before .before .before .before .before .before .before .before .if2 in
-    let tables-fit = c .before .before .before .tables-fit in
-    let if3 = c .before .before .before .before .before .before .if3 in
-    let if4 = c .before .before .before .before .if4 in
-    let f = (filesOf (args .gmm .now) (args .extractor .now) (args .lda .now) (args .cmvn .now)) in
-    let options = sym (options-in-range .ensures) ∙ not-false _ (if1 .left) in
-    let inside = subst (checkedIn f) (dims .given .1) (check-files .ensures .1) in
-    let there = sym (told (checkedOf f) (check-files .ensures .0) (dims .given .1)) in
-    let agree = sym (dims-agree .ensures) ∙ not-false _ (if2 .left) in
-    let fit = sym (tables-fit .ensures) ∙ not-false _ ((c .before .before .if5) .left) in
-    let enough : loadScratch (dims .given .0 .0) ≤ (args .scratch) = omega (arith, ((c .if6) .left), ((c .before .load-scratch) .ensures)) in (
-      all-taken (args .opts) (args .z) (args .scratch) f options (dims .given .0 .0) (dims .given .0 .1 .0) (dims .given .0 .1 .1 .0) (dims .given .0 .1 .1 .1 .0) (dims .given .0 .1 .1 .1 .1 .0) inside there agree (if3 .left) (if4 .left) fit enough,
-      judged-in (args .opts) (args .z) (args .scratch) f options (dims .given .0 .0) (dims .given .0 .1 .0) (dims .given .0 .1 .1 .0) (dims .given .0 .1 .1 .1 .0) (dims .given .0 .1 .1 .1 .1 .0) inside there agree (if3 .left) (if4 .left) fit enough,
+    let at-load-scratch = c .before in
+    let at-if5 = at-load-scratch .before in
+    let at-if4 = at-if5 .before .before in
+    let at-if3 = at-if4 .before .before in
+    let at-if2 = at-if3 .before .before in
+    let at-dims = at-if2 .before .before .before in
+    let start = at-dims .before .before .before .before .before .before .before .before .before in
+    let enough : loadScratch (at-dims .dims .given .0 .0) ≤ start .args .scratch = omega (arith, c .if6 .left, at-load-scratch .load-scratch .ensures) in (
+      all-taken (start .args .z) (start .args .scratch) (read at-dims) (agree at-if2) (at-if3 .if3 .left) (at-if4 .if4 .left) (fit at-if5) enough,
+      judged-in (start .args .z) (start .args .scratch) (read at-dims) (agree at-if2) (at-if3 .if3 .left) (at-if4 .if4 .left) (fit at-if5) enough,
     )
 
 pub judge-spec : {M : Type 1} → statement M

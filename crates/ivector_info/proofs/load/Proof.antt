@@ -1,13 +1,32 @@
+-- `load` meets its contract: a refusal of the judgement writes nothing; a model that it passes is filled in by three calls, whose eight
+-- tables are those of the definition.
 use borrow.Author.Needs.{needs}
 use mathlib.Core.Path.{subst}
 use lib.ListN.{length}
+use Rattle.definition.specs.Model.{Files, Tables, tablesFrom, tableLengthsOf}
+use Rattle.definition.proofs.Ranges.{tables-fitting}
 use Rattle.kaldi_io.proofs.Chain.{told}
-use Rattle.limits.proofs.Ranges.{tables-fitting}
-use Rattle.ivector_info.specs.Load.{filesOf, lengthsOf}
-use Rattle.ivector_info.specs.Steps.{judgedOf, judgedIn}
-use Rattle.ivector_info.proofs.Tables.{loaded-no, table-same, scratch-same, loaded-is, scratch-free, gconsts-are, means-are, vars-are, sims-are, us-are, lda-is, offset-is, global-is, gmm-fits, sims-fit, lda-fits}
+use Rattle.ivector_info.specs.Load.{filesOf}
+use Rattle.ivector_info.specs.Steps.{judgedOf, judgedIn, JudgedIn}
+use Rattle.ivector_info.proofs.Tables.{loaded-no, tables-same, scratch-same, loaded-is, scratch-free, tables-are, gmm-fits, sims-fit, lda-fits}
 use Rattle.ivector_info.proofs.load.Statement.{statement}
 use Rattle.ivector_info.proofs.load.Tie as tie
+
+abbrev files : (c : tie.Start) → Files
+files c = filesOf (c .args .gmm .now) (c .args .extractor .now) (c .args .lda .now) (c .args .cmvn .now)
+
+abbrev tables : (c : tie.Start) → Tables
+tables c =
+    let a = c .args in
+    tablesFrom (a .gconsts .now) (a .means-invvars-t .now) (a .inv-vars-t .now) (a .sigma-inv-m .now) (a .u .now) (a .lda-t .now) (a .lda-offset .now) (a .global-mean-stats .now)
+
+judged : (c : tie.After-dims) →
+    let start = c .before .before .before .before .before .before .before .before .before .before .before .before .before .before .before .before in
+    JudgedIn (start .args .opts) (tableLengthsOf (tables start)) (length (start .args .scratch .now)) (files start) (c .dims .given .0 .0) (c .dims .given .0 .1 .1 .0)
+judged c =
+    let at-judge = c .before .before in
+    let start = at-judge .before .before .before .before .before .before .before .before .before .before .before .before .before .before in
+    subst (judgedIn (start .args .opts) (tableLengthsOf (tables start)) (length (start .args .scratch .now)) (files start)) (c .dims .given .1) (at-judge .judge .ensures .1)
 
 judge-requires : tie.Need-judge-requires
 judge-requires c κs = search needs
@@ -20,43 +39,27 @@ enum-known-dims c = search needs
 
 fill-gmm-requires : tie.Need-fill-gmm-requires
 fill-gmm-requires c κs =
-    let args = c .before .before .before .before .before .before .before .before .before .before .before .before .before .before .before .before .before .before .before .before .args in
-    let dims = c .before .before .before .before .dims in
-    let judge = c .before .before .before .before .before .before .judge in
-    gmm-fits (subst (judgedIn (args .opts) (lengthsOf (length (args .gconsts .now)) (length (args .means-invvars-t .now)) (length (args .inv-vars-t .now)) (length (args .sigma-inv-m .now)) (length (args .u .now)) (length (args .lda-t .now)) (length (args .lda-offset .now)) (length (args .global-mean-stats .now))) (length (args .scratch .now)) (filesOf (args .gmm .now) (args .extractor .now) (args .lda .now) (args .cmvn .now))) (dims .given .1) (judge .ensures .1))
+    let at-dims = c .before .before .before .before in
+    gmm-fits (judged at-dims)
 
 fill-gaussians-requires : tie.Need-fill-gaussians-requires
 fill-gaussians-requires c κs =
-    let args = c .before .before .before .before .before .before .before .before .before .before .before .before .before .before .before .before .before .before .before .before .before .before .before .before .before .before .before .before .before .before .args in
-    let dims = c .before .before .before .before .before .before .before .before .before .before .before .before .before .before .dims in
-    let judge = c .before .before .before .before .before .before .before .before .before .before .before .before .before .before .before .before .judge in
-    let judged = (subst (judgedIn (args .opts) (lengthsOf (length (args .gconsts .now)) (length (args .means-invvars-t .now)) (length (args .inv-vars-t .now)) (length (args .sigma-inv-m .now)) (length (args .u .now)) (length (args .lda-t .now)) (length (args .lda-offset .now)) (length (args .global-mean-stats .now))) (length (args .scratch .now)) (filesOf (args .gmm .now) (args .extractor .now) (args .lda .now) (args .cmvn .now))) (dims .given .1) (judge .ensures .1)) in
-    (judged .files-in .extractor-in, (sims-fit judged, tables-fitting _ _ _ (judged .tables-fit) .u-fits, judged .scratch-fits))
+    let at-dims = c .before .before .before .before .before .before .before .before .before .before .before .before .before .before in
+    let j = judged at-dims in
+    (j .files-in .extractor-in, (sims-fit j, tables-fitting _ _ _ (j .tables-fit) .u-fits, j .scratch-fits))
 
 fill-lda-requires : tie.Need-fill-lda-requires
 fill-lda-requires c κs =
-    let args = c .before .before .before .before .before .before .before .before .before .before .before .before .before .before .before .before .before .before .before .before .before .before .before .before .before .before .before .before .before .before .before .before .before .before .before .before .before .before .before .before .args in
-    let dims = c .before .before .before .before .before .before .before .before .before .before .before .before .before .before .before .before .before .before .before .before .before .before .before .before .dims in
-    let judge = c .before .before .before .before .before .before .before .before .before .before .before .before .before .before .before .before .before .before .before .before .before .before .before .before .before .before .judge in
-    lda-fits (subst (judgedIn (args .opts) (lengthsOf (length (args .gconsts .now)) (length (args .means-invvars-t .now)) (length (args .inv-vars-t .now)) (length (args .sigma-inv-m .now)) (length (args .u .now)) (length (args .lda-t .now)) (length (args .lda-offset .now)) (length (args .global-mean-stats .now))) (length (args .scratch .now)) (filesOf (args .gmm .now) (args .extractor .now) (args .lda .now) (args .cmvn .now))) (dims .given .1) (judge .ensures .1))
+    let at-dims = c .before .before .before .before .before .before .before .before .before .before .before .before .before .before .before .before .before .before .before .before .before .before .before .before in
+    lda-fits (judged at-dims)
 
 returns : tie.Need-returns
 returns c =
-    let args = c .before .before .before .before .before .before .before .before .before .before .before .before .before .before .before .before .before .args in
-    let judge = c .before .before .before .judge in
-    let z = (lengthsOf (length (args .gconsts .now)) (length (args .means-invvars-t .now)) (length (args .inv-vars-t .now)) (length (args .sigma-inv-m .now)) (length (args .u .now)) (length (args .lda-t .now)) (length (args .lda-offset .now)) (length (args .global-mean-stats .now))) in
-    let no = told (judgedOf (args .opts) z (filesOf (args .gmm .now) (args .extractor .now) (args .lda .now) (args .cmvn .now))) (judge .ensures .0) ((c .before .e) .given .1) in (
-      loaded-no no,
-      table-same no (λ M. M .gconsts) (args .gconsts .now),
-      table-same no (λ M. M .means-invvars-t) (args .means-invvars-t .now),
-      table-same no (λ M. M .inv-vars-t) (args .inv-vars-t .now),
-      table-same no (λ M. M .sigma-inv-m) (args .sigma-inv-m .now),
-      table-same no (λ M. M .u) (args .u .now),
-      table-same no (λ M. M .lda-t) (args .lda-t .now),
-      table-same no (λ M. M .lda-offset) (args .lda-offset .now),
-      table-same no (λ M. M .global-mean-stats) (args .global-mean-stats .now),
-      scratch-same no (args .scratch .now),
-    )
+    let at-e = c .before in
+    let at-judge = at-e .before .before in
+    let start = at-judge .before .before .before .before .before .before .before .before .before .before .before .before .before .before in
+    let no = told (judgedOf (start .args .opts) (tableLengthsOf (tables start)) (files start)) (at-judge .judge .ensures .0) (at-e .e .given .1) in
+    (loaded-no no, tables-same no (tables start), scratch-same no (start .args .scratch .now))
 
 same-length : tie.Need-same-length
 same-length c = search needs
@@ -87,26 +90,20 @@ same-length-9 c = search needs
 
 returns-2 : tie.Need-returns-2
 returns-2 c =
-    let args = c .before .before .before .before .before .before .before .before .before .before .before .before .before .before .before .before .before .before .before .before .before .before .before .before .before .before .before .before .before .before .before .before .before .before .before .before .before .before .before .before .before .before .before .before .before .before .before .args in
-    let dims = c .before .before .before .before .before .before .before .before .before .before .before .before .before .before .before .before .before .before .before .before .before .before .before .before .before .before .before .before .before .before .before .dims in
-    let judge = c .before .before .before .before .before .before .before .before .before .before .before .before .before .before .before .before .before .before .before .before .before .before .before .before .before .before .before .before .before .before .before .before .before .judge in
-    let fill-gmm = c .before .before .before .before .before .before .before .before .before .before .before .before .before .before .before .before .before .before .before .before .before .before .before .before .before .before .fill-gmm in
-    let fill-gaussians = c .before .before .before .before .before .before .before .before .before .before .before .before .before .before .before .before .fill-gaussians in
-    let fill-lda = c .before .before .before .before .before .before .fill-lda in
-    let z = (lengthsOf (length (args .gconsts .now)) (length (args .means-invvars-t .now)) (length (args .inv-vars-t .now)) (length (args .sigma-inv-m .now)) (length (args .u .now)) (length (args .lda-t .now)) (length (args .lda-offset .now)) (length (args .global-mean-stats .now))) in
-    let f = (filesOf (args .gmm .now) (args .extractor .now) (args .lda .now) (args .cmvn .now)) in
-    let judged = subst (judgedIn (args .opts) z (length (args .scratch .now)) f) (dims .given .1) (judge .ensures .1) in
-    let model = told (judgedOf (args .opts) z f) (judge .ensures .0) (dims .given .1) in (
-      loaded-is (args .opts) z f (dims .given .0 .0) (dims .given .0 .1 .0) (dims .given .0 .1 .1 .0) (judged .files-in) model,
-      gconsts-are (args .opts) z f (dims .given .0 .0) (dims .given .0 .1 .0) (dims .given .0 .1 .1 .0) (judged .files-in) model (args .gconsts .now) (fill-gmm .ensures .0),
-      means-are (args .opts) z f (dims .given .0 .0) (dims .given .0 .1 .0) (dims .given .0 .1 .1 .0) (judged .files-in) model (args .means-invvars-t .now) (fill-gmm .ensures .1 .0),
-      vars-are (args .opts) z f (dims .given .0 .0) (dims .given .0 .1 .0) (dims .given .0 .1 .1 .0) (judged .files-in) model (args .inv-vars-t .now) (fill-gmm .ensures .1 .1),
-      sims-are (args .opts) z f (dims .given .0 .0) (dims .given .0 .1 .0) (dims .given .0 .1 .1 .0) (judged .files-in) model (args .sigma-inv-m .now) (fill-gaussians .ensures .0),
-      us-are (args .opts) z f (dims .given .0 .0) (dims .given .0 .1 .0) (dims .given .0 .1 .1 .0) (judged .files-in) model (args .u .now) (fill-gaussians .ensures .1),
-      lda-is (args .opts) z f (dims .given .0 .0) (dims .given .0 .1 .0) (dims .given .0 .1 .1 .0) (judged .files-in) model (args .lda-t .now) (fill-lda .ensures .0),
-      offset-is (args .opts) z f (dims .given .0 .0) (dims .given .0 .1 .0) (dims .given .0 .1 .1 .0) (judged .files-in) model (args .lda-offset .now) (fill-lda .ensures .1 .0),
-      global-is (args .opts) z f (dims .given .0 .0) (dims .given .0 .1 .0) (dims .given .0 .1 .1 .0) (judged .files-in) model (args .global-mean-stats .now) (fill-lda .ensures .1 .1),
-      scratch-free (args .opts) z f (dims .given .0 .0) (dims .given .0 .1 .0) (dims .given .0 .1 .1 .0) (judged .files-in) model _ _,
+    let at-fill-lda = c .before .before .before .before .before .before in
+    let at-fill-gaussians = at-fill-lda .before .before .before .before .before .before .before .before .before .before in
+    let at-fill-gmm = at-fill-gaussians .before .before .before .before .before .before .before .before .before .before in
+    let at-dims = at-fill-gmm .before .before .before .before .before in
+    let at-judge = at-dims .before .before in
+    let start = at-judge .before .before .before .before .before .before .before .before .before .before .before .before .before .before in
+    let o = start .args .opts in
+    let z = tableLengthsOf (tables start) in
+    let prior = at-dims .dims .given .0 .1 .0 in
+    let x = judged at-dims .files-in in
+    let model = told (judgedOf o z (files start)) (at-judge .judge .ensures .0) (at-dims .dims .given .1) in (
+      loaded-is o z prior x model,
+      tables-are o z prior x model (tables start) (at-fill-gmm .fill-gmm .ensures) (at-fill-gaussians .fill-gaussians .ensures) (at-fill-lda .fill-lda .ensures),
+      scratch-free o z prior x model _ _,
     )
 
 pub load-spec : {M : Type 1} → statement M

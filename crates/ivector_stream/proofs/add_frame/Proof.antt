@@ -1,11 +1,11 @@
--- `ivector_stream::add_frame` meets its contract. Assumes nothing.
+-- `ivector_stream::add_frame` meets its contract: after d turns the first d sums are put. The row that is read lies apart from the one that is written.
 use borrow.Author.Needs.{needs}
 use Prim.Native.Nat.{_≤_, _+_, _-_}
 use mathlib.Core.Path.{_≡_}
 use lib.ListN.{length}
 use native.Mathlib.Omega.{arith}
 use Rattle.loops.specs.Lists.{build}
-use Rattle.loops.specs.Steps.{put}
+use Rattle.loops.specs.Ring.{put}
 use Rattle.loops.proofs.Fill.{puts, put-end}
 use Rattle.floats.specs.Operators.{_+₆₄_, at}
 use Rattle.ivector_stream.proofs.Stored.{sums-turn}
@@ -56,7 +56,10 @@ loop-less : tie.Need-loop-less Inv-loop μ-loop
 loop-less c = search needs
 
 loop-again : tie.Need-loop-again Inv-loop μ-loop
-loop-again c = (omega arith, omega arith, search needs, sums-turn (c .before .before .before .before .before .before .before .args .last) (c .before .before .before .before .before .before .before .args .next) (c .before .before .before .before .before .before .before .args .frame .now) (c .before .before .before .before .before .before .before .args .rows .now) (c .before .before .before .before .before .before .before .pre .1) (c .before .before .before .before .before .before .before .pre .2) (c .before .before .before .before .loop .d) (omega arith) (c .before .before .before .before .loop .inv .3) (c .f32-to-f64-with-nan .ensures))
+loop-again c =
+    let at-loop = c .before .before .before .before in
+    let start = at-loop .before .before .before in
+    (omega arith, omega arith, search needs, sums-turn (start .args .last) (start .args .next) (start .args .frame .now) (start .args .rows .now) (start .pre .1) (start .pre .2) (at-loop .loop .d) (omega arith) (at-loop .loop .inv .3) (c .f32-to-f64-with-nan .ensures))
 
 same-length : tie.Need-same-length Inv-loop μ-loop
 same-length c = search needs

@@ -1,4 +1,4 @@
--- `ivector_stream::any_below` meets its contract. Assumes nothing.
+-- `ivector_stream::any_below` meets its contract: whether one is left from i on is whether there is one, until it is found or the list ends.
 use borrow.Author.Needs.{needs}
 use Prim.Native.Nat.{_≤_, _-_}
 use mathlib.Core.Path.{_≡_, refl}
@@ -31,7 +31,10 @@ less-requires : tie.Need-less-requires Inv-loop μ-loop
 less-requires c κs = search needs
 
 returns : tie.Need-returns Inv-loop μ-loop
-returns c = any-found (λ f. ltb (f - c .before .before .before .before .before .before .args .left) (c .before .before .before .before .before .before .args .mark)) _ (c .before .before .before .before .before .before .args .frames .now) (c .before .before .before .before .loop .i) (omega arith) (lt-test (c .before .less .ensures) refl (c .if1 .taken)) (c .before .before .before .before .loop .inv .2)
+returns c =
+    let at-loop = c .before .before .before .before in
+    let start = at-loop .before .before in
+    any-found (λ f. ltb (f - start .args .left) (start .args .mark)) _ (start .args .frames .now) (at-loop .loop .i) (omega arith) (lt-test (c .before .less .ensures) refl (c .if1 .taken)) (at-loop .loop .inv .2)
 
 add-i : tie.Need-add-i Inv-loop μ-loop
 add-i c = search needs
@@ -40,10 +43,15 @@ loop-less : tie.Need-loop-less Inv-loop μ-loop
 loop-less c = search needs
 
 loop-again : tie.Need-loop-again Inv-loop μ-loop
-loop-again c = (omega arith, omega arith, any-turn (λ f. ltb (f - c .before .before .before .before .before .before .args .left) (c .before .before .before .before .before .before .args .mark)) _ (c .before .before .before .before .before .before .args .frames .now) (c .before .before .before .before .loop .i) (omega arith) (le-test (c .before .less .ensures) refl (c .if1 .left)) (c .before .before .before .before .loop .inv .2))
+loop-again c =
+    let at-loop = c .before .before .before .before in
+    let start = at-loop .before .before in
+    (omega arith, omega arith, any-turn (λ f. ltb (f - start .args .left) (start .args .mark)) _ (start .args .frames .now) (at-loop .loop .i) (omega arith) (le-test (c .before .less .ensures) refl (c .if1 .left)) (at-loop .loop .inv .2))
 
 returns-2 : tie.Need-returns-2 Inv-loop μ-loop
-returns-2 c = any-end (λ f. ltb (f - c .before .before .before .args .left) (c .before .before .before .args .mark)) (c .before .before .before .args .frames .now) (c .before .loop .i) (omega arith) (c .before .loop .inv .2)
+returns-2 c =
+    let start = c .before .before .before in
+    any-end (λ f. ltb (f - start .args .left) (start .args .mark)) (start .args .frames .now) (c .before .loop .i) (omega arith) (c .before .loop .inv .2)
 
 pub any-below-spec : {M : Type 1} → statement M
 any-below-spec =

@@ -1,4 +1,4 @@
--- `ivector_stream::any_from` meets its contract. Assumes nothing.
+-- `ivector_stream::any_from` meets its contract: whether one is left from i on is whether there is one, until it is found or the list ends.
 use borrow.Author.Needs.{needs}
 use Prim.Native.Nat.{_≤_, _-_}
 use mathlib.Core.Path.{_≡_, refl}
@@ -28,7 +28,10 @@ shared-slice-read-if1 : tie.Need-shared-slice-read-if1 Inv-loop μ-loop
 shared-slice-read-if1 c = search needs
 
 returns : tie.Need-returns Inv-loop μ-loop
-returns c = any-found (leb (c .before .before .before .before .args .limit)) _ (c .before .before .before .before .args .frames .now) (c .before .before .before .loop .i) (omega arith) (le-leb _ _ (c .if1 .taken)) (c .before .before .before .loop .inv .2)
+returns c =
+    let at-loop = c .before .before .before in
+    let start = at-loop .before in
+    any-found (leb (start .args .limit)) _ (start .args .frames .now) (at-loop .loop .i) (omega arith) (le-leb _ _ (c .if1 .taken)) (at-loop .loop .inv .2)
 
 add-i : tie.Need-add-i Inv-loop μ-loop
 add-i c = search needs
@@ -37,10 +40,15 @@ loop-less : tie.Need-loop-less Inv-loop μ-loop
 loop-less c = search needs
 
 loop-again : tie.Need-loop-again Inv-loop μ-loop
-loop-again c = (omega arith, omega arith, any-turn (leb (c .before .before .before .before .args .limit)) _ (c .before .before .before .before .args .frames .now) (c .before .before .before .loop .i) (omega arith) (lt-leb _ _ (c .if1 .left)) (c .before .before .before .loop .inv .2))
+loop-again c =
+    let at-loop = c .before .before .before in
+    let start = at-loop .before in
+    (omega arith, omega arith, any-turn (leb (start .args .limit)) _ (start .args .frames .now) (at-loop .loop .i) (omega arith) (lt-leb _ _ (c .if1 .left)) (at-loop .loop .inv .2))
 
 returns-2 : tie.Need-returns-2 Inv-loop μ-loop
-returns-2 c = any-end (leb (c .before .before .args .limit)) (c .before .before .args .frames .now) (c .before .loop .i) (omega arith) (c .before .loop .inv .2)
+returns-2 c =
+    let start = c .before .before in
+    any-end (leb (start .args .limit)) (start .args .frames .now) (c .before .loop .i) (omega arith) (c .before .loop .inv .2)
 
 pub any-from-spec : {M : Type 1} → statement M
 any-from-spec =

@@ -1,4 +1,4 @@
--- `ivector_stream::any_not_finite` meets its contract. Assumes nothing.
+-- `ivector_stream::any_not_finite` meets its contract: `bad`, or one left from i on, is whether there is one.
 use borrow.Author.Needs.{needs}
 use Prim.Native.Nat.{_+_, _≤_, _-_}
 use mathlib.Core.Path.{_≡_, refl, ap, _∙_}
@@ -37,10 +37,13 @@ loop-less : tie.Need-loop-less Inv-loop μ-loop
 loop-less c = search needs
 
 loop-again : tie.Need-loop-again Inv-loop μ-loop
-loop-again c = (omega arith, omega arith, ap (λ (z : Bool). z || anyOf (λ v. not (finite v)) (drop ((c .before .before .before .loop) .i + 1) ((c .before .before .before .before .before .args) .x .now))) ((c .or-not-finite) .ensures) ∙ any-more (λ v. not (finite v)) _ ((c .before .before .before .loop) .bad) ((c .before .before .before .before .before .args) .x .now) ((c .before .before .before .loop) .i) (omega arith) ((c .before .before .before .loop) .inv .2))
+loop-again c =
+    let at-loop = c .before .before .before in
+    let start = at-loop .before .before in
+    (omega arith, omega arith, ap (λ (z : Bool). z || anyOf (λ v. not (finite v)) (drop (at-loop .loop .i + 1) (start .args .x .now))) (c .or-not-finite .ensures) ∙ any-more (λ v. not (finite v)) _ (at-loop .loop .bad) (start .args .x .now) (at-loop .loop .i) (omega arith) (at-loop .loop .inv .2))
 
 returns : tie.Need-returns Inv-loop μ-loop
-returns c = any-kept (λ v. not (finite v)) _ ((c .before .before .before .args) .x .now) ((c .before .loop) .i) (omega arith) ((c .before .loop) .inv .2)
+returns c = any-kept (λ v. not (finite v)) _ (c .before .before .before .args .x .now) (c .before .loop .i) (omega arith) (c .before .loop .inv .2)
 
 pub any-not-finite-spec : {M : Type 1} → statement M
 any-not-finite-spec =

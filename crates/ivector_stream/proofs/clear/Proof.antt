@@ -1,4 +1,4 @@
--- `ivector_stream::clear` meets its contract. Assumes nothing.
+-- `ivector_stream::clear` meets its contract: after i turns the first i places are filled.
 use borrow.Author.Needs.{needs}
 use Prim.Native.Nat.{_≤_, _-_}
 use mathlib.Core.Path.{_≡_, refl}
@@ -40,7 +40,9 @@ same-length : tie.Need-same-length Inv-loop μ-loop
 same-length c = search needs
 
 returns : tie.Need-returns Inv-loop μ-loop
-returns c = cleared zero₆₄ (c .before .loop .i) (c .before .before .args .n) (c .before .before .args .room .now) (omega arith) (omega arith) (c .before .loop .inv .2)
+returns c =
+    let start = c .before .before in
+    cleared zero₆₄ (c .before .loop .i) (start .args .n) (start .args .room .now) (omega arith) (omega arith) (c .before .loop .inv .2)
 
 pub clear-spec : {M : Type 1} → statement M
 clear-spec =

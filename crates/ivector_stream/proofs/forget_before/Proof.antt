@@ -1,36 +1,45 @@
--- `ivector_stream::forget_before` meets its contract. Assumes nothing.
+-- `ivector_stream::forget_before` meets its contract: refused or taken, the rings are as they were; the new mark is no later than the statistics.
 use borrow.Author.Needs.{needs}
-use mathlib.Core.Path.{_≡_, sym, ap, _∙_}
+use mathlib.Core.Path.{refl, ap, _∙_}
+use mathlib.Core.List.{[]}
 use Prim.Native.Nat.{ℕ}
 use native.Mathlib.Omega.{arith}
-use lib.ListN.{length}
-use Rattle.definition.specs.declared.RoomLengths.{RoomLengths}
-use Rattle.ivector_stream.specs.Calls.{plainRefusal, callOf, withMark}
-use Rattle.ivector_stream.specs.Lent.{ringsOf}
-use Rattle.ivector_stream.proofs.Records.{Passed, plain-passed, plain-few, few}
+use Rattle.program.specs.Rooms.{Rings, ringsFrom}
+use Rattle.program.specs.Calls.{callOf, withMark, RingStep, forgetBefore}
+use Rattle.ivector_stream.proofs.Records.{Passed, plain-passed, few, other-few}
 use Rattle.ivector_stream.proofs.Replies.{refused, done}
 use Rattle.ivector_stream.proofs.Stored.{forget-is, forget-under}
 use Rattle.ivector_stream.proofs.forget_before.Statement.{statement}
 use Rattle.ivector_stream.proofs.forget_before.Tie as tie
 
--- the refusal, by the lengths of the lent rooms
-number-is : (c : tie.After-plain-refusal) → c .plain-refusal .result ≡ plainRefusal (c .before .before .before .before .before .before .args .s) (ringsOf (length (c .before .before .before .before .before .before .args .frames .now)) (length (c .before .before .before .before .before .before .args .rows .now)) (length (c .before .before .before .before .before .before .args .waiting-frames .now)) (length (c .before .before .before .before .before .before .args .waiting-weights .now))) (c .before .before .before .before .before .before .args .waiting-frames .now)
-number-is c = c .plain-refusal .ensures ∙ ap (λ (z : RoomLengths). plainRefusal (c .before .before .before .before .before .before .args .s) z (c .before .before .before .before .before .before .args .waiting-frames .now)) (c .before .rings .ensures)
+-- the rings that are lent, and what the call does
+abbrev lent : tie.Start → Rings
+lent start = ringsFrom (start .args .frames .now) (start .args .rows .now) (start .args .waiting-frames .now) (start .args .waiting-weights .now)
 
-known : (c : tie.Else1) → Passed (c .before .before .before .before .before .before .before .args .s) (ringsOf (length (c .before .before .before .before .before .before .before .args .frames .now)) (length (c .before .before .before .before .before .before .before .args .rows .now)) (length (c .before .before .before .before .before .before .before .args .waiting-frames .now)) (length (c .before .before .before .before .before .before .before .args .waiting-weights .now))) (c .before .before .before .before .before .before .before .args .waiting-frames .now)
-known c = plain-passed _ _ _ (sym (number-is (c .before)) ∙ c .if1 .left)
+abbrev step : tie.Start → RingStep
+step start = forgetBefore (start .args .s) (lent start) (start .args .frame)
 
-rings-requires : tie.Need-rings-requires
-rings-requires c κs = search needs
+-- once it is taken
+known : (c : tie.Else1) →
+    let start = c .before .before .before .before .before .before in
+    Passed (start .args .s) (lent start)
+known c =
+    let start = c .before .before .before .before .before .before in
+    plain-passed (start .args .s) (lent start) (c .before .plain-refusal .ensures) (c .if1 .left)
 
 plain-refusal-requires : tie.Need-plain-refusal-requires
 plain-refusal-requires c κs = search needs
 
 reply-requires : tie.Need-reply-requires
-reply-requires c κs = λ h. plain-few _ _ _ (λ e. h (c .before .plain-refusal .ensures ∙ e))
+reply-requires c κs =
+    let start = c .before .before .before .before .before .before in
+    other-few (start .args .s) (lent start) [] (c .before .plain-refusal .ensures)
 
 returns : tie.Need-returns
-returns c = c .reply .ensures ∙ refused _ _ _ _ (number-is (c .before .before)) (c .before .if1 .taken)
+unfolding forgetBefore
+returns c =
+    let start = c .before .before .before .before .before .before .before in
+    refused (start .args .s) (lent start) (step start) (c .before .before .plain-refusal .ensures) (c .before .if1 .taken) (c .reply .ensures)
 
 smaller-requires : tie.Need-smaller-requires
 smaller-requires c κs = search needs
@@ -46,21 +55,28 @@ larger-requires c κs = search needs
 
 reply-requires-2 : tie.Need-reply-requires-2
 reply-requires-2 c κs =
+    let at-if1 = c .before .before .before .before .before .before in
+    let start = at-if1 .before .before .before .before .before .before in
     λ h.
-    let k = known (c .before .before .before .before .before .before) in
-    (few _ _ _ k .0, forget-under (c .before .before .before .before .before .before .before .before .before .before .before .before .before .args .s) (c .before .before .before .before .before .before .before .before .before .before .before .before .before .args .waiting-frames .now) (c .before .before .before .before .before .before .before .before .before .before .before .before .before .args .frame) (c .before .before .before .smaller .ensures) (c .before .before .lowest .ensures) (c .before .less .ensures) (c .larger .ensures) (few _ _ _ k .1) (omega (arith, k .whole-is)))
+    let k = known at-if1 in
+    let a = start .args in
+    (few _ _ k .0, forget-under (a .s) (a .waiting-frames .now) (a .frame) (c .before .before .before .smaller .ensures) (c .before .before .lowest .ensures) (c .before .less .ensures) (c .larger .ensures) (few _ _ k .1) (omega (arith, k .whole-is)))
 
 returns-2 : tie.Need-returns-2
+unfolding forgetBefore
 returns-2 c =
-    c .reply2 .ensures
-    ∙ ap (λ (m : ℕ). callOf 0 (withMark (c .before .before .before .before .before .before .before .before .before .before .before .before .before .before .args .s) m) 0) (forget-is (c .before .before .before .before .before .before .before .before .before .before .before .before .before .before .args .s) (c .before .before .before .before .before .before .before .before .before .before .before .before .before .before .args .waiting-frames .now) (c .before .before .before .before .before .before .before .before .before .before .before .before .before .before .args .frame) (c .before .before .before .before .smaller .ensures) (c .before .before .before .lowest .ensures) (c .before .before .less .ensures) (c .before .larger .ensures))
-    ∙ done _ _ _ (sym (c .before .before .before .before .before .before .before .if1 .left) ∙ number-is (c .before .before .before .before .before .before .before .before))
+    let at-smaller = c .before .before .before .before in
+    let at-if1 = at-smaller .before .before .before in
+    let at-plain-refusal = at-if1 .before in
+    let start = at-plain-refusal .before .before .before .before .before in
+    let a = start .args in
+    let mark = forget-is (a .s) (a .waiting-frames .now) (a .frame) (at-smaller .smaller .ensures) (c .before .before .before .lowest .ensures) (c .before .before .less .ensures) (c .before .larger .ensures) in
+    done (a .s) (lent start) (step start) (at-plain-refusal .plain-refusal .ensures) (at-if1 .if1 .left) (c .reply2 .ensures ∙ ap (λ (m : ℕ). callOf 0 (withMark (a .s) m) 0) mark) refl
 
 pub forget-before-spec : {M : Type 1} → statement M
 forget-before-spec =
     tie.close
     (tie.spec
-    rings-requires
     plain-refusal-requires
     reply-requires
     returns

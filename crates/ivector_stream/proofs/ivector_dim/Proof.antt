@@ -1,4 +1,4 @@
--- `ivector_stream::ivector_dim` meets its contract. Assumes nothing.
+-- `ivector_stream::ivector_dim` meets its contract: it reads a field.
 use mathlib.Core.Path.{refl}
 use Rattle.ivector_stream.proofs.ivector_dim.Statement.{statement}
 use Rattle.ivector_stream.proofs.ivector_dim.Tie as tie

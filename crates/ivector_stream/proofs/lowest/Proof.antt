@@ -1,7 +1,6 @@
--- `ivector_stream::lowest` meets its contract. Assumes nothing.
+-- `ivector_stream::lowest` meets its contract: in frames in order the first is the lowest.
 use borrow.Author.Needs.{needs}
 use native.Mathlib.Omega.{arith}
-use lib.ListN.{take}
 use Rattle.ivector_stream.proofs.Stored.{lowest-none, lowest-first}
 use Rattle.ivector_stream.proofs.lowest.Statement.{statement}
 use Rattle.ivector_stream.proofs.lowest.Tie as tie
@@ -16,7 +15,9 @@ smaller-requires : tie.Need-smaller-requires
 smaller-requires c κs = search needs
 
 returns-2 : tie.Need-returns-2
-returns-2 c = lowest-first _ _ _ (omega arith) (c .before .before .before .before .pre .0) (c .before .before .before .before .pre .1) (c .smaller .ensures)
+returns-2 c =
+    let start = c .before .before .before .before in
+    lowest-first _ _ _ (omega arith) (start .pre .0) (start .pre .1) (c .smaller .ensures)
 
 pub lowest-spec : {M : Type 1} → statement M
 lowest-spec =

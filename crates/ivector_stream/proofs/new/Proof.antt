@@ -1,10 +1,11 @@
--- `ivector_stream::new` meets its contract. Assumes nothing.
+-- `ivector_stream::new` meets its contract: refused, the rooms are as they were; taken, the record is the fresh one and each room has its first values.
+-- Once it is taken the rooms have the lengths that the functions below require.
 use borrow.Author.Needs.{needs}
-use mathlib.Core.Path.{sym, _∙_}
+use mathlib.Core.Path.{refl, sym, _∙_}
 use native.Mathlib.Omega.{arith}
-use Rattle.ivector_stream.specs.Calls.{freshStream, freshRooms}
+use Rattle.program.specs.Calls.{freshStream, freshRooms}
 use Rattle.ivector_stream.proofs.Refusals.{new-taken}
-use Rattle.ivector_stream.proofs.Replies.{new-refused, new-done, untouched, written}
+use Rattle.ivector_stream.proofs.Replies.{new-refused, new-done, untouched, written, rings-are, estimate-is, rooms-are}
 use Rattle.ivector_stream.proofs.new.Statement.{statement}
 use Rattle.ivector_stream.proofs.new.Tie as tie
 
@@ -12,48 +13,70 @@ new-refusal-requires : tie.Need-new-refusal-requires
 new-refusal-requires c κs = search needs
 
 returns : tie.Need-returns
-returns c = (new-refused _ _ _ _ (c .before .new-refusal .ensures) (c .if1 .taken), untouched _ _ _ (c .before .new-refusal .ensures) (c .if1 .taken), untouched _ _ _ (c .before .new-refusal .ensures) (c .if1 .taken), untouched _ _ _ (c .before .new-refusal .ensures) (c .if1 .taken), untouched _ _ _ (c .before .new-refusal .ensures) (c .if1 .taken), untouched _ _ _ (c .before .new-refusal .ensures) (c .if1 .taken))
+returns c = (new-refused _ _ _ (c .before .new-refusal .ensures) (c .if1 .taken), untouched _ _ _ (c .before .new-refusal .ensures) (c .if1 .taken))
 
 clear-requires : tie.Need-clear-requires
-clear-requires c κs = (new-taken _ _ _ (sym (c .before .before .before .new-refusal .ensures) ∙ c .before .before .if1 .left)) .row-long
+clear-requires c κs = new-taken _ _ _ (c .before .before .before .new-refusal .ensures) (c .before .before .if1 .left) .row-long
 
 add-clear : tie.Need-add-clear
-add-clear c = omega (arith, (new-taken _ _ _ (sym (c .before .before .before .before .before .before .before .before .new-refusal .ensures) ∙ c .before .before .before .before .before .before .before .if1 .left)) .dims-are)
+add-clear c =
+    let at-if1 = c .before .before .before .before .before .before .before in
+    let at-new-refusal = at-if1 .before in
+    omega (arith, new-taken _ _ _ (at-new-refusal .new-refusal .ensures) (at-if1 .if1 .left) .dims-are)
 
 clear-requires-2 : tie.Need-clear-requires-2
-clear-requires-2 c κs = (new-taken _ _ _ (sym (c .before .before .before .before .before .before .before .before .new-refusal .ensures) ∙ c .before .before .before .before .before .before .before .if1 .left)) .rooms-are .cmvn-fits
+clear-requires-2 c κs =
+    let at-if1 = c .before .before .before .before .before .before .before in
+    let at-new-refusal = at-if1 .before in
+    new-taken _ _ _ (at-new-refusal .new-refusal .ensures) (at-if1 .if1 .left) .rooms-are .cmvn-fits
 
 fresh-estimate-requires : tie.Need-fresh-estimate-requires
 fresh-estimate-requires c κs =
-    let k = new-taken _ _ _ (sym (c .before .before .before .before .before .before .before .before .before .before .before .before .before .before .new-refusal .ensures) ∙ c .before .before .before .before .before .before .before .before .before .before .before .before .before .if1 .left) in
+    let at-if1 = c .before .before .before .before .before .before .before .before .before .before .before .before .before in
+    let at-new-refusal = at-if1 .before in
+    let k = new-taken _ _ _ (at-new-refusal .new-refusal .ensures) (at-if1 .if1 .left) in
     (k .dims-are .some-ivector, k .dims-are .ivector-is, k .rooms-are .linear-fits, k .rooms-are .quadratic-fits, k .rooms-are .current-fits)
 
+reply-requires : tie.Need-reply-requires
+reply-requires c κs = λ h. (omega arith, omega arith)
+
 same-length : tie.Need-same-length
-same-length c = c .before .before .before .before .before .before .before .before .before .before .before .before .before .before .before .before .before .clear .kept .0
+same-length c =
+    let at-clear = c .before .before .before .before .before .before .before .before .before .before .before .before .before .before .before .before .before .before in
+    at-clear .clear .kept .0
 
 same-length-2 : tie.Need-same-length-2
-same-length-2 c = c .before .before .before .before .before .before .before .before .before .before .before .before .clear2 .kept .0
+same-length-2 c =
+    let at-clear2 = c .before .before .before .before .before .before .before .before .before .before .before .before .before in
+    at-clear2 .clear2 .kept .0
 
 same-length-3 : tie.Need-same-length-3
-same-length-3 c = c .before .before .before .before .before .before .fresh-estimate .kept .1 .1 .0
+same-length-3 c =
+    let at-fresh-estimate = c .before .before .before .before .before .before .before in
+    at-fresh-estimate .fresh-estimate .kept .1 .1 .0
 
 same-length-4 : tie.Need-same-length-4
-same-length-4 c = c .before .before .before .before .before .before .fresh-estimate .kept .1 .1 .1 .0
+same-length-4 c =
+    let at-fresh-estimate = c .before .before .before .before .before .before .before in
+    at-fresh-estimate .fresh-estimate .kept .1 .1 .1 .0
 
 same-length-5 : tie.Need-same-length-5
-same-length-5 c = c .before .before .before .before .before .before .fresh-estimate .kept .1 .1 .1 .1 .0
+same-length-5 c =
+    let at-fresh-estimate = c .before .before .before .before .before .before .before in
+    at-fresh-estimate .fresh-estimate .kept .1 .1 .1 .1 .0
 
 returns-2 : tie.Need-returns-2
 unfolding freshStream freshRooms
 returns-2 c =
-    let e = sym (c .before .before .before .before .before .before .before .before .before .before .before .before .before .before .before .before .before .before .before .before .if1 .left) ∙ c .before .before .before .before .before .before .before .before .before .before .before .before .before .before .before .before .before .before .before .before .before .new-refusal .ensures in (
-      new-done _ _ _ e,
-      written _ _ _ e (c .before .before .before .before .before .before .before .before .before .before .before .before .before .before .before .before .before .clear .ensures),
-      written _ _ _ e (c .before .before .before .before .before .before .before .before .before .before .before .before .clear2 .ensures),
-      written _ _ _ e (c .before .before .before .before .before .before .fresh-estimate .ensures .0),
-      written _ _ _ e (c .before .before .before .before .before .before .fresh-estimate .ensures .1),
-      written _ _ _ e (c .before .before .before .before .before .before .fresh-estimate .ensures .2),
-    )
+    let at-fresh-estimate = c .before .before .before .before .before .before .before in
+    let at-clear2 = at-fresh-estimate .before .before .before .before .before .before in
+    let at-clear = at-clear2 .before .before .before .before .before in
+    let at-if1 = at-clear .before .before .before in
+    let at-new-refusal = at-if1 .before in
+    let e = sym (at-if1 .if1 .left) ∙ at-new-refusal .new-refusal .ensures in
+    let rings = rings-are refl (at-clear .clear .ensures) refl refl in
+    let estimate = estimate-is (at-clear2 .clear2 .ensures) (at-fresh-estimate .fresh-estimate .ensures .0) (at-fresh-estimate .fresh-estimate .ensures .1) (at-fresh-estimate .fresh-estimate .ensures .2) in
+    (new-done _ _ _ e (c .reply .ensures), written _ _ _ e (rooms-are rings estimate))
 
 pub new-spec : {M : Type 1} → statement M
 new-spec =
@@ -65,6 +88,7 @@ new-spec =
     add-clear
     clear-requires-2
     fresh-estimate-requires
+    reply-requires
     same-length
     same-length-2
     same-length-3

@@ -1,4 +1,4 @@
--- `ivector_stream::num_frames_ready` meets its contract. Assumes nothing.
+-- `ivector_stream::num_frames_ready` meets its contract, which is that of its callee.
 use borrow.Author.Needs.{needs}
 use Rattle.ivector_stream.proofs.num_frames_ready.Statement.{statement}
 use Rattle.ivector_stream.proofs.num_frames_ready.Tie as tie

@@ -1,4 +1,4 @@
--- `ivector_stream::num_frames_stats` meets its contract. Assumes nothing.
+-- `ivector_stream::num_frames_stats` meets its contract: it reads a field.
 use mathlib.Core.Path.{refl}
 use Rattle.ivector_stream.proofs.num_frames_stats.Statement.{statement}
 use Rattle.ivector_stream.proofs.num_frames_stats.Tie as tie

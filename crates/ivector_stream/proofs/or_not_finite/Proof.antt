@@ -1,4 +1,4 @@
--- `ivector_stream::or_not_finite` meets its contract. Assumes nothing.
+-- `ivector_stream::or_not_finite` meets its contract: by the two cases of `bad`.
 use borrow.Author.Needs.{needs}
 use mathlib.Core.Path.{sym, ap, _∙_}
 use mathlib.Core.Bool.{not}
@@ -7,13 +7,13 @@ use Rattle.ivector_stream.proofs.or_not_finite.Statement.{statement}
 use Rattle.ivector_stream.proofs.or_not_finite.Tie as tie
 
 returns : tie.Need-returns
-returns c = sym (or-first _ _ ((c .if1) .taken))
+returns c = sym (or-first _ _ (c .if1 .taken))
 
 is-finite-requires : tie.Need-is-finite-requires
 is-finite-requires c κs = search needs
 
 returns-2 : tie.Need-returns-2
-returns-2 c = ap not ((c .is-finite) .ensures) ∙ sym (or-skip _ _ ((c .before .if1) .left))
+returns-2 c = ap not (c .is-finite .ensures) ∙ sym (or-skip _ _ (c .before .if1 .left))
 
 pub or-not-finite-spec : {M : Type 1} → statement M
 or-not-finite-spec =

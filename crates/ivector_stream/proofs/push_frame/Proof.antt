@@ -1,105 +1,143 @@
--- `ivector_stream::push_frame` meets its contract. Assumes nothing.
+-- `ivector_stream::push_frame` meets its contract: refused, all is as it was; taken, the frame is at its place, and its sums are in the next row.
+-- Once the push is taken the rings have whole rows, so that places lie within them and two rows one after the other lie apart.
 use borrow.Author.Needs.{needs}
-use mathlib.Core.Path.{_≡_, sym, ap, _∙_}
+use mathlib.Core.Path.{_≡_, refl}
 use Prim.Native.Nat.{_+_, _<_}
 use native.Mathlib.Omega.{arith}
 use lib.ListN.{length}
-use Rattle.definition.specs.declared.RoomLengths.{RoomLengths}
-use Rattle.loops.specs.Ring.{rowsIn}
-use Rattle.loops.specs.Steps.{place}
+use Rattle.loops.specs.Ring.{rowsIn, place}
 use Rattle.loops.proofs.Ring.{place-in}
-use Rattle.ivector_stream.specs.Calls.{pushRefusal}
-use Rattle.ivector_stream.specs.Lent.{ringsOf}
+use Rattle.program.specs.Rooms.{Rings, ringsFrom}
+use Rattle.program.specs.Calls.{RingStep, pushFrame}
 use Rattle.ivector_stream.proofs.Records.{few}
 use Rattle.ivector_stream.proofs.Refusals.{PushTaken, push-taken, push-few}
-use Rattle.ivector_stream.proofs.Replies.{refused, done, untouched, written}
+use Rattle.ivector_stream.proofs.Replies.{refused, done, rings-are}
 use Rattle.ivector_stream.proofs.Stored.{place-turned, place-after, pushed-frames, pushed-rows}
 use Rattle.ivector_stream.proofs.push_frame.Statement.{statement}
 use Rattle.ivector_stream.proofs.push_frame.Tie as tie
 
--- the refusal, by the lengths of the lent rooms
-number-is : (c : tie.After-push-refusal) → c .push-refusal .result ≡ pushRefusal (c .before .before .before .before .before .before .before .args .s) (ringsOf (length (c .before .before .before .before .before .before .before .args .frames .now)) (length (c .before .before .before .before .before .before .before .args .rows .now)) (length (c .before .before .before .before .before .before .before .args .waiting-frames .now)) (length (c .before .before .before .before .before .before .before .args .waiting-weights .now))) (c .before .before .before .before .before .before .before .args .waiting-frames .now) (c .before .before .before .before .before .before .before .args .frame .now)
-number-is c = c .push-refusal .ensures ∙ ap (λ (z : RoomLengths). pushRefusal (c .before .before .before .before .before .before .before .args .s) z (c .before .before .before .before .before .before .before .args .waiting-frames .now) (c .before .before .before .before .before .before .before .args .frame .now)) (c .before .rings .ensures)
+-- the rings that are lent, and what the call does
+abbrev lent : tie.Start → Rings
+lent start = ringsFrom (start .args .frames .now) (start .args .rows .now) (start .args .waiting-frames .now) (start .args .waiting-weights .now)
 
-known : (c : tie.Else1) → PushTaken (c .before .before .before .before .before .before .before .before .args .s) (ringsOf (length (c .before .before .before .before .before .before .before .before .args .frames .now)) (length (c .before .before .before .before .before .before .before .before .args .rows .now)) (length (c .before .before .before .before .before .before .before .before .args .waiting-frames .now)) (length (c .before .before .before .before .before .before .before .before .args .waiting-weights .now))) (c .before .before .before .before .before .before .before .before .args .waiting-frames .now) (c .before .before .before .before .before .before .before .before .args .frame .now)
-known c = push-taken _ _ _ _ (sym (number-is (c .before)) ∙ c .if1 .left)
+abbrev step : tie.Start → RingStep
+step start = pushFrame (start .args .s) (lent start) (start .args .frame .now)
 
-rings-requires : tie.Need-rings-requires
-rings-requires c κs = search needs
+-- once it is taken
+known : (c : tie.Else1) →
+    let start = c .before .before .before .before .before .before .before .before .before in
+    PushTaken (start .args .s) (lent start) (start .args .frame .now)
+known c = push-taken _ _ _ (c .before .push-refusal .ensures) (c .if1 .left)
+
+-- the row after, as a place of the ring
+next-is : (c : tie.After-row-after) →
+    let start = c .before .before .before .before .before .before .before .before .before .before .before .before .before .before .before .before .before .before in
+    c .row-after .result ≡ place (length (start .args .rows .now)) (start .args .s .info .dims .«base_dim») (start .args .s .accepted + 1)
+next-is c =
+    let at-if1 = c .before .before .before .before .before .before .before .before .before in
+    let k = known at-if1 in
+    place-turned _ _ _ (k .passed .dims-are .some-base) (omega (arith, k .passed .row-room)) (c .before .row-place2 .ensures) (c .row-after .ensures)
 
 push-refusal-requires : tie.Need-push-refusal-requires
 push-refusal-requires c κs = search needs
 
 reply-requires : tie.Need-reply-requires
-reply-requires c κs = λ h. push-few _ _ _ _ (λ e. h (c .before .push-refusal .ensures ∙ e))
+reply-requires c κs = push-few _ _ _ (c .before .push-refusal .ensures)
+
+same-length : tie.Need-same-length
+same-length c = refl
+
+same-length-2 : tie.Need-same-length-2
+same-length-2 c = refl
 
 returns : tie.Need-returns
-returns c = (c .reply .ensures ∙ refused _ _ _ _ (number-is (c .before .before)) (c .before .if1 .taken), untouched _ _ _ (number-is (c .before .before)) (c .before .if1 .taken), untouched _ _ _ (number-is (c .before .before)) (c .before .if1 .taken))
+returns c =
+    let start = c .before .before .before .before .before .before .before .before .before .before in
+    refused (start .args .s) (lent start) (step start) (c .before .before .push-refusal .ensures) (c .before .if1 .taken) (c .reply .ensures)
 
 row-place-requires : tie.Need-row-place-requires
 row-place-requires c κs = let k = known (c .before .before) in (k .passed .dims-are .some-base, k .passed .frame-room)
 
 put-frame-requires : tie.Need-put-frame-requires
-put-frame-requires c κs = let k = known (c .before .before .before .before) in omega (arith, place-in (length (c .before .before .before .before .before .before .before .before .before .before .before .before .args .frames .now)) (c .before .before .before .before .before .before .before .before .before .before .before .before .args .s .info .dims .«base_dim») (c .before .before .before .before .before .before .before .before .before .before .before .before .args .s .accepted) (k .passed .frame-room), c .before .row-place .ensures, k .wide)
+put-frame-requires c κs =
+    let at-if1 = c .before .before .before .before in
+    let start = at-if1 .before .before .before .before .before .before .before .before .before in
+    let k = known at-if1 in
+    omega (arith, place-in (length (start .args .frames .now)) (start .args .s .info .dims .«base_dim») (start .args .s .accepted) (k .passed .frame-room), c .before .row-place .ensures, k .wide)
 
 row-place-requires-2 : tie.Need-row-place-requires-2
-row-place-requires-2 c κs = let k = known (c .before .before .before .before .before .before .before) in (k .passed .dims-are .some-base, omega (arith, k .passed .row-room))
+row-place-requires-2 c κs =
+    let at-if1 = c .before .before .before .before .before .before .before in
+    let k = known at-if1 in (k .passed .dims-are .some-base, omega (arith, k .passed .row-room))
 
 row-after-requires : tie.Need-row-after-requires
 row-after-requires c κs =
-    let k = known (c .before .before .before .before .before .before .before .before) in
-    let a = c .before .before .before .before .before .before .before .before .before .before .before .before .before .before .before .before .args in
-    (k .passed .dims-are .base-is, omega (arith, place-in (length (a .rows .now)) (a .s .info .dims .«base_dim») (a .s .accepted) (omega (arith, k .passed .row-room)), c .row-place2 .ensures))
-
--- the row after, as a place of the ring
-next-is : (c : tie.After-row-after) →
-    let a = c .before .before .before .before .before .before .before .before .before .before .before .before .before .before .before .before .before .args in
-    c .row-after .result ≡ place (length (a .rows .now)) (a .s .info .dims .«base_dim») (a .s .accepted + 1)
-next-is c =
-    let k = known (c .before .before .before .before .before .before .before .before .before) in
-    place-turned _ _ _ (k .passed .dims-are .some-base) (omega (arith, k .passed .row-room)) (c .before .row-place2 .ensures) (c .row-after .ensures)
+    let at-if1 = c .before .before .before .before .before .before .before .before in
+    let start = at-if1 .before .before .before .before .before .before .before .before .before in
+    let k = known at-if1 in
+    let some : 0 < rowsIn (length (start .args .rows .now)) (start .args .s .info .dims .«base_dim») = omega (arith, k .passed .row-room) in
+    (k .passed .dims-are .base-is, omega (arith, place-in (length (start .args .rows .now)) (start .args .s .info .dims .«base_dim») (start .args .s .accepted) some, c .row-place2 .ensures))
 
 add-frame-requires : tie.Need-add-frame-requires
 add-frame-requires c κs =
-    let k = known (c .before .before .before .before .before .before .before .before .before .before) in
-    let a = c .before .before .before .before .before .before .before .before .before .before .before .before .before .before .before .before .before .before .args in
-    let n = length (a .rows .now) in
-    let b = a .s .info .dims .«base_dim» in
-    let t = a .s .accepted in
+    let at-row-place2 = c .before .before in
+    let at-if1 = at-row-place2 .before .before .before .before .before .before .before .before in
+    let start = at-if1 .before .before .before .before .before .before .before .before .before in
+    let k = known at-if1 in
+    let n = length (start .args .rows .now) in
+    let b = start .args .s .info .dims .«base_dim» in
+    let t = start .args .s .accepted in
     let some : 0 < rowsIn n b = omega (arith, k .passed .row-room) in (
-      omega (arith, place-in n b t some, c .before .before .row-place2 .ensures, k .wide),
+      omega (arith, place-in n b t some, at-row-place2 .row-place2 .ensures, k .wide),
       omega (arith, place-in n b (t + 1) some, next-is (c .before), k .wide),
-      place-after n b t (k .passed .row-room) (k .wide) (c .before .before .row-place2 .ensures) (next-is (c .before)),
+      place-after n b t (k .passed .row-room) (k .wide) (at-row-place2 .row-place2 .ensures) (next-is (c .before)),
     )
 
 add-s : tie.Need-add-s
-add-s c = omega (arith, known (c .before .before .before .before .before .before .before .before .before .before .before .before .before .before) .more)
+add-s c =
+    let at-if1 = c .before .before .before .before .before .before .before .before .before .before .before .before .before .before in
+    omega (arith, known at-if1 .more)
 
 reply-requires-2 : tie.Need-reply-requires-2
-reply-requires-2 c κs = λ h. let k = known (c .before .before .before .before .before .before .before .before .before .before .before .before .before .before) in (omega (arith, k .more), few _ _ _ (k .passed) .1)
+reply-requires-2 c κs =
+    let at-if1 = c .before .before .before .before .before .before .before .before .before .before .before .before .before .before in
+    λ h. let k = known at-if1 in (omega (arith, k .more), few _ _ (k .passed) .1)
 
-same-length : tie.Need-same-length
-same-length c = c .before .before .before .before .before .before .before .before .before .before .put-frame .kept .0
+same-length-3 : tie.Need-same-length-3
+same-length-3 c =
+    let at-put-frame = c .before .before .before .before .before .before .before .before .before .before in
+    at-put-frame .put-frame .kept .0
 
-same-length-2 : tie.Need-same-length-2
-same-length-2 c = c .before .before .before .before .add-frame .kept .0
+same-length-4 : tie.Need-same-length-4
+same-length-4 c =
+    let at-add-frame = c .before .before .before .before in
+    at-add-frame .add-frame .kept .0
 
 returns-2 : tie.Need-returns-2
+unfolding pushFrame
 returns-2 c =
-    let a = c .before .before .before .before .before .before .before .before .before .before .before .before .before .before .before .before .before .before .before .before .before .before .before .args in
-    let e = sym (c .before .before .before .before .before .before .before .before .before .before .before .before .before .before .before .if1 .left) ∙ number-is (c .before .before .before .before .before .before .before .before .before .before .before .before .before .before .before .before) in (
-      c .reply2 .ensures ∙ done _ _ _ e,
-      written _ _ _ e (pushed-frames (a .s) (a .frame .now) (a .frames .now) (c .before .before .before .before .before .before .before .before .before .before .before .before .row-place .ensures) (c .before .before .before .before .before .before .before .before .before .before .put-frame .ensures)),
-      written _ _ _ e (pushed-rows (a .s) (a .frame .now) (a .rows .now) (known (c .before .before .before .before .before .before .before .before .before .before .before .before .before .before .before) .wide) (c .before .before .before .before .before .before .before .row-place2 .ensures) (next-is (c .before .before .before .before .before .before)) (c .before .before .before .before .add-frame .ensures)),
-    )
+    let at-add-frame = c .before .before .before .before in
+    let at-row-after = at-add-frame .before .before in
+    let at-row-place2 = at-row-after .before in
+    let at-put-frame = at-row-place2 .before .before .before in
+    let at-row-place = at-put-frame .before .before in
+    let at-if1 = at-row-place .before .before .before in
+    let at-push-refusal = at-if1 .before in
+    let start = at-push-refusal .before .before .before .before .before .before .before .before in
+    let s = start .args .s in
+    let x = start .args .frame .now in
+    done s (lent start) (step start) (at-push-refusal .push-refusal .ensures) (at-if1 .if1 .left) (c .reply2 .ensures) (rings-are
+    (pushed-frames s x (start .args .frames .now) (at-row-place .row-place .ensures) (at-put-frame .put-frame .ensures))
+    (pushed-rows s x (start .args .rows .now) (known at-if1 .wide) (at-row-place2 .row-place2 .ensures) (next-is at-row-after) (at-add-frame .add-frame .ensures)) refl refl)
 
 pub push-frame-spec : {M : Type 1} → statement M
 push-frame-spec =
     tie.close
     (tie.spec
-    rings-requires
     push-refusal-requires
     reply-requires
+    same-length
+    same-length-2
     returns
     row-place-requires
     put-frame-requires
@@ -108,6 +146,6 @@ push-frame-spec =
     add-frame-requires
     add-s
     reply-requires-2
-    same-length
-    same-length-2
+    same-length-3
+    same-length-4
     returns-2)

@@ -1,4 +1,4 @@
--- `ivector_stream::put_frame` meets its contract. Assumes nothing.
+-- `ivector_stream::put_frame` meets its contract: after d turns the first d numbers are put.
 use borrow.Author.Needs.{needs}
 use Prim.Native.Nat.{_≤_, _-_}
 use mathlib.Core.Path.{_≡_, refl}
@@ -6,7 +6,7 @@ use lib.ListN.{length, getD}
 use native.Mathlib.Omega.{arith}
 use lib.Ieee.{nan}
 use Rattle.loops.specs.Lists.{build}
-use Rattle.loops.specs.Steps.{put}
+use Rattle.loops.specs.Ring.{put}
 use Rattle.loops.proofs.Fill.{puts, put-turn}
 use Rattle.ivector_stream.proofs.Stored.{copied}
 use Rattle.ivector_stream.proofs.put_frame.Statement.{statement}
@@ -50,7 +50,9 @@ same-length : tie.Need-same-length Inv-loop μ-loop
 same-length c = search needs
 
 returns : tie.Need-returns Inv-loop μ-loop
-returns c = copied nan (c .before .before .args .a) (c .before .loop .d) (c .before .before .args .frame .now) (c .before .before .args .frames .now) (omega arith) (omega arith) (c .before .loop .inv .3)
+returns c =
+    let start = c .before .before in
+    copied nan (start .args .a) (c .before .loop .d) (start .args .frame .now) (start .args .frames .now) (omega arith) (omega arith) (c .before .loop .inv .3)
 
 pub put-frame-spec : {M : Type 1} → statement M
 put-frame-spec =

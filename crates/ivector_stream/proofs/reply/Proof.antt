@@ -1,4 +1,4 @@
--- `ivector_stream::reply` meets its contract. Assumes nothing.
+-- `ivector_stream::reply` meets its contract: by whether the number is 10.
 use borrow.Author.Needs.{needs}
 use Rattle.ivector_stream.proofs.Replies.{reply-10, reply-held}
 use Rattle.ivector_stream.proofs.reply.Statement.{statement}
@@ -11,10 +11,14 @@ frames-held-requires : tie.Need-frames-held-requires
 frames-held-requires c κs = search needs
 
 rows-held-requires : tie.Need-rows-held-requires
-rows-held-requires c κs = (c .before .before .before .before .pre) (c .before .before .before .if1 .left)
+rows-held-requires c κs =
+    let start = c .before .before .before .before in
+    (start .pre) (c .before .before .before .if1 .left)
 
 returns-2 : tie.Need-returns-2
-returns-2 c = reply-held _ _ _ (c .before .before .before .before .if1 .left) (c .before .frames-held .ensures) (c .rows-held .ensures)
+returns-2 c =
+    let at-if1 = c .before .before .before .before in
+    reply-held _ _ _ (at-if1 .if1 .left) (c .before .frames-held .ensures) (c .rows-held .ensures)
 
 pub reply-spec : {M : Type 1} → statement M
 reply-spec =

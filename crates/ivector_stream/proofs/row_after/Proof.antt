@@ -1,4 +1,4 @@
--- `ivector_stream::row_after` meets its contract. Assumes nothing.
+-- `ivector_stream::row_after` meets its contract: by the two cases of its test.
 use borrow.Author.Needs.{needs}
 use borrow.Author.Tests.{le-leb, lt-leb}
 use Rattle.loops.proofs.Choose.{choose-true, choose-false}
@@ -16,10 +16,10 @@ add-result : tie.Need-add-result
 add-result c = search needs
 
 returns : tie.Need-returns
-returns c = choose-true 0 (le-leb _ _ ((c .if1) .taken)) refl
+returns c = choose-true 0 (le-leb _ _ (c .if1 .taken)) refl
 
 returns-2 : tie.Need-returns-2
-returns-2 c = choose-false _ (lt-leb _ _ ((c .if1) .left)) refl
+returns-2 c = choose-false _ (lt-leb _ _ (c .if1 .left)) refl
 
 pub row-after-spec : {M : Type 1} → statement M
 row-after-spec =

@@ -1,40 +1,47 @@
--- `ivector_stream::update_frame_weights` meets its contract. Assumes nothing.
+-- `ivector_stream::update_frame_weights` meets its contract: refused, all is as it was; taken, the two lists have the changes inserted.
+-- Once the change is taken there is room for it, and the waiting frames are in order.
 use borrow.Author.Needs.{needs}
-use mathlib.Core.Path.{_≡_, refl, sym, ap, _∙_}
+use mathlib.Core.Path.{refl, sym, ap, _∙_}
 use native.Mathlib.Omega.{arith}
-use lib.ListN.{length}
 use Rattle.definition.specs.declared.IvectorStream.{IvectorStream}
-use Rattle.definition.specs.declared.RoomLengths.{RoomLengths}
 use Rattle.definition.specs.Changes.{changed}
-use Rattle.ivector_stream.specs.Calls.{callOf, changeRefusal}
-use Rattle.ivector_stream.specs.Lent.{ringsOf}
+use Rattle.program.specs.Rooms.{Rings, ringsFrom}
+use Rattle.program.specs.Calls.{callOf, RingStep, updateFrameWeights}
 use Rattle.ivector_stream.proofs.Records.{few}
 use Rattle.ivector_stream.proofs.Refusals.{ChangeTaken, change-taken, change-few}
-use Rattle.ivector_stream.proofs.Replies.{refused, done, untouched, written, changed-stream}
+use Rattle.ivector_stream.proofs.Replies.{refused, done, rings-are, changed-stream}
 use Rattle.ivector_stream.proofs.update_frame_weights.Statement.{statement}
 use Rattle.ivector_stream.proofs.update_frame_weights.Tie as tie
 
--- the refusal, by the lengths of the lent rooms
-number-is : (c : tie.After-change-refusal) → c .change-refusal .result ≡ changeRefusal (c .before .before .before .before .before .before .before .before .before .args .s) (ringsOf (length (c .before .before .before .before .before .before .before .before .before .args .frames .now)) (length (c .before .before .before .before .before .before .before .before .before .args .rows .now)) (length (c .before .before .before .before .before .before .before .before .before .args .waiting-frames .now)) (length (c .before .before .before .before .before .before .before .before .before .args .waiting-weights .now))) (c .before .before .before .before .before .before .before .before .before .args .waiting-frames .now) (c .before .before .before .before .before .before .before .before .before .args .delta-frames .now) (c .before .before .before .before .before .before .before .before .before .args .delta-weights .now)
-number-is c = c .change-refusal .ensures ∙ ap (λ (z : RoomLengths). changeRefusal (c .before .before .before .before .before .before .before .before .before .args .s) z (c .before .before .before .before .before .before .before .before .before .args .waiting-frames .now) (c .before .before .before .before .before .before .before .before .before .args .delta-frames .now) (c .before .before .before .before .before .before .before .before .before .args .delta-weights .now)) (c .before .before .rings .ensures)
+-- the rings that are lent, and what the call does
+abbrev lent : tie.Start → Rings
+lent start = ringsFrom (start .args .frames .now) (start .args .rows .now) (start .args .waiting-frames .now) (start .args .waiting-weights .now)
 
-known : (c : tie.Else1) → ChangeTaken (c .before .before .before .before .before .before .before .before .before .before .args .s) (ringsOf (length (c .before .before .before .before .before .before .before .before .before .before .args .frames .now)) (length (c .before .before .before .before .before .before .before .before .before .before .args .rows .now)) (length (c .before .before .before .before .before .before .before .before .before .before .args .waiting-frames .now)) (length (c .before .before .before .before .before .before .before .before .before .before .args .waiting-weights .now))) (c .before .before .before .before .before .before .before .before .before .before .args .waiting-frames .now) (c .before .before .before .before .before .before .before .before .before .before .args .delta-frames .now) (c .before .before .before .before .before .before .before .before .before .before .args .delta-weights .now)
-known c = change-taken _ _ _ _ _ (sym (number-is (c .before)) ∙ c .if1 .left)
+abbrev step : tie.Start → RingStep
+step start = updateFrameWeights (start .args .s) (lent start) (start .args .delta-frames .now) (start .args .delta-weights .now)
 
-rings-requires : tie.Need-rings-requires
-rings-requires c κs = search needs
+-- once it is taken
+known : (c : tie.Else1) →
+    let start = c .before .before .before .before .before .before .before .before .before .before in
+    ChangeTaken (start .args .s) (lent start) (start .args .delta-frames .now) (start .args .delta-weights .now)
+known c = change-taken _ _ _ _ (c .before .change-refusal .ensures) (c .if1 .left)
 
 change-refusal-requires : tie.Need-change-refusal-requires
 change-refusal-requires c κs = search needs
 
 reply-requires : tie.Need-reply-requires
-reply-requires c κs = λ h. change-few _ _ _ _ _ (λ e. h (c .before .change-refusal .ensures ∙ e))
+reply-requires c κs = change-few _ _ _ _ (c .before .change-refusal .ensures)
 
 same-length : tie.Need-same-length
 same-length c = refl
 
+same-length-2 : tie.Need-same-length-2
+same-length-2 c = refl
+
 returns : tie.Need-returns
-returns c = (c .reply .ensures ∙ refused _ _ _ _ (number-is (c .before .before)) (c .before .if1 .taken), untouched _ _ _ (number-is (c .before .before)) (c .before .if1 .taken), untouched _ _ _ (number-is (c .before .before)) (c .before .if1 .taken))
+returns c =
+    let start = c .before .before .before .before .before .before .before .before .before .before .before in
+    refused (start .args .s) (lent start) (step start) (c .before .before .change-refusal .ensures) (c .before .if1 .taken) (c .reply .ensures)
 
 update-frame-weights-requires : tie.Need-update-frame-weights-requires
 update-frame-weights-requires c κs =
@@ -42,40 +49,50 @@ update-frame-weights-requires c κs =
     (omega (arith, k .room-is, k .passed), omega (arith, k .room-is, k .passed), sym (k .even), k .passed .whole-is .in-order, k .near)
 
 add-s : tie.Need-add-s
-add-s c = let k = known (c .before .before .before .before .before .before .before .before) in omega (arith, k .room-is, k .passed)
+add-s c =
+    let at-if1 = c .before .before .before .before .before .before .before .before in
+    let k = known at-if1 in omega (arith, k .room-is, k .passed)
 
 reply-requires-2 : tie.Need-reply-requires-2
-reply-requires-2 c κs = λ h. few _ _ _ (known (c .before .before .before .before .before .before .before .before) .passed)
-
-same-length-2 : tie.Need-same-length-2
-same-length-2 c = c .before .before .before .before .before .before .update-frame-weights .kept .0
+reply-requires-2 c κs =
+    let at-if1 = c .before .before .before .before .before .before .before .before in
+    λ h. few _ _ (known at-if1 .passed)
 
 same-length-3 : tie.Need-same-length-3
-same-length-3 c = c .before .before .before .before .before .before .update-frame-weights .kept .1 .0
+same-length-3 c =
+    let at-update-frame-weights = c .before .before .before .before .before .before in
+    at-update-frame-weights .update-frame-weights .kept .0
+
+same-length-4 : tie.Need-same-length-4
+same-length-4 c =
+    let at-update-frame-weights = c .before .before .before .before .before .before in
+    at-update-frame-weights .update-frame-weights .kept .1 .0
 
 returns-2 : tie.Need-returns-2
-unfolding changed
+unfolding changed updateFrameWeights
 returns-2 c =
-    let e = sym (c .before .before .before .before .before .before .before .before .before .if1 .left) ∙ number-is (c .before .before .before .before .before .before .before .before .before .before) in
-    let s = c .before .before .before .before .before .before .before .before .before .before .before .before .before .before .before .before .before .before .before .args .s in
-    let next = changed-stream s (c .before .before .before .before .before .before .before .before .before .before .before .before .before .before .before .before .before .before .before .args .waiting-frames .now) (c .before .before .before .before .before .before .before .before .before .before .before .before .before .before .before .before .before .before .before .args .delta-frames .now) (c .before .before .before .before .before .before .before .before .before .before .before .before .before .before .before .before .before .before .before .args .waiting-weights .now) (c .before .before .before .before .before .before .before .before .before .before .before .before .before .before .before .before .before .before .before .args .delta-weights .now) (c .before .before .before .before .before .before .update-frame-weights .ensures .2) in (
-      c .reply2 .ensures ∙ ap (λ (t : IvectorStream). callOf 0 t 0) next ∙ done _ _ _ e,
-      written _ _ _ e (c .before .before .before .before .before .before .update-frame-weights .ensures .0),
-      written _ _ _ e (c .before .before .before .before .before .before .update-frame-weights .ensures .1),
-    )
+    let at-update-frame-weights = c .before .before .before .before .before .before in
+    let at-if1 = at-update-frame-weights .before .before .before in
+    let at-change-refusal = at-if1 .before in
+    let start = at-change-refusal .before .before .before .before .before .before .before .before .before in
+    let s = start .args .s in
+    let z = lent start in
+    let next = changed-stream s z (start .args .delta-frames .now) (start .args .delta-weights .now) (at-update-frame-weights .update-frame-weights .ensures .2) in
+    done s z (step start) (at-change-refusal .change-refusal .ensures) (at-if1 .if1 .left) (c .reply2 .ensures ∙ ap (λ (t : IvectorStream). callOf 0 t 0) next)
+    (rings-are refl refl (at-update-frame-weights .update-frame-weights .ensures .0) (at-update-frame-weights .update-frame-weights .ensures .1))
 
 pub update-frame-weights-spec : {M : Type 1} → statement M
 update-frame-weights-spec =
     tie.close
     (tie.spec
-    rings-requires
     change-refusal-requires
     reply-requires
     same-length
+    same-length-2
     returns
     update-frame-weights-requires
     add-s
     reply-requires-2
-    same-length-2
     same-length-3
+    same-length-4
     returns-2)

@@ -1,56 +1,89 @@
+-- `acc_until` meets its contract: a branch takes the one batch or the other, as `batchOf` says.
+use borrow.Author.Needs.{needs}
 use mathlib.Core.Path.{refl}
-use Prim.Native.Nat.{_-_}
 use native.Mathlib.Omega.{arith}
-use lib.ListN.{length}
-use Rattle.frame_views.specs.Ring.{ringFrames}
-use Rattle.ivector_stats.specs.Steps.{statsIn}
 use Rattle.loops.proofs.Choose.{choose-true, choose-false}
-use Rattle.ivector_update.specs.Steps.{modelOf, run}
+use Rattle.definition.specs.Model.{tablesFrom, Model, model}
+use Rattle.definition.specs.Views.{Frames}
+use Rattle.definition.specs.Statistics.{Stats}
+use Rattle.program.specs.Rooms.{ringFrames}
+use Rattle.ivector_stats.specs.Steps.{statsIn}
 use Rattle.ivector_update.proofs.Updated.{same-batch}
 use Rattle.ivector_update.proofs.acc_until.Statement.{statement}
 use Rattle.ivector_update.proofs.acc_until.Tie as tie
 
+abbrev whole : (c : tie.Start) → Model
+whole c =
+    let a = c .args in
+    model (a .info) (tablesFrom (a .gconsts .now) (a .means-invvars-t .now) (a .inv-vars-t .now) (a .sigma-inv-m .now) (a .u .now) (a .lda-t .now) (a .lda-offset .now) (a .global .now))
+
+abbrev seen-frames : (c : tie.Start) → Frames
+seen-frames c =
+    let a = c .args in
+    ringFrames (a .info .dims .«base_dim») (a .accepted) (a .frames .now) (a .rows .now)
+
+abbrev stats : (c : tie.Start) → Stats
+stats c = statsIn (c .args .num-frames) (c .args .linear .now) (c .args .quadratic .now)
+
 acc-changes-requires : tie.Need-acc-changes-requires
-acc-changes-requires c κs = ((c .before .before .before .before .before .before .before .before .before .before .before .before .before .before .before .before .before .before .before .before .before .pre) .0, ((c .before .before .before .before .before .before .before .before .before .before .before .before .before .before .before .before .before .before .before .before .before .pre) .1 .0, ((c .before .before .before .before .before .before .before .before .before .before .before .before .before .before .before .before .before .before .before .before .before .pre) .1 .1 .0, ((c .before .before .before .before .before .before .before .before .before .before .before .before .before .before .before .before .before .before .before .before .before .pre) .1 .1 .1 .2, (c .before .before .before .before .before .before .before .before .before .before .before .before .before .before .before .before .before .before .before .before .before .pre) .1 .1 .1 .3, (c .before .before .before .before .before .before .before .before .before .before .before .before .before .before .before .before .before .before .before .before .before .pre) .1 .1 .1 .4))))
+acc-changes-requires c κs =
+    let start = c .before .before .before .before .before .before .before .before .before .before .before .before .before .before .before .before .before .before .before .before .before in
+    let (lends, (fit, (_, _, frames-in, weights-in, below))) = start .pre in
+    (lends, (fit, (frames-in, weights-in, below)))
 
 same-length : tie.Need-same-length
-same-length c = (c .before .before .before .before .before .before .before .before .acc-changes) .kept .1 .1 .1 .1 .1 .1 .1 .1 .1 .1 .1 .1 .1 .1 .1 .0
+same-length c = search needs
 
 same-length-2 : tie.Need-same-length-2
-same-length-2 c = (c .before .before .before .before .before .before .before .before .acc-changes) .kept .1 .1 .1 .1 .1 .1 .1 .1 .1 .1 .1 .1 .1 .1 .1 .1 .1 .0
+same-length-2 c = search needs
 
 same-length-3 : tie.Need-same-length-3
-same-length-3 c = (c .before .before .before .before .before .before .before .before .acc-changes) .kept .1 .1 .1 .1 .1 .1 .1 .1 .1 .1 .1 .1 .1 .1 .1 .1 .1 .1 .0
+same-length-3 c = search needs
 
 same-length-4 : tie.Need-same-length-4
-same-length-4 c = (c .before .before .before .before .before .before .before .before .acc-changes) .kept .1 .1 .1 .1 .1 .1 .1 .1 .1 .1 .1 .1 .1 .1 .1 .1 .1 .1 .1 .0
+same-length-4 c = search needs
 
 returns : tie.Need-returns
-returns c = let a = (c .before .before .before .before .before .before .before .before .before .before .before .before .before .before .before .before .before .before .before .before .before .before .before .before .before .before .before .before .before .before .args) in same-batch (modelOf (a .info) (a .gconsts .now) (a .means-invvars-t .now) (a .inv-vars-t .now) (a .sigma-inv-m .now) (a .u .now) (a .lda-t .now) (a .lda-offset .now) (a .global .now)) (ringFrames (a .info .dims .«base_dim») (a .accepted) (a .frames .now) (a .rows .now)) (a .cmvn .now) (statsIn (a .num-frames) (a .linear .now) (a .quadratic .now)) (choose-true _ ((c .before .before .before .before .before .before .before .before .before .before .before .before .before .if1) .taken) refl) ((c .before .before .before .before .before .before .before .before .acc-changes) .ensures)
+returns c =
+    let at-acc-changes = c .before .before .before .before .before .before .before .before in
+    let at-if1 = at-acc-changes .before .before .before .before .before in
+    let start = at-if1 .before .before .before .before .before .before .before .before .before .before .before .before .before .before .before .before .before in
+    same-batch (whole start) (seen-frames start) (start .args .cmvn .now) (stats start) (choose-true _ (at-if1 .if1 .taken) refl) (at-acc-changes .acc-changes .ensures)
 
 add-acc-run : tie.Need-add-acc-run
-add-acc-run c = omega (arith, (c .before .before .before .before .before .before .before .before .before .before .before .before .before .before .before .before .before .pre) .1 .1 .1 .1, (c .before .before .before .before .before .before .before .before .before .before .before .before .before .before .before .before .before .pre) .0 .few)
+add-acc-run c =
+    let start = c .before .before .before .before .before .before .before .before .before .before .before .before .before .before .before .before .before in
+    omega (arith, start .pre .1 .1 .1, start .pre .0 .few)
 
 sub-acc-run : tie.Need-sub-acc-run
-sub-acc-run c = omega (arith, (c .before .before .before .before .before .before .before .before .before .before .before .before .before .before .before .before .before .pre) .1 .1 .1 .0)
+sub-acc-run c =
+    let start = c .before .before .before .before .before .before .before .before .before .before .before .before .before .before .before .before .before in
+    omega (arith, start .pre .1 .1 .0)
 
 acc-run-requires : tie.Need-acc-run-requires
-acc-run-requires c κs = ((c .before .before .before .before .before .before .before .before .before .before .before .before .before .before .before .before .before .before .before .before .before .pre) .0, ((c .before .before .before .before .before .before .before .before .before .before .before .before .before .before .before .before .before .before .before .before .before .pre) .1 .0, ((c .before .before .before .before .before .before .before .before .before .before .before .before .before .before .before .before .before .before .before .before .before .pre) .1 .1 .0, (omega (arith, (c .before .before .before .before .before .before .before .before .before .before .before .before .before .before .before .before .before .before .before .before .before .pre) .1 .1 .1 .0, (c .before .before .before .before .before .before .before .before .before .before .before .before .before .before .before .before .before .before .before .before .before .pre) .1 .1 .1 .1), omega (arith, (c .before .before .before .before .before .before .before .before .before .before .before .before .before .before .before .before .before .before .before .before .before .pre) .1 .1 .1 .0)))))
+acc-run-requires c κs =
+    let start = c .before .before .before .before .before .before .before .before .before .before .before .before .before .before .before .before .before .before .before .before .before in
+    let (lends, (fit, (up, below, _, _, _))) = start .pre in
+    (lends, (fit, (omega (arith, up, below), omega (arith, up))))
 
 same-length-5 : tie.Need-same-length-5
-same-length-5 c = (c .before .before .before .before .before .before .before .before .acc-run) .kept .1 .1 .1 .1 .1 .1 .1 .1 .1 .1 .1 .1 .1 .1 .0
+same-length-5 c = search needs
 
 same-length-6 : tie.Need-same-length-6
-same-length-6 c = (c .before .before .before .before .before .before .before .before .acc-run) .kept .1 .1 .1 .1 .1 .1 .1 .1 .1 .1 .1 .1 .1 .1 .1 .1 .0
+same-length-6 c = search needs
 
 same-length-7 : tie.Need-same-length-7
-same-length-7 c = (c .before .before .before .before .before .before .before .before .acc-run) .kept .1 .1 .1 .1 .1 .1 .1 .1 .1 .1 .1 .1 .1 .1 .1 .1 .1 .0
+same-length-7 c = search needs
 
 same-length-8 : tie.Need-same-length-8
-same-length-8 c = (c .before .before .before .before .before .before .before .before .acc-run) .kept .1 .1 .1 .1 .1 .1 .1 .1 .1 .1 .1 .1 .1 .1 .1 .1 .1 .1 .0
+same-length-8 c = search needs
 
 returns-2 : tie.Need-returns-2
-returns-2 c = let a = (c .before .before .before .before .before .before .before .before .before .before .before .before .before .before .before .before .before .before .before .before .before .before .before .before .before .before .before .before .before .before .args) in same-batch (modelOf (a .info) (a .gconsts .now) (a .means-invvars-t .now) (a .inv-vars-t .now) (a .sigma-inv-m .now) (a .u .now) (a .lda-t .now) (a .lda-offset .now) (a .global .now)) (ringFrames (a .info .dims .«base_dim») (a .accepted) (a .frames .now) (a .rows .now)) (a .cmvn .now) (statsIn (a .num-frames) (a .linear .now) (a .quadratic .now)) (choose-false _ ((c .before .before .before .before .before .before .before .before .before .before .before .before .before .if1) .left) refl) ((c .before .before .before .before .before .before .before .before .acc-run) .ensures)
+returns-2 c =
+    let at-acc-run = c .before .before .before .before .before .before .before .before in
+    let at-if1 = at-acc-run .before .before .before .before .before in
+    let start = at-if1 .before .before .before .before .before .before .before .before .before .before .before .before .before .before .before .before .before in
+    same-batch (whole start) (seen-frames start) (start .args .cmvn .now) (stats start) (choose-false _ (at-if1 .if1 .left) refl) (at-acc-run .acc-run .ensures)
 
 pub acc-until-spec : {M : Type 1} → statement M
 acc-until-spec =

@@ -1,3 +1,4 @@
+-- `change_frame` meets its contract: an element of a slice.
 use borrow.Author.Needs.{needs}
 use Rattle.ivector_update.proofs.change_frame.Statement.{statement}
 use Rattle.ivector_update.proofs.change_frame.Tie as tie

@@ -1,37 +1,59 @@
+-- `take_frame_in` meets its contract: the normalised row and then the raw one, each through the LDA, and the frame's entries by `acc_frame`. The
+-- raw row leaves the CMVN state as the normalised one left it.
+use borrow.Author.Needs.{needs}
 use mathlib.Core.Path.{_∙_}
 use native.Mathlib.Omega.{arith}
+use Rattle.ivector_update.proofs.Rooms.{lent-on}
 use Rattle.ivector_update.proofs.take_frame_in.Statement.{statement}
 use Rattle.ivector_update.proofs.take_frame_in.Tie as tie
 
 lda-frame-requires : tie.Need-lda-frame-requires
-lda-frame-requires c κs = ((c .before .before .before .before .before .before .before .before .before .before .before .before .before .before .before .before .before .before .pre) .0, ((c .before .before .before .before .before .before .before .before .before .before .before .before .before .before .before .before .before .before .pre) .1 .1 .0, (c .before .before .before .before .before .before .before .before .before .before .before .before .before .before .before .before .before .before .pre) .1 .0 .left-in, (c .before .before .before .before .before .before .before .before .before .before .before .before .before .before .before .before .before .before .pre) .1 .0 .right-in, (c .before .before .before .before .before .before .before .before .before .before .before .before .before .before .before .before .before .before .pre) .1 .0 .base-in, (c .before .before .before .before .before .before .before .before .before .before .before .before .before .before .before .before .before .before .pre) .1 .0 .lda-fits, (c .before .before .before .before .before .before .before .before .before .before .before .before .before .before .before .before .before .before .pre) .1 .0 .offset-fits, (c .before .before .before .before .before .before .before .before .before .before .before .before .before .before .before .before .before .before .pre) .1 .1 .1))
+lda-frame-requires c κs =
+    let start = c .before .before .before .before .before .before .before .before .before .before .before .before .before .before .before .before .before .before in
+    let (lends, (r, (below, long, _, _))) = start .pre in
+    (lends, (below, r .left-in, r .right-in, r .base-in, r .lda-fits, r .offset-fits, long))
 
 lda-frame-requires-2 : tie.Need-lda-frame-requires-2
-lda-frame-requires-2 c κs = (record { some = (c .before .before .before .before .before .before .before .before .before .before .before .before .before .before .before .before .before .before .before .before .before .before .before .before .before .pre) .0 .some; frame-room = (c .before .before .before .before .before .before .before .before .before .before .before .before .before .before .before .before .before .before .before .before .before .before .before .before .before .pre) .0 .frame-room; row-room = (c .before .before .before .before .before .before .before .before .before .before .before .before .before .before .before .before .before .before .before .before .before .before .before .before .before .pre) .0 .row-room; global-long = (c .before .before .before .before .before .before .before .before .before .before .before .before .before .before .before .before .before .before .before .before .before .before .before .before .before .pre) .0 .global-long; state-long = (c .before .before .before .before .before .before .lda-frame) .kept .1 .1 .1 .1 .1 .1 .1 .1 .1 .1 .1 .0 ∙ (c .before .before .before .before .before .before .before .before .before .before .before .before .before .before .before .before .before .before .before .before .before .before .before .before .before .pre) .0 .state-long; few = (c .before .before .before .before .before .before .before .before .before .before .before .before .before .before .before .before .before .before .before .before .before .before .before .before .before .pre) .0 .few }, ((c .before .before .before .before .before .before .before .before .before .before .before .before .before .before .before .before .before .before .before .before .before .before .before .before .before .pre) .1 .1 .0, (c .before .before .before .before .before .before .before .before .before .before .before .before .before .before .before .before .before .before .before .before .before .before .before .before .before .pre) .1 .0 .left-in, (c .before .before .before .before .before .before .before .before .before .before .before .before .before .before .before .before .before .before .before .before .before .before .before .before .before .pre) .1 .0 .right-in, (c .before .before .before .before .before .before .before .before .before .before .before .before .before .before .before .before .before .before .before .before .before .before .before .before .before .pre) .1 .0 .base-in, (c .before .before .before .before .before .before .before .before .before .before .before .before .before .before .before .before .before .before .before .before .before .before .before .before .before .pre) .1 .0 .lda-fits, (c .before .before .before .before .before .before .before .before .before .before .before .before .before .before .before .before .before .before .before .before .before .before .before .before .before .pre) .1 .0 .offset-fits, (c .before .before .before .before .before .before .before .before .before .before .before .before .before .before .before .before .before .before .before .before .before .before .before .before .before .pre) .1 .1 .2))
+lda-frame-requires-2 c κs =
+    let at-lda-frame = c .before .before .before .before .before .before in
+    let start = at-lda-frame .before .before .before .before .before .before .before .before .before .before .before .before .before .before .before .before .before .before .before in
+    let (lends, (r, (below, _, long, _))) = start .pre in
+    (lent-on lends (at-lda-frame .lda-frame .kept .1 .1 .1 .1 .1 .1 .1 .1 .1 .1 .1 .0), (below, r .left-in, r .right-in, r .base-in, r .lda-fits, r .offset-fits, long))
 
 acc-frame-requires : tie.Need-acc-frame-requires
-acc-frame-requires c κs = (((c .before .before .before .before .before .before .before .before .before .before .before .before .before .before .before .before .before .before .before .before .before .before .before .before .before .before .before .before .before .before .before .before .before .before .before .pre) .1 .0 .means-fit, (c .before .before .before .before .before .before .before .before .before .before .before .before .before .before .before .before .before .before .before .before .before .before .before .before .before .before .before .before .before .before .before .before .before .before .before .pre) .1 .0 .invs-fit, (c .before .before .before .before .before .before .before .before .before .before .before .before .before .before .before .before .before .before .before .before .before .before .before .before .before .before .before .before .before .before .before .before .before .before .before .pre) .1 .0 .gconsts-fit, omega (arith, (c .before .before .before .before .before .before .before .before .before .before .before .before .before .before .before .before .lda-frame) .kept .1 .1 .1 .1 .1 .1 .1 .1 .1 .1 .1 .1 .0, (c .before .before .before .before .before .before .before .before .before .before .before .before .before .before .before .before .before .before .before .before .before .before .before .before .before .before .before .before .before .before .before .before .before .before .before .pre) .1 .1 .1), omega (arith, (c .before .before .before .before .before .before .before .before .before .lda-frame2) .kept .1 .1 .1 .1 .1 .1 .1 .1 .1 .1 .1 .1 .0, (c .before .before .before .before .before .before .before .before .before .before .before .before .before .before .before .before .before .before .before .before .before .before .before .before .before .before .before .before .before .before .before .before .before .before .before .pre) .1 .1 .2)), ((c .before .before .before .before .before .before .before .before .before .before .before .before .before .before .before .before .before .before .before .before .before .before .before .before .before .before .before .before .before .before .before .before .before .before .before .pre) .1 .0 .select-in, (c .before .before .before .before .before .before .before .before .before .before .before .before .before .before .before .before .before .before .before .before .before .before .before .before .before .before .before .before .before .before .before .before .before .before .before .pre) .1 .0 .gauss-in, (c .before .before .before .before .before .before .before .before .before .before .before .before .before .before .before .before .before .before .before .before .before .before .before .before .before .before .before .before .before .before .before .before .before .before .before .pre) .1 .1 .3))
+acc-frame-requires c κs =
+    let at-lda-frame2 = c .before .before .before .before .before .before .before .before .before in
+    let at-lda-frame = at-lda-frame2 .before .before .before .before .before .before .before in
+    let start = at-lda-frame .before .before .before .before .before .before .before .before .before .before .before .before .before .before .before .before .before .before .before in
+    let (_, (r, (_, norm-long, raw-long, slots))) = start .pre in
+    let norm-kept = at-lda-frame .lda-frame .kept .1 .1 .1 .1 .1 .1 .1 .1 .1 .1 .1 .1 .0 in
+    let raw-kept = at-lda-frame2 .lda-frame2 .kept .1 .1 .1 .1 .1 .1 .1 .1 .1 .1 .1 .1 .0 in
+    ((r .means-fit, r .invs-fit, r .gconsts-fit, omega (arith, norm-kept, norm-long), omega (arith, raw-kept, raw-long)), (r .select-in, r .gauss-in, slots))
 
 same-length : tie.Need-same-length
-same-length c = (c .before .before .before .before .before .before .before .before .before .before .before .before .before .before .before .before .lda-frame2) .kept .1 .1 .1 .1 .1 .1 .1 .1 .1 .1 .1 .0 ∙ (c .before .before .before .before .before .before .before .before .before .before .before .before .before .before .before .before .before .before .before .before .before .before .before .lda-frame) .kept .1 .1 .1 .1 .1 .1 .1 .1 .1 .1 .1 .0
+same-length c = search needs
 
 same-length-2 : tie.Need-same-length-2
-same-length-2 c = (c .before .before .before .before .before .before .before .before .before .before .before .before .before .before .before .before .before .before .before .before .before .before .before .lda-frame) .kept .1 .1 .1 .1 .1 .1 .1 .1 .1 .1 .1 .1 .0
+same-length-2 c = search needs
 
 same-length-3 : tie.Need-same-length-3
-same-length-3 c = (c .before .before .before .before .before .before .before .before .before .before .before .before .before .before .before .before .lda-frame2) .kept .1 .1 .1 .1 .1 .1 .1 .1 .1 .1 .1 .1 .0
+same-length-3 c = search needs
 
 same-length-4 : tie.Need-same-length-4
-same-length-4 c = (c .before .before .before .before .before .before .acc-frame) .kept .1 .1 .1 .1 .1 .1 .1 .1 .1 .1 .0
+same-length-4 c = search needs
 
 same-length-5 : tie.Need-same-length-5
-same-length-5 c = (c .before .before .before .before .before .before .acc-frame) .kept .1 .1 .1 .1 .1 .1 .1 .1 .1 .1 .1 .0
+same-length-5 c = search needs
 
 same-length-6 : tie.Need-same-length-6
-same-length-6 c = (c .before .before .before .before .before .before .acc-frame) .kept .1 .1 .1 .1 .1 .1 .1 .1 .1 .1 .1 .1 .0
+same-length-6 c = search needs
 
 returns : tie.Need-returns
-returns c = ((c .before .before .before .before .before .before .before .before .before .before .before .before .before .before .before .before .lda-frame2) .ensures .0 ∙ (c .before .before .before .before .before .before .before .before .before .before .before .before .before .before .before .before .before .before .before .before .before .before .before .lda-frame) .ensures .0, (c .before .before .before .before .before .before .acc-frame) .ensures .0, λ es h. rw (← (c .before .before .before .before .before .before .before .before .before .before .before .before .before .before .before .before .before .before .before .before .before .before .before .lda-frame) .ensures .1, ← (c .before .before .before .before .before .before .before .before .before .before .before .before .before .before .before .before .lda-frame2) .ensures .1) ((c .before .before .before .before .before .before .acc-frame) .ensures .1 es h))
+returns c =
+    let at-acc-frame = c .before .before .before .before .before .before in
+    let at-lda-frame2 = at-acc-frame .before .before .before .before .before .before .before .before .before .before in
+    let at-lda-frame = at-lda-frame2 .before .before .before .before .before .before .before in
+    (at-lda-frame2 .lda-frame2 .ensures .0 ∙ at-lda-frame .lda-frame .ensures .0, at-acc-frame .acc-frame .ensures .0, λ es h. rw (← at-lda-frame .lda-frame .ensures .1, ← at-lda-frame2 .lda-frame2 .ensures .1) (at-acc-frame .acc-frame .ensures .1 es h))
 
 pub take-frame-in-spec : {M : Type 1} → statement M
 take-frame-in-spec =

@@ -1,6 +1,6 @@
 -- `limits::dims_agree` meets its contract. Assumes nothing.
 use native.Mathlib.Omega.{arith}
-use Rattle.limits.proofs.Ranges.{option-ranges, dim-ranges, spliced-ranges, agree-few, agree-same, agree-more}
+use Rattle.definition.proofs.Ranges.{option-ranges, dim-ranges, spliced-ranges, agree-few, agree-same, agree-more}
 use Rattle.limits.proofs.dims_agree.Statement.{statement}
 use Rattle.limits.proofs.dims_agree.Tie as tie
 

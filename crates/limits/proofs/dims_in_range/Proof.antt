@@ -1,4 +1,4 @@
--- `limits::dims_in_range` meets its contract. Assumes nothing.
+-- `limits::dims_in_range` meets its contract: the tests one after the other, left at the first that fails; the last one decides.
 use borrow.Author.Needs.{needs}
 use mathlib.Core.Path.{refl, sym, _∙_}
 use mathlib.Core.Bool.{false}
@@ -49,7 +49,27 @@ in-limits-requires-6 c κs = search needs
 
 returns-6 : tie.Need-returns-6
 unfolding dimsInRange
-returns-6 c = c .in-limits6 .ensures ∙ all-last 5 _ refl (holds (c .before .before .before .before .before .before .before .before .before .before .in-limits .ensures) (c .before .before .before .before .before .before .before .before .before .if1 .left), (holds (c .before .before .before .before .before .before .before .before .in-limits2 .ensures) (c .before .before .before .before .before .before .before .if2 .left), (holds (c .before .before .before .before .before .before .in-limits3 .ensures) (c .before .before .before .before .before .if3 .left), (holds (c .before .before .before .before .in-limits4 .ensures) (c .before .before .before .if4 .left), (holds (c .before .before .in-limits5 .ensures) (c .before .if5 .left), tt)))))
+returns-6 c =
+    let at-in-limits4 = c .before .before .before .before in
+    let at-if3 = at-in-limits4 .before in
+    let at-in-limits3 = at-if3 .before in
+    let at-if2 = at-in-limits3 .before in
+    let at-in-limits2 = at-if2 .before in
+    let at-if1 = at-in-limits2 .before in
+    let at-in-limits = at-if1 .before in
+    c .in-limits6 .ensures ∙ all-last 5 _ refl (
+      holds (at-in-limits .in-limits .ensures) (at-if1 .if1 .left),
+      (
+        holds (at-in-limits2 .in-limits2 .ensures) (at-if2 .if2 .left),
+        (
+          holds (at-in-limits3 .in-limits3 .ensures) (at-if3 .if3 .left),
+          (
+            holds (at-in-limits4 .in-limits4 .ensures) (c .before .before .before .if4 .left),
+            (holds (c .before .before .in-limits5 .ensures) (c .before .if5 .left), tt),
+          ),
+        ),
+      ),
+    )
 
 pub dims-in-range-spec : {M : Type 1} → statement M
 dims-in-range-spec =

@@ -1,7 +1,7 @@
 -- `limits::load_scratch` meets its contract. Assumes nothing.
 use borrow.Author.Needs.{needs}
 use native.Mathlib.Omega.{arith}
-use Rattle.limits.proofs.Ranges.{dim-ranges, dim-products}
+use Rattle.definition.proofs.Ranges.{dim-ranges, dim-products}
 use Rattle.limits.proofs.load_scratch.Statement.{statement}
 use Rattle.limits.proofs.load_scratch.Tie as tie
 

@@ -1,4 +1,4 @@
--- `limits::options_in_range` meets its contract. Assumes nothing.
+-- `limits::options_in_range` meets its contract: the tests one after the other, left at the first that fails; the last one decides.
 use borrow.Author.Needs.{needs}
 use mathlib.Core.Path.{refl, sym, _∙_}
 use mathlib.Core.Bool.{false}
@@ -77,7 +77,47 @@ is-finite-requires-2 c κs = search needs
 
 returns-10 : tie.Need-returns-10
 unfolding optionsInRange
-returns-10 c = c .is-finite2 .ensures ∙ all-last 9 _ refl (holds (c .before .before .before .before .before .before .before .before .before .before .before .before .before .before .before .before .before .before .in-limits .ensures) (c .before .before .before .before .before .before .before .before .before .before .before .before .before .before .before .before .before .if1 .left), (holds (c .before .before .before .before .before .before .before .before .before .before .before .before .before .before .before .before .in-limits2 .ensures) (c .before .before .before .before .before .before .before .before .before .before .before .before .before .before .before .if2 .left), (holds (c .before .before .before .before .before .before .before .before .before .before .before .before .before .before .in-limits3 .ensures) (c .before .before .before .before .before .before .before .before .before .before .before .before .before .if3 .left), (holds (c .before .before .before .before .before .before .before .before .before .before .before .before .in-limits4 .ensures) (c .before .before .before .before .before .before .before .before .before .before .before .if4 .left), (holds (c .before .before .before .before .before .before .before .before .before .before .in-limits5 .ensures) (c .before .before .before .before .before .before .before .before .before .if5 .left), (holds (c .before .before .before .before .before .before .before .before .in-limits6 .ensures) (c .before .before .before .before .before .before .before .if6 .left), (holds (c .before .before .before .before .before .before .is-share .ensures) (c .before .before .before .before .before .if7 .left), (holds (c .before .before .before .before .is-finite .ensures) (c .before .before .before .if8 .left), (holds (c .before .before .is-finite-f64 .ensures) (c .before .if9 .left), tt)))))))))
+returns-10 c =
+    let at-is-finite = c .before .before .before .before in
+    let at-if7 = at-is-finite .before in
+    let at-is-share = at-if7 .before in
+    let at-if6 = at-is-share .before in
+    let at-in-limits6 = at-if6 .before in
+    let at-if5 = at-in-limits6 .before in
+    let at-in-limits5 = at-if5 .before in
+    let at-if4 = at-in-limits5 .before in
+    let at-in-limits4 = at-if4 .before in
+    let at-if3 = at-in-limits4 .before in
+    let at-in-limits3 = at-if3 .before in
+    let at-if2 = at-in-limits3 .before in
+    let at-in-limits2 = at-if2 .before in
+    let at-if1 = at-in-limits2 .before in
+    let at-in-limits = at-if1 .before in
+    c .is-finite2 .ensures ∙ all-last 9 _ refl (
+      holds (at-in-limits .in-limits .ensures) (at-if1 .if1 .left),
+      (
+        holds (at-in-limits2 .in-limits2 .ensures) (at-if2 .if2 .left),
+        (
+          holds (at-in-limits3 .in-limits3 .ensures) (at-if3 .if3 .left),
+          (
+            holds (at-in-limits4 .in-limits4 .ensures) (at-if4 .if4 .left),
+            (
+              holds (at-in-limits5 .in-limits5 .ensures) (at-if5 .if5 .left),
+              (
+                holds (at-in-limits6 .in-limits6 .ensures) (at-if6 .if6 .left),
+                (
+                  holds (at-is-share .is-share .ensures) (at-if7 .if7 .left),
+                  (
+                    holds (at-is-finite .is-finite .ensures) (c .before .before .before .if8 .left),
+                    (holds (c .before .before .is-finite-f64 .ensures) (c .before .if9 .left), tt),
+                  ),
+                ),
+              ),
+            ),
+          ),
+        ),
+      ),
+    )
 
 pub options-in-range-spec : {M : Type 1} → statement M
 options-in-range-spec =

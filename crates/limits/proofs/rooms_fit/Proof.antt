@@ -1,62 +1,80 @@
+-- `limits::rooms_fit` meets its contract: the tests one after the other, the last one decides. How many rows a ring has is told without a division.
 use borrow.Author.Needs.{needs}
-use mathlib.Core.Path.{refl, sym, ap, _∙_}
-use mathlib.Core.Bool.{false}
+use mathlib.Core.Path.{ap, _∙_}
 use mathlib.Core.List.{zipWith}
-use lib.Dec.{leb}
-use borrow.Author.Tests.{le-leb, lt-leb}
-use native.Mathlib.Omega.{arith}
-use Rattle.loops.proofs.Tests.{at-fail}
-use Rattle.definition.specs.Stream.{fixedSizes, fixedLengths, roomsFit}
-use Rattle.limits.proofs.Listed.{all-last, pair-fail, pair-last}
-use Rattle.limits.proofs.Ranges.{dim-ranges, dim-products}
 use Prim.Native.Nat.{ℕ}
 use native.Mathlib.Nat.{one-mul}
+use native.Mathlib.Omega.{arith}
+use lib.Dec.{leb}
+use borrow.Author.Tests.{le-leb, lt-leb}
+use Rattle.definition.proofs.Ranges.{dim-ranges, dim-products}
 use Rattle.limits.proofs.Rows.{rows-under, rows-reach}
+use Rattle.limits.proofs.Records.{few-frames, few-rows, short-room, last-room}
 use Rattle.limits.proofs.rooms_fit.Statement.{statement}
 use Rattle.limits.proofs.rooms_fit.Tie as tie
 
 returns : tie.Need-returns
-unfolding roomsFit zipWith
-returns c = sym (at-fail (λ t. t) false _ 0 (omega arith) (lt-leb _ _ (rows-under ((c .before .before .before .args) .z .frames) ((c .before .before .before .args) .d .«base_dim») 1 (dim-ranges _ ((c .before .before .before .pre)) .some-base) (omega (arith, (c .if1) .taken, one-mul ((c .before .before .before .args) .d .«base_dim»))))))
+returns c =
+    let start = c .before .before .before .before .before in
+    few-frames _ _ (rows-under _ (start .args .d .«base_dim») 1 (dim-ranges _ (start .pre) .some-base) (omega (arith, c .if1 .taken, one-mul (start .args .d .«base_dim»))))
 
 mul-if2 : tie.Need-mul-if2
-mul-if2 c = omega (arith, dim-ranges _ ((c .before .before .before .before .pre)))
+mul-if2 c =
+    let start = c .before .before .before .before .before .before in
+    omega (arith, dim-ranges _ (start .pre))
 
 returns-2 : tie.Need-returns-2
-unfolding roomsFit zipWith
-returns-2 c = sym (at-fail (λ t. t) false _ 1 (omega arith) (lt-leb _ _ (rows-under ((c .before .before .before .before .before .before .args) .z .rows) ((c .before .before .before .before .before .before .args) .d .«base_dim») 2 (dim-ranges _ ((c .before .before .before .before .before .before .pre)) .some-base) ((c .if2) .taken))))
+returns-2 c =
+    let start = c .before .before .before .before .before .before .before .before in
+    few-rows _ _ (rows-under _ _ 2 (dim-ranges _ (start .pre) .some-base) (c .if2 .taken))
 
 add-if3 : tie.Need-add-if3
-add-if3 c = omega (arith, dim-ranges _ (((c .before .before .before .before .before .before .before .pre))), dim-products _ (((c .before .before .before .before .before .before .before .pre))))
+add-if3 c =
+    let start = c .before .before .before .before .before .before .before .before .before in
+    omega (arith, dim-ranges _ (start .pre))
 
 returns-3 : tie.Need-returns-3
-unfolding roomsFit zipWith
-returns-3 c = sym (at-fail (λ t. t) false _ 2 (omega arith) (sym (pair-fail leb (fixedSizes ((c .before .before .before .before .before .before .before .before .before .args) .d)) (fixedLengths ((c .before .before .before .before .before .before .before .before .before .args) .z)) 0 refl (omega arith) (lt-leb _ _ ((c .if3) .taken)))))
+unfolding zipWith
+returns-3 c = short-room _ _ 0 (omega arith) (lt-leb _ _ (c .if3 .taken))
 
 returns-4 : tie.Need-returns-4
-unfolding roomsFit zipWith
-returns-4 c = sym (at-fail (λ t. t) false _ 2 (omega arith) (sym (pair-fail leb (fixedSizes ((c .before .before .before .before .before .before .before .before .before .before .before .args) .d)) (fixedLengths ((c .before .before .before .before .before .before .before .before .before .before .before .args) .z)) 1 refl (omega arith) (lt-leb _ _ ((c .if4) .taken)))))
+unfolding zipWith
+returns-4 c = short-room _ _ 1 (omega arith) (lt-leb _ _ (c .if4 .taken))
 
 add-if5 : tie.Need-add-if5
-add-if5 c = omega (arith, dim-ranges _ (((c .before .before .before .before .before .before .before .before .before .before .before .pre))), dim-products _ (((c .before .before .before .before .before .before .before .before .before .before .before .pre))))
+add-if5 c =
+    let start = c .before .before .before .before .before .before .before .before .before .before .before .before .before in
+    omega (arith, dim-ranges _ (start .pre))
 
 mul-if5 : tie.Need-mul-if5
-mul-if5 c = omega (arith, dim-ranges _ (((c .before .before .before .before .before .before .before .before .before .before .before .pre))), dim-products _ (((c .before .before .before .before .before .before .before .before .before .before .before .pre))))
+mul-if5 c =
+    let start = c .before .before .before .before .before .before .before .before .before .before .before .before .before in
+    omega (arith, dim-products _ (start .pre))
 
 returns-5 : tie.Need-returns-5
-unfolding roomsFit zipWith
-returns-5 c = sym (at-fail (λ t. t) false _ 2 (omega arith) (sym (pair-fail leb (fixedSizes ((c .before .before .before .before .before .before .before .before .before .before .before .before .before .args) .d)) (fixedLengths ((c .before .before .before .before .before .before .before .before .before .before .before .before .before .args) .z)) 2 refl (omega arith) (lt-leb _ _ ((c .if5) .taken)))))
+unfolding zipWith
+returns-5 c = short-room _ _ 2 (omega arith) (lt-leb _ _ (c .if5 .taken))
 
 returns-6 : tie.Need-returns-6
-unfolding roomsFit zipWith
-returns-6 c = sym (at-fail (λ t. t) false _ 2 (omega arith) (sym (pair-fail leb (fixedSizes ((c .before .before .before .before .before .before .before .before .before .before .before .before .before .before .before .args) .d)) (fixedLengths ((c .before .before .before .before .before .before .before .before .before .before .before .before .before .before .before .args) .z)) 3 refl (omega arith) (lt-leb _ _ ((c .if6) .taken)))))
+unfolding zipWith
+returns-6 c = short-room _ _ 3 (omega arith) (lt-leb _ _ (c .if6 .taken))
 
 stream-scratch-requires : tie.Need-stream-scratch-requires
 stream-scratch-requires c κs = search needs
 
 returns-7 : tie.Need-returns-7
-unfolding roomsFit zipWith
-returns-7 c = ap (λ (n : ℕ). leb n ((c .before .before .before .before .before .before .before .before .before .before .before .before .before .before .before .before .before .args) .z .scratch)) ((c .before .stream-scratch) .ensures) ∙ pair-last leb (fixedSizes ((c .before .before .before .before .before .before .before .before .before .before .before .before .before .before .before .before .before .args) .d)) (fixedLengths ((c .before .before .before .before .before .before .before .before .before .before .before .before .before .before .before .before .before .args) .z)) 4 refl refl (le-leb _ _ ((c .before .before .before .before .before .before .before .before .if3) .left), (le-leb _ _ ((c .before .before .before .before .before .before .if4) .left), (le-leb _ _ ((c .before .before .before .before .if5) .left), (le-leb _ _ ((c .before .before .if6) .left), tt)))) ∙ all-last 2 _ refl (le-leb _ _ (rows-reach ((c .before .before .before .before .before .before .before .before .before .before .before .before .before .before .before .before .before .args) .z .frames) ((c .before .before .before .before .before .before .before .before .before .before .before .before .before .before .before .before .before .args) .d .«base_dim») 1 (dim-ranges _ ((c .before .before .before .before .before .before .before .before .before .before .before .before .before .before .before .before .before .pre)) .some-base) (omega (arith, (c .before .before .before .before .before .before .before .before .before .before .before .before .before .before .if1) .left, one-mul ((c .before .before .before .before .before .before .before .before .before .before .before .before .before .before .before .before .before .args) .d .«base_dim»)))), (le-leb _ _ (rows-reach ((c .before .before .before .before .before .before .before .before .before .before .before .before .before .before .before .before .before .args) .z .rows) ((c .before .before .before .before .before .before .before .before .before .before .before .before .before .before .before .before .before .args) .d .«base_dim») 2 (dim-ranges _ ((c .before .before .before .before .before .before .before .before .before .before .before .before .before .before .before .before .before .pre)) .some-base) ((c .before .before .before .before .before .before .before .before .before .before .before .if2) .left)), tt))
+unfolding zipWith
+returns-7 c =
+    let at-if5 = c .before .before .before .before in
+    let at-if4 = at-if5 .before .before in
+    let at-if3 = at-if4 .before .before in
+    let at-if2 = at-if3 .before .before .before in
+    let at-if1 = at-if2 .before .before .before in
+    let start = at-if1 .before .before .before .before .before in
+    let some = dim-ranges _ (start .pre) .some-base in
+    ap (λ (n : ℕ). leb n (start .args .z .estimate .scratch)) (c .before .stream-scratch .ensures)
+    ∙ last-room _ _ (rows-reach _ (start .args .d .«base_dim») 1 some (omega (arith, at-if1 .if1 .left, one-mul (start .args .d .«base_dim»))))
+    (rows-reach _ _ 2 some (at-if2 .if2 .left)) (le-leb _ _ (at-if3 .if3 .left), (le-leb _ _ (at-if4 .if4 .left), (le-leb _ _ (at-if5 .if5 .left), (le-leb _ _ (c .before .before .if6 .left), tt))))
 
 pub rooms-fit-spec : {M : Type 1} → statement M
 rooms-fit-spec =

@@ -1,7 +1,7 @@
 -- `limits::stream_scratch` meets its contract. Assumes nothing.
 use borrow.Author.Needs.{needs}
 use native.Mathlib.Omega.{arith}
-use Rattle.limits.proofs.Ranges.{dim-products}
+use Rattle.definition.proofs.Ranges.{dim-products}
 use Rattle.definition.specs.Stream.{streamScratch}
 use Rattle.limits.proofs.stream_scratch.Statement.{statement}
 use Rattle.limits.proofs.stream_scratch.Tie as tie

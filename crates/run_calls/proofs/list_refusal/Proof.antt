@@ -1,18 +1,16 @@
-use Rattle.run_calls.proofs.Runs.{list-1, list-2, list-3, list-0}
+use borrow.Author.Needs.{needs}
+use Rattle.run_calls.proofs.Runs.{list-1, list-2, list-0}
 use Rattle.run_calls.proofs.list_refusal.Statement.{statement}
 use Rattle.run_calls.proofs.list_refusal.Tie as tie
 
 returns : tie.Need-returns
-returns c = list-1 _ _ _ _ ((c .if1) .taken)
+returns c = list-1 _ _ _ ((c .if1) .taken)
 
 returns-2 : tie.Need-returns-2
-returns-2 c = list-2 _ _ _ _ ((c .before .if1) .left) ((c .if2) .taken)
+returns-2 c = list-2 _ _ _ ((c .before .if1) .left) ((c .if2) .taken)
 
 returns-3 : tie.Need-returns-3
-returns-3 c = list-3 _ _ _ _ ((c .before .before .if1) .left) ((c .before .if2) .left) ((c .if3) .taken)
-
-returns-4 : tie.Need-returns-4
-returns-4 c = list-0 _ _ _ _ ((c .before .before .if1) .left) ((c .before .if2) .left) ((c .if3) .left)
+returns-3 c = list-0 _ _ _ ((c .before .if1) .left) ((c .if2) .left)
 
 pub list-refusal-spec : {M : Type 1} → statement M
 list-refusal-spec =
@@ -20,5 +18,4 @@ list-refusal-spec =
     (tie.spec
     returns
     returns-2
-    returns-3
-    returns-4)
+    returns-3)

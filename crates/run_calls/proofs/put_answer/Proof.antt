@@ -1,4 +1,5 @@
 use borrow.Author.Needs.{needs}
+use mathlib.Core.Path.{refl}
 use native.Mathlib.Omega.{arith}
 use lib.ListN.{length-set}
 use Rattle.run_calls.proofs.Cut.{put-four}
@@ -18,7 +19,7 @@ mul-answers-2 : tie.Need-mul-answers-2
 mul-answers-2 c = search needs
 
 slice-write-answers-2 : tie.Need-slice-write-answers-2
-slice-write-answers-2 c = simp length-set (omega (arith, (c .pre)))
+slice-write-answers-2 c = simp length-set (omega (arith, (c .before .pre)))
 
 add-answers-2 : tie.Need-add-answers-2
 add-answers-2 c = search needs
@@ -27,7 +28,7 @@ mul-answers-3 : tie.Need-mul-answers-3
 mul-answers-3 c = search needs
 
 slice-write-answers-3 : tie.Need-slice-write-answers-3
-slice-write-answers-3 c = simp length-set (omega (arith, (c .pre)))
+slice-write-answers-3 c = simp length-set (omega (arith, (c .before .pre)))
 
 add-answers-3 : tie.Need-add-answers-3
 add-answers-3 c = search needs
@@ -36,13 +37,13 @@ mul-answers-4 : tie.Need-mul-answers-4
 mul-answers-4 c = search needs
 
 slice-write-answers-4 : tie.Need-slice-write-answers-4
-slice-write-answers-4 c = simp length-set (omega (arith, (c .pre)))
+slice-write-answers-4 c = simp length-set (omega (arith, (c .before .pre)))
 
 same-length : tie.Need-same-length
 same-length c = search needs
 
 returns : tie.Need-returns
-returns c = put-four _ _ _ _ _ _ (c .pre)
+returns c = (refl, put-four _ _ _ _ _ _ (c .before .before .pre))
 
 pub put-answer-spec : {M : Type 1} → statement M
 put-answer-spec =

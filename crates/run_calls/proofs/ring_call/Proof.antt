@@ -1,7 +1,8 @@
 use borrow.Author.Needs.{needs}
-use mathlib.Core.Path.{refl}
+use mathlib.Core.Path.{refl, ap, _∙_}
 use native.Mathlib.Omega.{arith}
-use Rattle.run_calls.proofs.Branches.{as-call, is-push, is-finish, is-change, is-forget, called-push, called-finish, called-change, called-forget}
+use Rattle.program.specs.Calls.{doneOn}
+use Rattle.run_calls.proofs.Branches.{push-done, finish-done, change-done, forget-done}
 use Rattle.run_calls.proofs.ring_call.Statement.{statement}
 use Rattle.run_calls.proofs.ring_call.Tie as tie
 
@@ -9,10 +10,10 @@ push-frame-requires : tie.Need-push-frame-requires
 push-frame-requires c κs = search needs
 
 same-length : tie.Need-same-length
-same-length c = (c .before .before .before .before .before .before .push-frame) .kept .1 .1 .0
+same-length c = (c .before .before .before .before .push-frame) .kept .1 .1 .0
 
 same-length-2 : tie.Need-same-length-2
-same-length-2 c = (c .before .before .before .before .before .before .push-frame) .kept .1 .1 .1 .0
+same-length-2 c = (c .before .before .before .before .push-frame) .kept .1 .1 .1 .0
 
 same-length-3 : tie.Need-same-length-3
 same-length-3 c = refl
@@ -21,7 +22,7 @@ same-length-4 : tie.Need-same-length-4
 same-length-4 c = refl
 
 returns : tie.Need-returns
-returns c = λ t n cm li qu cu out. as-call (is-push _ _ _ _ _ out ((c .before .before .before .before .before .before .before .before .before .before .before .if1) .taken)) (called-push t n _ _ out _ _ _ _ ((c .before .before .before .before .before .before .push-frame) .ensures))
+returns c = (c .before .before .before .before .push-frame) .ensures ∙ ap (doneOn _ _) (push-done _ _ _ _ _ _ _ ((c .before .before .before .before .before .before .before .before .before .if1) .taken))
 
 set-input-finished-requires : tie.Need-set-input-finished-requires
 set-input-finished-requires c κs = search needs
@@ -39,7 +40,7 @@ same-length-8 : tie.Need-same-length-8
 same-length-8 c = refl
 
 returns-2 : tie.Need-returns-2
-returns-2 c = λ t n cm li qu cu out. as-call (is-finish _ _ _ _ _ out ((c .before .before .before .before .before .before .before .before .if1) .left) ((c .before .before .before .before .before .before .before .if2) .taken)) (called-finish t n _ _ out _ ((c .before .before .set-input-finished) .ensures))
+returns-2 c = (c .set-input-finished) .ensures ∙ ap (doneOn _ _) (finish-done _ _ _ _ _ _ _ ((c .before .before .before .before .before .if2) .taken))
 
 update-frame-weights-requires : tie.Need-update-frame-weights-requires
 update-frame-weights-requires c κs = search needs
@@ -51,13 +52,13 @@ same-length-10 : tie.Need-same-length-10
 same-length-10 c = refl
 
 same-length-11 : tie.Need-same-length-11
-same-length-11 c = (c .before .before .before .before .before .before .update-frame-weights) .kept .1 .1 .1 .1 .1 .0
+same-length-11 c = (c .before .before .before .before .update-frame-weights) .kept .1 .1 .1 .1 .1 .0
 
 same-length-12 : tie.Need-same-length-12
-same-length-12 c = (c .before .before .before .before .before .before .update-frame-weights) .kept .1 .1 .1 .1 .1 .1 .0
+same-length-12 c = (c .before .before .before .before .update-frame-weights) .kept .1 .1 .1 .1 .1 .1 .0
 
 returns-3 : tie.Need-returns-3
-returns-3 c = λ t n cm li qu cu out. as-call (is-change _ _ _ _ _ out ((c .before .before .before .before .before .before .before .before .before .before .before .before .before .if1) .left) ((c .before .before .before .before .before .before .before .before .before .before .before .before .if2) .left) ((c .before .before .before .before .before .before .before .before .before .before .before .if3) .taken)) (called-change t n _ _ out _ _ _ _ _ ((c .before .before .before .before .before .before .update-frame-weights) .ensures))
+returns-3 c = (c .before .before .before .before .update-frame-weights) .ensures ∙ ap (doneOn _ _) (change-done _ _ _ _ _ _ _ ((c .before .before .before .before .before .before .before .before .before .if3) .taken))
 
 forget-before-requires : tie.Need-forget-before-requires
 forget-before-requires c κs = search needs
@@ -75,7 +76,7 @@ same-length-16 : tie.Need-same-length-16
 same-length-16 c = refl
 
 returns-4 : tie.Need-returns-4
-returns-4 c = λ t n cm li qu cu out. as-call (is-forget ((c .before .before .before .before .before .before .before .before .before .before .before .before .before .before .before .before .before .args) .kind) _ _ _ _ out ((c .before .before .before .before .before .before .before .before .before .if1) .left) ((c .before .before .before .before .before .before .before .before .if2) .left) ((c .before .before .before .before .before .before .before .if3) .left) (omega (arith, (c .before .before .before .before .before .before .before .before .before .before .before .before .before .before .before .before .before .pre), (c .before .before .before .before .before .before .before .before .before .if1) .left, (c .before .before .before .before .before .before .before .before .if2) .left, (c .before .before .before .before .before .before .before .if3) .left))) (called-forget t n _ _ out _ _ ((c .before .before .forget-before) .ensures))
+returns-4 c = (c .forget-before) .ensures ∙ ap (doneOn _ _) (forget-done _ _ _ _ _ _ _ (omega (arith, (c .before .before .before .before .before .before .before .if1) .left, (c .before .before .before .before .before .before .if2) .left, (c .before .before .before .before .before .if3) .left, (c .before .before .before .before .before .before .before .before .before .before .before .before .before .before .before .pre))))
 
 pub ring-call-spec : {M : Type 1} → statement M
 ring-call-spec =

@@ -1,9 +1,12 @@
 use borrow.Author.Needs.{needs}
 use mathlib.Core.Path.{refl, sym, _∙_}
+use mathlib.Core.List.{List}
 use lib.ListN.{length}
-use Rattle.ivector_stream.specs.Rooms.{Tables, Rooms, tables, rooms}
-use Rattle.loops.proofs.Refusal.{taken-old}
-use Rattle.run_calls.proofs.Runs.{list-taken, run-listed, run-refused, run-made, rooms-old, rooms-new, run-wrote, run-rooms}
+use Rattle.definition.specs.Model.{Tables, tablesFrom}
+use Rattle.program.specs.Rooms.{ringsFrom, estimateFrom, Rooms, roomsFrom}
+use Rattle.definition.specs.Machine.{Call}
+use Rattle.run_calls.specs.Listed.{calls, Written, written}
+use Rattle.run_calls.proofs.Runs.{list-taken, run-listed, run-refused, run-played}
 use Rattle.run_calls.proofs.run.Statement.{statement}
 use Rattle.run_calls.proofs.run.Tie as tie
 
@@ -11,7 +14,7 @@ list-refusal-requires : tie.Need-list-refusal-requires
 list-refusal-requires c κs = search needs
 
 returns : tie.Need-returns
-returns c = (run-listed _ _ _ _ _ _ _ _ ((c .before .list-refusal) .ensures) ((c .if1) .taken), sym (taken-old _ _ _ ((c .if1) .taken)), sym (taken-old _ _ _ ((c .if1) .taken)), λ _. refl)
+returns c = let a = (c .before .before .before .before .before .before .before .before .before .before .before .before .before .before .before .before .before .before .before .before .before .before .before .before .before .args) in let t : Tables = (tablesFrom (a .gconsts .now) (a .means-invvars-t .now) (a .inv-vars-t .now) (a .sigma-inv-m .now) (a .u .now) (a .lda-t .now) (a .lda-offset .now) (a .global-mean-stats .now)) in let z : Rooms = (roomsFrom (ringsFrom (a .frames .now) (a .rows .now) (a .waiting-frames .now) (a .waiting-weights .now)) (estimateFrom (a .cmvn-stats .now) (a .linear .now) (a .quadratic .now) (a .current .now))) in let o : Written = written (a .answers .now) (a .outs .now) in let cs : List Call = calls (a .kinds .now) (a .numbers .now) (a .lists .now) (a .samples .now) (length (a .outs .now)) in let h = run-listed (a .info) t z (length (a .scratch .now)) (a .numbers .now) cs o (length (a .kinds .now)) (length (a .numbers .now)) (length (a .answers .now)) ((c .before .list-refusal) .ensures) ((c .if1) .taken) in (h .0, h .1, h .2, λ _. refl)
 
 new-requires : tie.Need-new-requires
 new-requires c κs = search needs
@@ -23,7 +26,7 @@ enum-known-made-2 : tie.Need-enum-known-made-2
 enum-known-made-2 c = search needs
 
 play-requires : tie.Need-play-requires
-play-requires c κs = list-taken _ _ _ _ (sym ((c .before .before .before .before .before .before .before .before .before .before .before .before .before .before .before .before .before .before .before .before .before .before .before .before .before .before .before .before .before .before .before .before .before .before .before .list-refusal) .ensures) ∙ (c .before .before .before .before .before .before .before .before .before .before .before .before .before .before .before .before .before .before .before .before .before .before .before .before .before .before .before .before .before .before .before .before .before .before .if1) .left)
+play-requires c κs = list-taken _ _ _ (sym ((c .before .before .before .before .before .before .before .before .before .before .before .before .before .before .before .before .before .before .before .before .before .before .before .before .before .before .before .before .before .before .before .before .before .before .before .list-refusal) .ensures) ∙ (c .before .before .before .before .before .before .before .before .before .before .before .before .before .before .before .before .before .before .before .before .before .before .before .before .before .before .before .before .before .before .before .before .before .before .if1) .left)
 
 same-length : tie.Need-same-length
 same-length c = refl
@@ -53,7 +56,7 @@ same-length-9 : tie.Need-same-length-9
 same-length-9 c = refl
 
 returns-2 : tie.Need-returns-2
-returns-2 c = let a = (c .before .before .before .before .before .before .before .before .before .before .before .before .before .before .before .before .before .before .before .before .before .before .before .before .before .before .before .before .before .before .before .before .before .before .before .before .before .before .before .before .before .before .before .before .before .before .before .before .args) in let t : Tables = (tables (a .gconsts .now) (a .means-invvars-t .now) (a .inv-vars-t .now) (a .sigma-inv-m .now) (a .u .now) (a .lda-t .now) (a .lda-offset .now) (a .global-mean-stats .now)) in let z : Rooms = (rooms (a .frames .now) (a .rows .now) (a .waiting-frames .now) (a .waiting-weights .now) (a .cmvn-stats .now) (a .linear .now) (a .quadratic .now) (a .current .now)) in let n = length (a .scratch .now) in let e = (sym ((c .before .before .before .before .before .before .before .before .before .before .before .before .before .before .before .before .before .before .before .before .before .before .before .before .list-refusal) .ensures) ∙ (c .before .before .before .before .before .before .before .before .before .before .before .before .before .before .before .before .before .before .before .before .before .before .before .if1) .left) in let k = run-refused (a .info) t z n _ _ _ _ e ((c .before .before .before .before .before .before .before .before .before .before .before .before .before .new) .ensures .0) ((c .before .made) .given .1) in (k .0, sym (taken-old _ _ _ (k .2)), rooms-old (a .info) t z n ((c .before .before .before .before .before .before .before .before .before .before .before .before .before .new) .ensures) (λ q. k .2 (k .1 ∙ q)) ∙ sym (taken-old _ _ _ (k .2)), λ _. refl)
+returns-2 c = let a = (c .before .before .before .before .before .before .before .before .before .before .before .before .before .before .before .before .before .before .before .before .before .before .before .before .before .before .before .before .before .before .before .before .before .before .before .before .before .before .before .before .before .before .before .before .before .before .before .before .args) in let t : Tables = (tablesFrom (a .gconsts .now) (a .means-invvars-t .now) (a .inv-vars-t .now) (a .sigma-inv-m .now) (a .u .now) (a .lda-t .now) (a .lda-offset .now) (a .global-mean-stats .now)) in let z : Rooms = (roomsFrom (ringsFrom (a .frames .now) (a .rows .now) (a .waiting-frames .now) (a .waiting-weights .now)) (estimateFrom (a .cmvn-stats .now) (a .linear .now) (a .quadratic .now) (a .current .now))) in let o : Written = written (a .answers .now) (a .outs .now) in let cs : List Call = calls (a .kinds .now) (a .numbers .now) (a .lists .now) (a .samples .now) (length (a .outs .now)) in let h = run-refused (a .info) t z (length (a .scratch .now)) (a .numbers .now) cs o (length (a .kinds .now)) (length (a .numbers .now)) (length (a .answers .now)) _ _ (sym ((c .before .before .before .before .before .before .before .before .before .before .before .before .before .before .before .before .before .before .before .before .before .before .before .before .list-refusal) .ensures) ∙ (c .before .before .before .before .before .before .before .before .before .before .before .before .before .before .before .before .before .before .before .before .before .before .before .if1) .left) ((c .before .before .before .before .before .before .before .before .before .before .before .before .before .new) .ensures .0) ((c .before .before .before .before .before .before .before .before .before .before .before .before .before .new) .ensures .1) ((c .before .made) .given .1) in (h .0 .0, h .0 .1, h .0 .2, λ _. refl)
 
 same-length-10 : tie.Need-same-length-10
 same-length-10 c = (c .before .before .before .before .before .before .before .before .before .before .before .before .before .before .before .before .before .before .before .before .before .before .play) .kept .1 .1 .1 .1 .1 .1 .1 .1 .1 .1 .1 .1 .1 .0
@@ -89,7 +92,7 @@ same-length-20 : tie.Need-same-length-20
 same-length-20 c = (c .before .before .before .before .before .before .before .before .before .before .before .before .before .before .before .before .before .before .before .before .before .before .play) .kept .1 .1 .1 .1 .1 .1 .1 .1 .1 .1 .1 .1 .1 .1 .1 .1 .1 .1 .1 .1 .1 .1 .1 .0
 
 returns-3 : tie.Need-returns-3
-returns-3 c = let a = (c .before .before .before .before .before .before .before .before .before .before .before .before .before .before .before .before .before .before .before .before .before .before .before .before .before .before .before .before .before .before .before .before .before .before .before .before .before .before .before .before .before .before .before .before .before .before .before .before .before .before .before .before .before .before .before .before .before .before .before .before .before .before .before .before .before .before .before .before .before .before .before .before .before .before .before .before .before .before .before .before .before .before .args) in let t : Tables = (tables (a .gconsts .now) (a .means-invvars-t .now) (a .inv-vars-t .now) (a .sigma-inv-m .now) (a .u .now) (a .lda-t .now) (a .lda-offset .now) (a .global-mean-stats .now)) in let z : Rooms = (rooms (a .frames .now) (a .rows .now) (a .waiting-frames .now) (a .waiting-weights .now) (a .cmvn-stats .now) (a .linear .now) (a .quadratic .now) (a .current .now)) in let n = length (a .scratch .now) in let e = (sym ((c .before .before .before .before .before .before .before .before .before .before .before .before .before .before .before .before .before .before .before .before .before .before .before .before .before .before .before .before .before .before .before .before .before .before .before .before .before .before .before .before .before .before .before .before .before .before .before .before .before .before .before .before .before .before .before .before .before .before .list-refusal) .ensures) ∙ (c .before .before .before .before .before .before .before .before .before .before .before .before .before .before .before .before .before .before .before .before .before .before .before .before .before .before .before .before .before .before .before .before .before .before .before .before .before .before .before .before .before .before .before .before .before .before .before .before .before .before .before .before .before .before .before .before .before .if1) .left) in let k = run-made (a .info) t z n _ _ _ _ e ((c .before .before .before .before .before .before .before .before .before .before .before .before .before .before .before .before .before .before .before .before .before .before .before .before .before .before .before .before .before .before .before .before .before .before .before .before .before .before .before .before .before .before .before .before .before .before .before .new) .ensures .0) ((c .before .before .before .before .before .before .before .before .before .before .before .before .before .before .before .before .before .before .before .before .before .before .before .before .before .before .before .before .before .before .before .before .before .before .before .made2) .given .1) in let f = rooms-new (a .info) t z n ((c .before .before .before .before .before .before .before .before .before .before .before .before .before .before .before .before .before .before .before .before .before .before .before .before .before .before .before .before .before .before .before .before .before .before .before .before .before .before .before .before .before .before .before .before .before .before .before .new) .ensures) (k .1) in (k .0, run-wrote (a .info) t z _ n _ _ ((c .before .before .before .before .before .before .before .before .before .before .before .before .before .before .before .before .before .before .before .before .before .before .before .before .before .before .before .before .before .before .before .before .before .before .before .before .before .before .before .before .before .before .before .before .before .before .before .new) .ensures .0) ((c .before .before .before .before .before .before .before .before .before .before .before .before .before .before .before .before .before .before .before .before .before .before .before .before .before .before .before .before .before .before .before .before .before .before .before .made2) .given .1) f ((c .before .before .before .before .before .before .before .before .before .before .before .before .before .before .before .before .before .before .before .before .before .before .play) .ensures .0), run-rooms (a .info) t z _ n _ ((c .before .before .before .before .before .before .before .before .before .before .before .before .before .before .before .before .before .before .before .before .before .before .before .before .before .before .before .before .before .before .before .before .before .before .before .before .before .before .before .before .before .before .before .before .before .before .before .new) .ensures .0) ((c .before .before .before .before .before .before .before .before .before .before .before .before .before .before .before .before .before .before .before .before .before .before .before .before .before .before .before .before .before .before .before .before .before .before .before .made2) .given .1) f ((c .before .before .before .before .before .before .before .before .before .before .before .before .before .before .before .before .before .before .before .before .before .before .play) .ensures .1), λ h. absurd (h refl))
+returns-3 c = let a = (c .before .before .before .before .before .before .before .before .before .before .before .before .before .before .before .before .before .before .before .before .before .before .before .before .before .before .before .before .before .before .before .before .before .before .before .before .before .before .before .before .before .before .before .before .before .before .before .before .before .before .before .before .before .before .before .before .before .before .before .before .before .before .before .before .before .before .before .before .before .before .before .before .before .before .before .before .before .before .before .before .before .before .args) in let t : Tables = (tablesFrom (a .gconsts .now) (a .means-invvars-t .now) (a .inv-vars-t .now) (a .sigma-inv-m .now) (a .u .now) (a .lda-t .now) (a .lda-offset .now) (a .global-mean-stats .now)) in let z : Rooms = (roomsFrom (ringsFrom (a .frames .now) (a .rows .now) (a .waiting-frames .now) (a .waiting-weights .now)) (estimateFrom (a .cmvn-stats .now) (a .linear .now) (a .quadratic .now) (a .current .now))) in let o : Written = written (a .answers .now) (a .outs .now) in let cs : List Call = calls (a .kinds .now) (a .numbers .now) (a .lists .now) (a .samples .now) (length (a .outs .now)) in let h = run-played (a .info) t z (length (a .scratch .now)) (a .numbers .now) cs o (length (a .kinds .now)) (length (a .numbers .now)) (length (a .answers .now)) _ _ (sym ((c .before .before .before .before .before .before .before .before .before .before .before .before .before .before .before .before .before .before .before .before .before .before .before .before .before .before .before .before .before .before .before .before .before .before .before .before .before .before .before .before .before .before .before .before .before .before .before .before .before .before .before .before .before .before .before .before .before .before .list-refusal) .ensures) ∙ (c .before .before .before .before .before .before .before .before .before .before .before .before .before .before .before .before .before .before .before .before .before .before .before .before .before .before .before .before .before .before .before .before .before .before .before .before .before .before .before .before .before .before .before .before .before .before .before .before .before .before .before .before .before .before .before .before .before .if1) .left) ((c .before .before .before .before .before .before .before .before .before .before .before .before .before .before .before .before .before .before .before .before .before .before .before .before .before .before .before .before .before .before .before .before .before .before .before .before .before .before .before .before .before .before .before .before .before .before .before .new) .ensures .0) ((c .before .before .before .before .before .before .before .before .before .before .before .before .before .before .before .before .before .before .before .before .before .before .before .before .before .before .before .before .before .before .before .before .before .before .before .before .before .before .before .before .before .before .before .before .before .before .before .new) .ensures .1) _ ((c .before .before .before .before .before .before .before .before .before .before .before .before .before .before .before .before .before .before .before .before .before .before .before .before .before .before .before .before .before .before .before .before .before .before .before .made2) .given .1) _ _ ((c .before .before .before .before .before .before .before .before .before .before .before .before .before .before .before .before .before .before .before .before .before .before .play) .ensures .0) ((c .before .before .before .before .before .before .before .before .before .before .before .before .before .before .before .before .before .before .before .before .before .before .play) .ensures .1) in (h .0, h .1, h .2, λ h. absurd (h refl))
 
 pub run-spec : {M : Type 1} → statement M
 run-spec =

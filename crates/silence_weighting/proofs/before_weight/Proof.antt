@@ -1,3 +1,4 @@
+-- The weight before the walk: by whether it begins at frame 0.
 use borrow.Author.Needs.{needs}
 use Rattle.silence_weighting.proofs.Walk.{before-first, before-later}
 use Rattle.silence_weighting.proofs.before_weight.Statement.{statement}
@@ -7,16 +8,21 @@ walk-begin-requires : tie.Need-walk-begin-requires
 walk-begin-requires c κs = search needs
 
 returns : tie.Need-returns
-returns c = λ ks ss. before-first _ ks ss _ _ _ (c .before .walk-begin .ensures) (c .if1 .taken)
+returns c =
+    let at-walk-begin = c .before .before in
+    λ ks ss. before-first _ ks ss _ _ _ (at-walk-begin .walk-begin .ensures) (c .if1 .taken)
 
-sub-weight-at : tie.Need-sub-weight-at
-sub-weight-at c = search needs
+sub-t5 : tie.Need-sub-t5
+sub-t5 c = search needs
 
 weight-at-requires : tie.Need-weight-at-requires
 weight-at-requires c κs = search needs
 
 returns-2 : tie.Need-returns-2
-returns-2 c = λ ks ss. before-later _ ks ss _ _ _ _ (c .before .before .walk-begin .ensures) (c .before .if1 .left) (c .weight-at .ensures)
+returns-2 c =
+    let at-if1 = c .before .before in
+    let at-walk-begin = at-if1 .before .before in
+    λ ks ss. before-later _ ks ss _ _ _ _ (at-walk-begin .walk-begin .ensures) (at-if1 .if1 .left) (c .weight-at .ensures)
 
 pub before-weight-spec : {M : Type 1} → statement M
 before-weight-spec =
@@ -24,6 +30,6 @@ before-weight-spec =
     (tie.spec
     walk-begin-requires
     returns
-    sub-weight-at
+    sub-t5
     weight-at-requires
     returns-2)

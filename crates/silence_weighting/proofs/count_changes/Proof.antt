@@ -1,18 +1,20 @@
+-- The count of the walk's changes: after i frames it is the number of those that the first i give.
 use borrow.Author.Needs.{needs}
 use mathlib.Core.Path.{_≡_, ap, _∙_}
 use native.Mathlib.Omega.{arith}
-use Prim.Native.Nat.{ℕ, _-_, _*_, _≤_}
+use Prim.Native.Nat.{_-_, _*_, _≤_}
 use lib.ListN.{length}
 use mathlib.Core.Bool.{not}
-use Rattle.definition.specs.Silence.{tableIn}
-use Rattle.silence_weighting.specs.Steps.{changesTo}
+use Rattle.definition.specs.declared.InputFrame.{InputFrame}
+use Rattle.silence_weighting.specs.Steps.{tableOf, changesTo}
 use Rattle.silence_weighting.proofs.Walk.{Walking, walk-start, walk-frame, walk-turn, walk-difference, walk-end, number-le, count-none, count-turn}
 use Rattle.silence_weighting.proofs.count_changes.Statement.{statement}
 use Rattle.silence_weighting.proofs.count_changes.Tie as tie
 
 abbrev Inv-loop : tie.InvT-loop
 Inv-loop s known is-silence current-weight n b blind weight₀ count₀ out i₀ weight count i =
-    Walking (s .length) known is-silence current-weight (s .«silence_weight») n b out blind weight i × ((first : ℕ) → count ≡ length (changesTo (s .«silence_weight») (s .subsampling) first n (tableIn (s .length) known is-silence current-weight) i)) × (count ≤ 16 * i)
+    Walking (s .length .0) known is-silence current-weight (s .«silence_weight») (n .0) (b .0) out blind weight i
+    × ((first : InputFrame) → count ≡ length (changesTo (s .«silence_weight») (s .subsampling) first (n .0) (tableOf (s .length .0) known is-silence current-weight) i)) × (count ≤ 16 * i)
 
 abbrev μ-loop : tie.MeasureT-loop
 μ-loop s known is-silence current-weight n b blind weight₀ count₀ out i₀ weight count i = out - i
@@ -30,10 +32,17 @@ less-requires : tie.Need-less-requires Inv-loop μ-loop
 less-requires c κs = search needs
 
 loop-holds : tie.Need-loop-holds Inv-loop μ-loop
-loop-holds c = (walk-start _ _ _ _ _ _ _ _ _ _ (c .before .before .before .walk-begin .ensures) (c .less .ensures) (ap not (c .before .before .flag-at .ensures)) (c .before .before-weight .ensures _ _), λ first. count-none _ _ first _ _, omega arith)
+loop-holds c =
+    let at-before-weight = c .before in
+    let at-flag-at = at-before-weight .before in
+    let at-walk-begin = at-flag-at .before in (
+      walk-start _ _ _ _ _ _ _ _ _ _ (at-walk-begin .walk-begin .ensures) (c .less .ensures) (ap not (at-flag-at .flag-at .ensures)) (at-before-weight .before-weight .ensures _ _),
+      λ first. count-none _ _ first _ _,
+      omega arith,
+    )
 
-add-frame : tie.Need-add-frame Inv-loop μ-loop
-add-frame c = search needs
+add-count : tie.Need-add-count Inv-loop μ-loop
+add-count c = search needs
 
 next-weight-requires : tie.Need-next-weight-requires Inv-loop μ-loop
 next-weight-requires c κs = search needs
@@ -47,8 +56,8 @@ add-number-of c = search needs
 number-of-requires : tie.Need-number-of-requires Inv-loop μ-loop
 number-of-requires c κs = search needs
 
-add-count : tie.Need-add-count Inv-loop μ-loop
-add-count c = omega (arith, number-le _ _ _ _ (c .number-of .ensures), c .before .before .before .before .loop .inv .2)
+add-count-2 : tie.Need-add-count-2 Inv-loop μ-loop
+add-count-2 c = omega (arith, number-le _ _ _ _ (c .number-of .ensures), c .before .before .before .before .before .before .before .loop .inv .2)
 
 add-offset : tie.Need-add-offset Inv-loop μ-loop
 add-offset c = search needs
@@ -58,13 +67,17 @@ loop-less c = search needs
 
 loop-again : tie.Need-loop-again Inv-loop μ-loop
 loop-again c =
-    let v = c .before .before .before .before .loop .inv in
-    let q = c .before .before .next-weight .ensures _ in
+    let at-weight-at = c .before .before .before in
+    let at-next-weight = at-weight-at .before in
+    let at-loop-test = at-next-weight .before .before in
+    let at-loop = at-loop-test .before in
+    let v = at-loop .loop .inv in
+    let q = at-next-weight .next-weight .ensures _ in
     let r = c .number-of .ensures in
-    let d = walk-difference (v .0) q (c .before .weight-at .ensures) in (
-      walk-turn (v .0) q (c .before .before .before .loop-test .taken),
+    let d = walk-difference (v .0) q (at-weight-at .weight-at .ensures) in (
+      walk-turn (v .0) q (at-loop-test .loop-test .taken),
       λ first. count-turn _ _ first _ _ _ _ _ _ _ (walk-frame (v .0) q) (v .1 first) d r,
-      omega (arith, number-le _ _ _ _ r),
+      omega (arith, number-le _ _ _ _ r, v .2, c .before .before .before .before .before .before .before .before .before .before .before .before .before .before .before .pre .5),
     )
 
 returns : tie.Need-returns Inv-loop μ-loop
@@ -84,12 +97,12 @@ count-changes-spec =
     before-weight-requires
     less-requires
     loop-holds
-    add-frame
+    add-count
     next-weight-requires
     weight-at-requires
     add-number-of
     number-of-requires
-    add-count
+    add-count-2
     add-offset
     loop-less
     loop-again

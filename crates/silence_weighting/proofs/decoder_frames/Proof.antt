@@ -1,27 +1,31 @@
+-- The conversion from input frames to decoder frames is the definition's.
 use borrow.Author.Needs.{needs}
-use mathlib.Core.Path.{refl}
 use Rattle.definition.specs.Silence.{decoderFrames}
 use Rattle.silence_weighting.proofs.decoder_frames.Statement.{statement}
 use Rattle.silence_weighting.proofs.decoder_frames.Tie as tie
 
-sub-t3 : tie.Need-sub-t3
-sub-t3 c = search needs
+less-requires : tie.Need-less-requires
+less-requires c κs = search needs
 
-add-t4 : tie.Need-add-t4
-add-t4 c = search needs
+sub-t5 : tie.Need-sub-t5
+sub-t5 c = search needs
 
-div-t5 : tie.Need-div-t5
-div-t5 c = search needs
+add-t6 : tie.Need-add-t6
+add-t6 c = search needs
+
+div-t7 : tie.Need-div-t7
+div-t7 c = search needs
 
 returns : tie.Need-returns
 unfolding decoderFrames
-returns c = refl
+returns c = rw (c .less .ensures)
 
 pub decoder-frames-spec : {M : Type 1} → statement M
 decoder-frames-spec =
     tie.close
     (tie.spec
-    sub-t3
-    add-t4
-    div-t5
+    less-requires
+    sub-t5
+    add-t6
+    div-t7
     returns)

@@ -4,7 +4,7 @@ use native.Mathlib.Omega.{arith}
 use Prim.Native.Nat.{_-_, _≤_}
 use lib.ListN.{length}
 use Rattle.loops.specs.Lists.{build}
-use Rattle.loops.specs.Steps.{put}
+use Rattle.loops.specs.Ring.{put}
 use Rattle.loops.proofs.Fill.{puts, put-turn, put-end}
 use Rattle.silence_weighting.proofs.fill_weights.Statement.{statement}
 use Rattle.silence_weighting.proofs.fill_weights.Tie as tie

@@ -1,11 +1,13 @@
+-- The changes of a decoder frame in the answer's two lists: after j turns the first j of them stand there.
 use borrow.Author.Needs.{needs}
 use mathlib.Core.Path.{_≡_, refl, ap, _∙_}
 use native.Mathlib.Omega.{arith}
 use Prim.Native.Nat.{ℕ, _+_, _-_, _≤_}
 use lib.ListN.{length}
 use Rattle.loops.specs.Lists.{build}
-use Rattle.loops.specs.Steps.{put}
+use Rattle.loops.specs.Ring.{put}
 use Rattle.loops.proofs.Fill.{put-none, put-turn, put-end}
+use Rattle.definition.specs.declared.InputFrame.{InputFrame}
 use Rattle.definition.specs.Silence.{inputFrame}
 use Rattle.silence_weighting.proofs.Walk.{number-le, given-put}
 use Rattle.silence_weighting.proofs.give.Statement.{statement}
@@ -13,7 +15,7 @@ use Rattle.silence_weighting.proofs.give.Tie as tie
 
 abbrev Inv-loop : tie.InvT-loop
 Inv-loop frames₀ weights₀ at subsampling first k diff last n j₀ frames weights j =
-    (j ≤ n) × (length frames ≡ length frames₀) × (length weights ≡ length weights₀) × (frames ≡ put at (build j (inputFrame subsampling (first .0) (k .0))) frames₀) × (weights ≡ put at (build j (λ i. diff)) weights₀)
+    (j ≤ n) × (length frames ≡ length frames₀) × (length weights ≡ length weights₀) × (frames ≡ put at (build j (λ i. inputFrame subsampling first k i .0)) frames₀) × (weights ≡ put at (build j (λ i. diff)) weights₀)
 
 abbrev μ-loop : tie.MeasureT-loop
 μ-loop frames₀ weights₀ at subsampling first k diff last n j₀ frames weights j = n - j
@@ -54,7 +56,7 @@ loop-less : tie.Need-loop-less Inv-loop μ-loop
 loop-less c = search needs
 
 loop-again : tie.Need-loop-again Inv-loop μ-loop
-loop-again c = (search needs, search needs, search needs, put-turn _ _ _ _ (omega arith) (c .before .before .loop .inv .3) (c .input-frame .ensures), put-turn _ _ _ _ (omega arith) (c .before .before .loop .inv .4) refl)
+loop-again c = (search needs, search needs, search needs, put-turn _ _ _ _ (omega arith) (c .before .before .loop .inv .3) (ap (λ (x : InputFrame). x .0) (c .input-frame .ensures)), put-turn _ _ _ _ (omega arith) (c .before .before .loop .inv .4) refl)
 
 add-result : tie.Need-add-result Inv-loop μ-loop
 add-result c = search needs
@@ -66,7 +68,15 @@ same-length-2 : tie.Need-same-length-2 Inv-loop μ-loop
 same-length-2 c = search needs
 
 returns : tie.Need-returns Inv-loop μ-loop
-returns c = (ap (λ (z : ℕ). c .before .before .before .before .before .args .at + z) (c .before .before .number-of .ensures), put-end _ _ _ _ _ (omega arith) (omega arith) (c .before .loop .inv .3) ∙ given-put _ _ _ _ _ (λ x. x .0) _ _ _ (c .before .before .number-of .ensures), put-end _ _ _ _ _ (omega arith) (omega arith) (c .before .loop .inv .4) ∙ given-put _ _ _ (c .before .before .before .before .before .args .first .0) (c .before .before .before .before .before .args .k .0) (λ x. x .1) _ _ _ (c .before .before .number-of .ensures))
+returns c =
+    let at-loop = c .before in
+    let at-number-of = at-loop .before in
+    let args = at-number-of .before .before .before .args in
+    let n = at-number-of .number-of .ensures in (
+      ap (λ (z : ℕ). args .at + z) n,
+      put-end _ _ _ _ _ (omega arith) (omega arith) (at-loop .loop .inv .3) ∙ given-put _ _ _ _ _ (λ x. x .0) _ _ _ n,
+      put-end _ _ _ _ _ (omega arith) (omega arith) (at-loop .loop .inv .4) ∙ given-put _ _ _ (args .first) (args .k) (λ x. x .1) _ _ _ n,
+    )
 
 pub give-spec : {M : Type 1} → statement M
 give-spec =

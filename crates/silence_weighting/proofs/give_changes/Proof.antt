@@ -1,3 +1,4 @@
+-- The walk: after i frames the weights of the first i are written, and their changes stand at the fronts of the two lists.
 use borrow.Author.Needs.{needs}
 use mathlib.Core.Path.{_≡_, refl, ap, _∙_}
 use native.Mathlib.Omega.{arith}
@@ -5,23 +6,25 @@ use Prim.Native.Nat.{suc, _-_, _≤_, min}
 use lib.ListN.{length, length-set}
 use mathlib.Core.List.{List, map}
 use mathlib.Core.Bool.{not}
-use Rattle.definition.specs.Silence.{tableIn, begin, walked, deltaWeights}
-use Rattle.definition.specs.Changes.{Change}
 use Rattle.loops.specs.Lists.{build, over}
-use Rattle.loops.specs.Steps.{put}
+use Rattle.loops.specs.Ring.{put}
 use Rattle.loops.proofs.Fill.{put-none, put-turn, put-end}
-use Rattle.silence_weighting.specs.Steps.{changesTo}
+use Rattle.definition.specs.Changes.{Change}
+use Rattle.definition.specs.Silence.{walked, deltaWeights}
+use Rattle.silence_weighting.specs.Steps.{tableOf, changesTo}
 use Rattle.silence_weighting.proofs.Walk.{Walking, walk-start, walk-frame, walk-turn, walk-weight, walk-difference, walk-end, room-for, count-none, count-turn, give-none, give-turn, unwritten, written}
 use Rattle.silence_weighting.proofs.give_changes.Statement.{statement}
 use Rattle.silence_weighting.proofs.give_changes.Tie as tie
 
 abbrev Inv-loop : tie.InvT-loop
 Inv-loop s known is-silence current-weight₀ n first frames₀ weights₀ b blind weight₀ at₀ out i₀ current-weight frames weights weight at i =
-    Walking (s .length) known is-silence current-weight₀ (s .«silence_weight») n b out blind weight i × (at ≡ length (changesTo (s .«silence_weight») (s .subsampling) (first .0) n (tableIn (s .length) known is-silence current-weight₀) i))
+    Walking (s .length .0) known is-silence current-weight₀ (s .«silence_weight») (n .0) (b .0) out blind weight i
+    × (at ≡ length (changesTo (s .«silence_weight») (s .subsampling) first (n .0) (tableOf (s .length .0) known is-silence current-weight₀) i))
     × (length current-weight ≡ length current-weight₀) × (length frames ≡ length frames₀) × (length weights ≡ length weights₀)
-    × (length (deltaWeights (s .«silence_weight») (s .subsampling) (first .0) n (tableIn (s .length) known is-silence current-weight₀)) ≤ min (length frames₀) (length weights₀))
-    × (current-weight ≡ put b (build i (λ j. walked (s .«silence_weight») (tableIn (s .length) known is-silence current-weight₀) (suc j))) current-weight₀)
-    × (frames ≡ over (map (λ (x : Change). x .0) (changesTo (s .«silence_weight») (s .subsampling) (first .0) n (tableIn (s .length) known is-silence current-weight₀) i)) frames₀) × (weights ≡ over (map (λ (x : Change). x .1) (changesTo (s .«silence_weight») (s .subsampling) (first .0) n (tableIn (s .length) known is-silence current-weight₀) i)) weights₀)
+    × (length (deltaWeights (s .«silence_weight») (s .subsampling) first n (tableOf (s .length .0) known is-silence current-weight₀)) ≤ min (length frames₀) (length weights₀))
+    × (current-weight ≡ put (b .0) (build i (λ j. walked (s .«silence_weight») (tableOf (s .length .0) known is-silence current-weight₀) (suc j))) current-weight₀)
+    × (frames ≡ over (map (λ (x : Change). x .0) (changesTo (s .«silence_weight») (s .subsampling) first (n .0) (tableOf (s .length .0) known is-silence current-weight₀) i)) frames₀)
+    × (weights ≡ over (map (λ (x : Change). x .1) (changesTo (s .«silence_weight») (s .subsampling) first (n .0) (tableOf (s .length .0) known is-silence current-weight₀) i)) weights₀)
 
 abbrev μ-loop : tie.MeasureT-loop
 μ-loop s known is-silence current-weight₀ n first frames₀ weights₀ b blind weight₀ at₀ out i₀ current-weight frames weights weight at i = out - i
@@ -39,10 +42,23 @@ less-requires : tie.Need-less-requires Inv-loop μ-loop
 less-requires c κs = search needs
 
 loop-holds : tie.Need-loop-holds Inv-loop μ-loop
-loop-holds c = (walk-start _ _ _ _ _ _ _ _ _ _ (c .before .before .before .before .walk-begin .ensures) (c .less .ensures) (ap not (c .before .before .before .flag-at .ensures)) (c .before .before-weight .ensures _ _), count-none _ _ _ _ _, search needs, search needs, search needs, search needs, put-none _ _ _, give-none _ _ _ _ _ (λ (x : Change). x .0) _, give-none _ _ _ _ _ (λ (x : Change). x .1) _)
+loop-holds c =
+    let at-before-weight = c .before in
+    let at-flag-at = at-before-weight .before .before in
+    let at-walk-begin = at-flag-at .before in (
+      walk-start _ _ _ _ _ _ _ _ _ _ (at-walk-begin .walk-begin .ensures) (c .less .ensures) (ap not (at-flag-at .flag-at .ensures)) (at-before-weight .before-weight .ensures _ _),
+      count-none _ _ _ _ _,
+      search needs,
+      search needs,
+      search needs,
+      search needs,
+      put-none _ _ _,
+      give-none _ _ _ _ _ (λ (x : Change). x .0) _,
+      give-none _ _ _ _ _ (λ (x : Change). x .1) _,
+    )
 
-add-frame : tie.Need-add-frame Inv-loop μ-loop
-add-frame c = search needs
+add-current-weight : tie.Need-add-current-weight Inv-loop μ-loop
+add-current-weight c = search needs
 
 next-weight-requires : tie.Need-next-weight-requires Inv-loop μ-loop
 next-weight-requires c κs = search needs
@@ -61,10 +77,11 @@ add-give c = search needs
 
 give-requires : tie.Need-give-requires Inv-loop μ-loop
 give-requires c κs =
-    let v = c .before .before .before .before .before .before .loop .inv in
-    let q = c .before .before .before .before .next-weight .ensures _ in
-    let d = (let at-weight-at = c .before .before in let start = at-weight-at .before .before .before .before .before .before .before .before .before .before .before .before .before .before .before in walk-difference (v .0) q (unwritten _ _ (v .0) (start .pre .3) (start .pre .2) (v .6) (at-weight-at .weight-at .ensures))) in
-    let r = room-for (v .0) _ _ _ _ (c .before .before .before .before .before .loop-test .taken) (count-turn _ _ _ _ _ _ _ _ _ _ (walk-frame (v .0) q) (v .1) d refl) (v .5) in
+    let v = c .before .before .before .before .before .before .before .before .before .loop .inv in
+    let q = c .before .before .before .before .before .before .next-weight .ensures _ in
+    let pre = c .before .before .before .before .before .before .before .before .before .before .before .before .before .before .before .before .before .before .before .before .pre in
+    let d = walk-difference (v .0) q (unwritten _ _ (v .0) (pre .3) (pre .2) (v .6) (c .before .before .before .before .weight-at .ensures)) in
+    let r = room-for (v .0) _ _ _ _ (c .before .before .before .before .before .before .before .before .loop-test .taken) (count-turn _ _ _ _ _ _ _ _ _ _ (walk-frame (v .0) q) (v .1) d refl) (v .5) in
     (omega arith, omega arith, omega arith, omega arith, omega arith)
 
 add-offset : tie.Need-add-offset Inv-loop μ-loop
@@ -75,17 +92,18 @@ loop-less c = search needs
 
 loop-again : tie.Need-loop-again Inv-loop μ-loop
 loop-again c =
-    let v = c .before .before .before .before .before .before .before .before .before .before .before .loop .inv in
-    let q = c .before .before .before .before .before .before .before .before .before .next-weight .ensures _ in
-    let d = (let at-weight-at = c .before .before .before .before .before .before .before in let start = at-weight-at .before .before .before .before .before .before .before .before .before .before .before .before .before .before .before in walk-difference (v .0) q (unwritten _ _ (v .0) (start .pre .3) (start .pre .2) (v .6) (at-weight-at .weight-at .ensures))) in
+    let v = c .before .before .before .before .before .before .before .before .before .before .before .before .before .before .loop .inv in
+    let q = c .before .before .before .before .before .before .before .before .before .before .before .next-weight .ensures _ in
+    let pre = c .before .before .before .before .before .before .before .before .before .before .before .before .before .before .before .before .before .before .before .before .before .before .before .before .before .pre in
+    let d = walk-difference (v .0) q (unwritten _ _ (v .0) (pre .3) (pre .2) (v .6) (c .before .before .before .before .before .before .before .before .before .weight-at .ensures)) in
     let g = c .before .before .before .before .give .ensures in (
-      walk-turn (v .0) q (c .before .before .before .before .before .before .before .before .before .before .loop-test .taken),
+      walk-turn (v .0) q (c .before .before .before .before .before .before .before .before .before .before .before .before .before .loop-test .taken),
       g .0 ∙ count-turn _ _ _ _ _ _ _ _ _ _ (walk-frame (v .0) q) (v .1) d refl,
       simp length-set (v .2),
       omega arith,
       omega arith,
       v .5,
-      put-turn _ _ _ _ (omega arith) (v .6) (walk-weight (v .0) q),
+      put-turn _ _ _ _ (omega (arith, v .0 .out-is, v .0 .begin-is, c .before .before .before .before .before .before .before .before .before .before .before .before .before .loop-test .taken)) (v .6) (walk-weight (v .0) q),
       give-turn _ _ _ _ _ _ _ _ 0 _ (walk-frame (v .0) q) (v .1) d (λ (x : Change). x .0) _ _ _ (v .7) (g .1),
       give-turn _ _ _ _ _ _ _ _ 0 _ (walk-frame (v .0) q) (v .1) d (λ (x : Change). x .1) _ _ _ (v .8) (g .2),
     )
@@ -101,9 +119,10 @@ same-length-3 c = search needs
 
 returns : tie.Need-returns Inv-loop μ-loop
 returns c =
-    let v = c .before .loop .inv in
-    let e = (let args = c .before .before .before .before .before .before .before .before .before .before .before .before .args in walk-end (v .0) (args .s .subsampling) (args .first .0) (c .loop-test .left)) in
-    let start = c .before .before .before .before .before .before .before .before .before .before .before .before in (
+    let at-loop = c .before in
+    let start = at-loop .before .before .before .before .before .before .before .before .before .before .before in
+    let v = at-loop .loop .inv in
+    let e = walk-end (v .0) (start .args .s .subsampling) (start .args .first) (c .loop-test .left) in (
       v .1 ∙ ap length e,
       put-end _ _ _ _ _ (v .0 .within) (c .loop-test .left) (v .6) ∙ written _ _ _ _ _ _ _ _ (start .pre .3) (v .0 .begin-is) (v .0 .out-is) (start .pre .2),
       v .7 ∙ ap (λ (z : List Change). over (map (λ (x : Change). x .0) z) (start .args .frames .now)) e,
@@ -121,7 +140,7 @@ give-changes-spec =
     before-weight-requires
     less-requires
     loop-holds
-    add-frame
+    add-current-weight
     next-weight-requires
     weight-at-requires
     mul-current-weight

@@ -1,3 +1,4 @@
+-- The segments' flags: after i segments each room is the table's part, frame by frame, marked by the first i.
 use borrow.Author.Needs.{needs}
 use mathlib.Core.Path.{_≡_, refl, _∙_}
 use native.Mathlib.Omega.{arith}
@@ -9,7 +10,7 @@ use lib.Ieee.{Float}
 use mir.Syntax.{w32}
 use mir.ValLaws.{toZ-ofZ}
 use Rattle.loops.specs.Lists.{build, over}
-use Rattle.definition.specs.Silence.{tableIn}
+use Rattle.silence_weighting.specs.Steps.{tableOf}
 use Rattle.silence_weighting.proofs.Tables.{place-in, length-table}
 use Rattle.silence_weighting.proofs.Walk.{known-at, silence-at}
 use Rattle.silence_weighting.proofs.Marks.{after, mark-none, mark-turn, mark-end, known-given, silence-given}
@@ -19,9 +20,9 @@ use Rattle.silence_weighting.proofs.mark_segments.Tie as tie
 abbrev Inv-loop : tie.InvT-loop
 Inv-loop phones known₀ is-silence₀ ps starts stops decoded i₀ i-end known is-silence i =
     (i ≤ i-end) × (i-end ≡ length ps) × (length known ≡ length known₀) × (length is-silence ≡ length is-silence₀)
-    × ((n : ℕ) (ws : List Float) → decoded ≤ n → n ≤ length known₀ → n ≤ length is-silence₀
-    → (known ≡ over (build n (λ k. after phones decoded ps starts stops (tableIn n known₀ is-silence₀ ws) i k .known)) known₀)
-    × (is-silence ≡ over (build n (λ k. after phones decoded ps starts stops (tableIn n known₀ is-silence₀ ws) i k .is-silence)) is-silence₀))
+    × ((n : ℕ) (ws : List Float) → decoded .0 ≤ n → n ≤ length known₀ → n ≤ length is-silence₀
+    → (known ≡ over (build n (λ k. after phones (decoded .0) ps starts stops (tableOf n known₀ is-silence₀ ws) i k .known)) known₀)
+    × (is-silence ≡ over (build n (λ k. after phones (decoded .0) ps starts stops (tableOf n known₀ is-silence₀ ws) i k .is-silence)) is-silence₀))
 
 abbrev μ-loop : tie.MeasureT-loop
 μ-loop phones known₀ is-silence₀ ps starts stops decoded i₀ i-end known is-silence i = i-end - i
@@ -73,16 +74,20 @@ loop-less c = search needs
 
 loop-again : tie.Need-loop-again Inv-loop μ-loop
 loop-again c =
-    let v = c .before .before .before .before .before .before .before .before .before .before .before .before .before .before .before .before .loop .inv in (
+    let v = c .before .before .before .before .before .before .before .before .before .before .before .before .before .before .before .before .loop .inv in
+    let stop = c .before .before .before .before .before .before .before .before .before .before .before .before .before .smaller .ensures in
+    let start = c .before .before .before .before .before .before .before .before .before .before .before .smaller2 .ensures in
+    let size = c .before .before .before .before .before .before .before .before .before .before .less .ensures in (
       omega arith,
       v .1,
       omega arith,
       omega arith,
-      λ n ws d lk ls. (
-        mark-turn _ _ _ _ _ _ (λ f. f .known) _ true _ (known-given _) n _ _ _ _ _ d (c .before .before .before .before .before .before .before .before .before .before .before .before .before .smaller .ensures) (c .before .before .before .before .before .before .before .before .before .before .before .smaller2 .ensures) (c .before .before .before .before .before .before .before .before .before .before .less .ensures) (v .4 n ws d lk ls .0) (c .before .before .before .before .before .before .fill .ensures),
-        mark-turn _ _ _ _ _ _ (λ f. f .is-silence) _ _ _ (silence-given _) n _ _ _ _ _ d (c .before .before .before .before .before .before .before .before .before .before .before .before .before .smaller .ensures) (c .before .before .before .before .before .before .before .before .before .before .before .smaller2 .ensures) (c .before .before .before .before .before .before .before .before .before .before .less .ensures) (v .4 n ws d lk ls .1)
-            (c .before .before .fill2 .ensures ∙ rw (c .before .before .before .before .before .before .before .before .contains .ensures, toZ-ofZ w32 _ (record { sfits = c .before .before .before .before .before .before .before .before .before .contains-arg .given })) refl),
-      ),
+      λ n ws d lk ls.
+          let at-contains = c .before .before .before .before .before .before .before .before in (
+            mark-turn _ _ _ _ _ _ (λ f. f .known) _ true _ (known-given _) n _ _ _ _ _ d stop start size (v .4 n ws d lk ls .0) (c .before .before .before .before .before .before .fill .ensures),
+            mark-turn _ _ _ _ _ _ (λ f. f .is-silence) _ _ _ (silence-given _) n _ _ _ _ _ d stop start size (v .4 n ws d lk ls .1)
+                (c .before .before .fill2 .ensures ∙ rw (at-contains .contains .ensures, toZ-ofZ w32 _ (record { sfits = at-contains .before .contains-arg .given })) refl),
+          ),
     )
 
 same-length : tie.Need-same-length Inv-loop μ-loop

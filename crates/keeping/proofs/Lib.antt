@@ -1,5 +1,0 @@
-pub mod Facts
-pub mod Waiting
-pub mod Sound
-pub mod Steps
-pub mod Keeps

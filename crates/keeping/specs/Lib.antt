@@ -1,2 +1,0 @@
--- The claim over every list of calls.
-pub mod Keeping

@@ -1,1 +1,0 @@
-// The claim over every list of calls: its statement is in specs/, its proof in proofs/. It has no code; `run_calls` has.

@@ -1,0 +1,5 @@
+-- The program on values: the rooms and what they hold, the calls, and lists of calls. All of it is to be believed.
+pub mod Rooms
+pub mod Calls
+pub mod Session
+pub mod Keeping
