@@ -230,13 +230,13 @@ typedef struct {
 } shofrakin_decoder_frame;
 
 /* A silence table's record: the weight of silence, the subsampling, how many phones are silence, the places of the table's rooms, and
- * how many of them are in use. */
+ * how many of them are in use: a number of decoder frames. */
 typedef struct {
     float silence_weight;
     size_t subsampling;
     size_t phones;
     size_t table;
-    size_t length;
+    shofrakin_decoder_frame length;
 } shofrakin_silence;
 
 /* The answer where a table is made: the record where the refusal is 0, else one that every call refuses with 10. */

@@ -208,12 +208,12 @@ int main(void) {
     d = shofrakin_compute_current_traceback(&table, phones, 2, known, 8, is_silence, 8, current_weight, 8,
         path, 1, from, 1, to, 1, (shofrakin_decoder_frame){3});
     is("traceback", d.refusal, 0);
-    is("length", table.length, 3);
+    is("length", table.length.number, 3);
     is("known", known[1] && is_silence[1] && !known[2], true);
     d = shofrakin_compute_current_traceback(&table, phones, 2, known, 8, is_silence, 8, current_weight, 8,
         path, 1, from, 1, to, 1, (shofrakin_decoder_frame){9});
     is("traceback past the table", d.refusal, 23);
-    is("length, after a refusal", table.length, 3);
+    is("length, after a refusal", table.length.number, 3);
     printf(wrong ? "%d differ\n" : "the header fits the library\n", wrong);
     return wrong != 0;
 }
