@@ -1,12 +1,15 @@
 -- The parts of the claim, where a load reads a model M.
 use mathlib.Core.Path.{_≡_}
 use mathlib.Core.Bool.{true}
+use mathlib.Core.List.{List}
 use Prim.Native.Nat.{ℕ}
 use Rattle.loops.specs.Lists.{if_then_else_}
 use Rattle.definition.specs.declared.IvectorOptions.{IvectorOptions}
+use Rattle.definition.specs.declared.RingLengths.{RingLengths}
 use Rattle.definition.specs.Reader.{read}
 use Rattle.definition.specs.Model.{Tables, Model, Files, tableLengthsOf, modelIn, load, loadedTables}
 use Rattle.definition.specs.Stream.{infoSound, sameTables, roomsFit, newRefusal}
+use Rattle.definition.specs.Machine.{Call, answers}
 use Rattle.program.specs.Rooms.{Rooms, roomLengthsOf}
 
 -- the model read from the filled tables is the model of the bytes
@@ -30,3 +33,12 @@ RefusedForRooms =
     → load o f (tableLengthsOf t) n ≡ read M at
     → (z : Rooms) (m : ℕ)
     → newRefusal (M .info) (tableLengthsOf (loadedTables (load o f (tableLengthsOf t) n) t)) (roomLengthsOf z m) ≡ (if roomsFit (M .info .dims) (roomLengthsOf z m) then 0 else 8)
+
+-- what `run` writes on the record and the tables that the load left, by its contract the answers over what they hold, are the answers over the
+-- model of the bytes
+abbrev pub AnswersFromBytes : Type 0
+AnswersFromBytes =
+    (o : IvectorOptions) (f : Files) (t : Tables) (n : ℕ) (M : Model) (at : ℕ)
+    → load o f (tableLengthsOf t) n ≡ read M at
+    → (z : RingLengths) (cs : List Call)
+    → answers (modelIn (M .info) (loadedTables (load o f (tableLengthsOf t) n) t)) z cs ≡ answers M z cs
