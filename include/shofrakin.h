@@ -133,7 +133,7 @@ typedef struct {
  * which nothing is kept, changes that wait, one more than the highest changed frame, and the statistics' frame count. */
 typedef struct {
     shofrakin_info info;
-    shofrakin_room_lengths rooms;
+    shofrakin_room_lengths lengths;
     size_t accepted;
     size_t num_frames_stats;
     size_t mark;

@@ -131,7 +131,7 @@ int main(void) {
     is("its quadratic", quadratic[0], 1);
     stream = a.stream;
     is("its record", memcmp(&stream.info.dims, &info.dims, sizeof info.dims), 0);
-    is("its scratch", stream.rooms.estimate.scratch, 2);
+    is("its scratch", stream.lengths.estimate.scratch, 2);
     a = shofrakin_new_stream(info, TABLES, RINGS, cmvn, 1, linear, 1, quadratic, 1, current, 1, scratch, 2);
     is("fresh stream, short room", a.answer.refusal, 8);
     is("the call on the record beside it", shofrakin_set_input_finished(&a.stream, RINGS).refusal, 10);

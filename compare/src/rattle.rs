@@ -89,7 +89,7 @@ pub struct RoomLengths {
 #[derive(Clone, Copy, Debug, PartialEq)]
 pub struct IvectorStream {
     pub info: IvectorInfo,
-    pub rooms: RoomLengths,
+    pub lengths: RoomLengths,
     pub accepted: usize,
     pub num_frames_stats: usize,
     pub mark: usize,
@@ -496,7 +496,7 @@ pub enum Call<'a> {
 
 #[rustfmt::skip]
 fn bits(s: &IvectorStream) -> Vec<u64> {
-    let (o, d, t, r, e) = (&s.info.opts, &s.info.dims, &s.info.tables, &s.rooms.rings, &s.rooms.estimate);
+    let (o, d, t, r, e) = (&s.info.opts, &s.info.dims, &s.info.tables, &s.lengths.rings, &s.lengths.estimate);
     let mut v: Vec<u64> = [
         o.left_context, o.right_context, o.cmn_window, o.global_frames, o.num_gselect, o.num_cg_iters,
         d.num_gauss, d.ext_gauss, d.feat_dim, d.ivector_dim, d.base_dim, d.lda_cols,
@@ -566,7 +566,7 @@ impl Stream {
             estimate: EstimateLengths { cmvn_stats: 0, linear: 0, quadratic: 0, current: 0, scratch: 0 },
         };
         let rec = IvectorStream {
-            info: m.info, rooms: none, accepted: 0, num_frames_stats: 0, mark: 0, waiting: 0, past_highest: 0,
+            info: m.info, lengths: none, accepted: 0, num_frames_stats: 0, mark: 0, waiting: 0, past_highest: 0,
             delta_weights_provided: false, input_finished: false, num_frames: 0.0,
         };
         let f = forge(rec, al);

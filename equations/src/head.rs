@@ -31,7 +31,7 @@ said r f n v c = record { told = record { refusal = r; «frames_held» = f; «ro
 
 -- refusal 10 of a call on a stream: waiting frames, table lengths and room lengths are what is lent
 abbrev declined : IvectorStream → List ℕ → TableLengths → RoomLengths → Bool
-declined s waiting tables rooms = isBroken s waiting || not (sameTables tables (s .info .tables)) || not (sameRooms rooms (s .rooms))
+declined s waiting tables rooms = isBroken s waiting || not (sameTables tables (s .info .tables)) || not (sameRooms rooms (s .lengths))
 
 -- the calls on a silence table, and their answers, as those of a stream
 data Query : Type 0 where

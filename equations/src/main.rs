@@ -22,7 +22,7 @@ const RINGS: [&str; 4] = ["frames", "rows", "waiting_frames", "waiting_weights"]
 const ESTIMATE: [&str; 5] = ["cmvn_stats", "linear", "quadratic", "current", "scratch"];
 #[rustfmt::skip]
 const STREAM: [&str; 10] = [
-    "info", "rooms", "accepted", "num_frames_stats", "mark", "waiting", "past_highest", "delta_weights_provided", "input_finished", "num_frames",
+    "info", "lengths", "accepted", "num_frames_stats", "mark", "waiting", "past_highest", "delta_weights_provided", "input_finished", "num_frames",
 ];
 const SILENCE: [&str; 5] = ["silence_weight", "subsampling", "phones", "table", "length"];
 /// The script's names for options, dimensions and counters, in the order of `Record::fields`.

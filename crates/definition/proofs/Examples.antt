@@ -6,7 +6,7 @@ use mathlib.Core.List.{List, [], _∷_, _++_}
 use lib.ListN.{replicate}
 use lib.Ieee.{Float, neg}
 use Rattle.loops.specs.Lists.{flat}
-use Rattle.floats.specs.Operators.{f32, f64, count, zero₃₂, zero₆₄, one₃₂, _+₆₄_}
+use Rattle.floats.specs.Operators.{f32, f64, asF64, zero₃₂, zero₆₄, one₃₂, _+₆₄_}
 use Rattle.floats.specs.Narrow.{narrowed}
 use Rattle.floats.specs.Ln.{lnOf}
 use Rattle.floats.specs.Exp.{expOf}
@@ -106,11 +106,11 @@ modelOf n o m =
       info = record {
         opts = o;
         dims = record { «num_gauss» = 1; «ext_gauss» = 1; «feat_dim» = 1; «ivector_dim» = 1; «base_dim» = 1; «lda_cols» = n };
-        «prior_offset» = count 1;
+        «prior_offset» = asF64 1;
         tables = tablesOf n;
       };
-      tables = tablesFrom (f32 0xbfb5_9fc7 ∷ []) (one₃₂ ∷ []) (one₃₂ ∷ []) (count m ∷ []) (count (m * m) ∷ []) (replicate n one₃₂) (zero₃₂ ∷ [])
-          (count 50 ∷ count 100 ∷ []);
+      tables = tablesFrom (f32 0xbfb5_9fc7 ∷ []) (one₃₂ ∷ []) (one₃₂ ∷ []) (asF64 m ∷ []) (asF64 (m * m) ∷ []) (replicate n one₃₂) (zero₃₂ ∷ [])
+          (asF64 50 ∷ asF64 100 ∷ []);
     }
 
 abbrev pub model : IvectorOptions → ℕ → Model
@@ -119,8 +119,8 @@ model = modelOf 1
 abbrev pub single : ℕ → IvectorOptions
 single iters = opts 0 0 quarter iters
 
-abbrev rooms : RoomLengths
-rooms =
+abbrev lengths : RoomLengths
+lengths =
     record {
       rings = record { frames = 100; rows = 1000; «waiting_frames» = 64; «waiting_weights» = 64 };
       estimate = record { «cmvn_stats» = 2; linear = 1; quadratic = 1; current = 1; scratch = 1 };
@@ -137,10 +137,10 @@ pair a b = a ∷ b ∷ []
 
 -- P7's global row, one frame x in, from a fresh CMVN state
 abbrev state : ℕ → List Float
-state x = cmvnState (single 15) 1 (pair (count 50) (count 100)) (allFrames ((count x ∷ []) ∷ [])) 0 (pair zero₆₄ zero₆₄)
+state x = cmvnState (single 15) 1 (pair (asF64 50) (asF64 100)) (allFrames ((asF64 x ∷ []) ∷ [])) 0 (pair zero₆₄ zero₆₄)
 
 abbrev four : List Call
-four = push (count 4 ∷ []) ∷ fetch 0 1 ∷ []
+four = push (asF64 4 ∷ []) ∷ fetch 0 1 ∷ []
 
 -- P11's options, model and stream
 abbrev late : IvectorOptions
@@ -151,8 +151,8 @@ late-model = modelOf 4 late 2
 
 abbrev twelve : Machine
 twelve =
-    machine (replicate 12 (count 4 ∷ [])) 8 (record { waiting = (7, count 1) ∷ (9, count 1) ∷ []; past-highest = 10; called = true }) false
-    (record { cmvn = pair zero₆₄ zero₆₄; stats = newStats 1 (count 1); current = count 1 ∷ [] }) 0
+    machine (replicate 12 (asF64 4 ∷ [])) 8 (record { waiting = (7, asF64 1) ∷ (9, asF64 1) ∷ []; past-highest = 10; called = true }) false
+    (record { cmvn = pair zero₆₄ zero₆₄; stats = newStats 1 (asF64 1); current = asF64 1 ∷ [] }) 0
 
 -- P12's table, of n frames, its rooms, and a call with 4 inputs ready: the answer's lists have 6 places
 abbrev silence : ℕ → SilenceWeighting
@@ -176,34 +176,34 @@ changes n = record { refusal = 0; changes = n; silence = silence 2 }
 -- ---- the examples
 
 pub record Examples : Type 0 where
-  pub P1-one : lnOf (count 1) ≡ zero₆₄
-  pub P1-two : lnOf (count 2) ≡ f64 0x3fe6_2e42_fefa_39ef
+  pub P1-one : lnOf (asF64 1) ≡ zero₆₄
+  pub P1-two : lnOf (asF64 2) ≡ f64 0x3fe6_2e42_fefa_39ef
   pub P2-zero : expOf zero₃₂ ≡ one₃₂
   pub P2-minus-zero : expOf (neg zero₃₂) ≡ one₃₂
-  pub P3-taken : number (text "9007199254740991") 0 ≡ read (count 9007199254740991) 16
+  pub P3-taken : number (text "9007199254740991") 0 ≡ read (asF64 9007199254740991) 16
   pub P3-refused : number (text "9007199254740992") 0 ≡ refused 7
   pub P4-taken : number (text "1e22") 0 ≡ read (f64 0x4480_f0cf_064d_d592) 4
   pub P4-refused : number (text "1e23") 0 ≡ refused 7
-  pub P5 : narrowed (count 1 +₆₄ f64 0x3e70_0000_0000_0000) ≡ one₃₂
+  pub P5 : narrowed (asF64 1 +₆₄ f64 0x3e70_0000_0000_0000) ≡ one₃₂
   pub P6-zero : minPostFor defaults zero₃₂ ≡ f32 0x3f7d_70a4
   pub P6-small : minPostFor defaults (f32 0x3c23_d70a) ≡ f32 0x3f7d_70a4
   pub P6-one : minPostFor defaults one₃₂ ≡ f32 0x3ccc_cccd
-  pub P7-state : state 8 ≡ pair (count 100) (count 200)
-  pub P7-view : cmvnFrame 1 (allFrames ((count 8 ∷ []) ∷ [])) 0 (state 8) ≡ f32 0x40f0_0000 ∷ []
+  pub P7-state : state 8 ≡ pair (asF64 100) (asF64 200)
+  pub P7-view : cmvnFrame 1 (allFrames ((asF64 8 ∷ []) ∷ [])) 0 (state 8) ≡ f32 0x40f0_0000 ∷ []
   -- again: the row of left context 1 fetches the frame twice
-  pub P7-again : normalisedRow (opts 1 0 quarter 15) 1 (pair (count 50) (count 100)) (allFrames ((count 8 ∷ []) ∷ [])) 0 (pair zero₆₄ zero₆₄)
-      ≡ (pair (count 200) (count 400), pair (f32 0x40f0_0000) (f32 0x40f0_0000))
-  pub P8-loud : state 60 ≡ pair (count 160) (count 201)
-  pub P8-quiet : state 50 ≡ pair (count 100) (count 200)
+  pub P7-again : normalisedRow (opts 1 0 quarter 15) 1 (pair (asF64 50) (asF64 100)) (allFrames ((asF64 8 ∷ []) ∷ [])) 0 (pair zero₆₄ zero₆₄)
+      ≡ (pair (asF64 200) (asF64 400), pair (f32 0x40f0_0000) (f32 0x40f0_0000))
+  pub P8-loud : state 60 ≡ pair (asF64 160) (asF64 201)
+  pub P8-quiet : state 50 ≡ pair (asF64 100) (asF64 200)
   pub P9-load : load (single 15) (files wide-two) tables 2 ≡ read (model (single 15) 2) 0
   pub P9-fresh : toldBy (model (single 15) 2) 0 (fresh (model (single 15) 2)) 0 ≡ told 0 0 1 0
-  pub P9-half : answers (model (single 15) 2) (rooms .rings) four ≡ said 0 1 2 [] 0 ∷ said 0 1 2 (0x3f00_0000 ∷ []) 0 ∷ []
-  pub P9-none : answers (model (single 0) 2) (rooms .rings) four ≡ said 0 1 2 [] 0 ∷ said 0 1 2 (0 ∷ []) 0 ∷ []
+  pub P9-half : answers (model (single 15) 2) (lengths .rings) four ≡ said 0 1 2 [] 0 ∷ said 0 1 2 (0x3f00_0000 ∷ []) 0 ∷ []
+  pub P9-none : answers (model (single 0) 2) (lengths .rings) four ≡ said 0 1 2 [] 0 ∷ said 0 1 2 (0 ∷ []) 0 ∷ []
   pub P10-load : load (single 15) (files wide-zero) tables 2 ≡ read (model (single 15) 0) 0
-  pub P10 : answers (model (single 15) 0) (rooms .rings) four ≡ said 0 1 2 [] 0 ∷ said 0 1 2 (0x7fc0_0000 ∷ []) 1 ∷ []
+  pub P10 : answers (model (single 15) 0) (lengths .rings) four ≡ said 0 1 2 [] 0 ∷ said 0 1 2 (0x7fc0_0000 ∷ []) 1 ∷ []
   pub P11-load : load late (filesOf 4 wide-two) (tablesOf 4) 2 ≡ read late-model 0
-  pub P11-mark : machineAfter late-model (rooms .rings) twelve (forget 10 ∷ []) .mark ≡ 4
-  pub P11 : answersFrom late-model (rooms .rings) twelve (forget 10 ∷ change (6 ∷ []) (count 1 ∷ []) ∷ change (7 ∷ []) (count 1 ∷ []) ∷ [])
+  pub P11-mark : machineAfter late-model (lengths .rings) twelve (forget 10 ∷ []) .mark ≡ 4
+  pub P11 : answersFrom late-model (lengths .rings) twelve (forget 10 ∷ change (6 ∷ []) (asF64 1 ∷ []) ∷ change (7 ∷ []) (asF64 1 ∷ []) ∷ [])
       ≡ said 0 8 13 [] 0 ∷ said 18 8 13 [] 0 ∷ said 0 8 13 [] 0 ∷ []
   pub P12-new : newTable 1 quarter 3 100 ≡ N.Table (silence 0)
   pub P12 : first .answer ≡ changes 6

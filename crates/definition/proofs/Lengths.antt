@@ -11,7 +11,7 @@ use Rattle.loops.proofs.Choose.{by-test}
 use Rattle.loops.proofs.Loop.{iter-keeps}
 use Rattle.loops.proofs.Leave.{leave-keeps}
 use Rattle.loops.proofs.Build.{length-build}
-use Rattle.floats.specs.Operators.{_+₆₄_, _-₆₄_, _*₆₄_, _/₆₄_, f64, zero₆₄, one₆₄, count, at}
+use Rattle.floats.specs.Operators.{_+₆₄_, _-₆₄_, _*₆₄_, _/₆₄_, f64, zero₆₄, one₆₄, asF64, at}
 use Rattle.floats.specs.Extremes.{larger}
 use Rattle.definition.specs.declared.IvectorOptions.{IvectorOptions}
 use Rattle.definition.specs.Options.{width}
@@ -31,7 +31,7 @@ if-long t a b n p q = by-test t (λ e. rw e p) (λ e. rw e q)
 module _ (o : IvectorOptions) (dim : ℕ) (F : Frames) where
   length-smoothed : (global state : List Float) → length state ≡ dim + 1 → length (smoothed o dim global state) ≡ dim + 1
   unfolding smoothed
-  length-smoothed global state h = by-test (lt (at state dim) (count (o .«cmn_window»))) (λ e. rw e (length-build (dim + 1) _)) (λ e. rw e h)
+  length-smoothed global state h = by-test (lt (at state dim) (asF64 (o .«cmn_window»))) (λ e. rw e (length-build (dim + 1) _)) (λ e. rw e h)
 
   length-windowed : (t : ℕ) → length (windowed o dim F t) ≡ dim + 1
   unfolding windowed
@@ -121,11 +121,11 @@ module _ (a : List Float) (n : ℕ) (b : List Float) where
       let alpha = neg (dot n (c .p) (c .r)) /₆₄ dot n (c .p) ap in
       let x = build n (λ i. at (c .x) i +₆₄ alpha *₆₄ at (c .p) i) in
       let moved = build n (λ i. at (c .r) i +₆₄ alpha *₆₄ at ap i) in
-      let size = dot n moved moved in
-      let far = lt size (residualFactor *₆₄ c .r-recompute) || lt (one₆₄ /₆₄ residualFactor *₆₄ c .r-recompute) size in
+      let square = dot n moved moved in
+      let far = lt square (residualFactor *₆₄ c .r-recompute) || lt (one₆₄ /₆₄ residualFactor *₆₄ c .r-recompute) square in
       let ax = spMatVec a n x in
       let r = if far then build n (λ i. at ax i -₆₄ at b i) else moved in
-      let r-next = if far then dot n r r else size in
+      let r-next = if far then dot n r r else square in
       final-if (le r-next (f64 0x0010_0000_0000_0000)) x r (c .p) (build n (λ i. (r-next /₆₄ c .r-cur) *₆₄ at (c .p) i -₆₄ at r i)) r-next
       (if far then r-next else c .r-recompute) (length-build n (λ i. at (c .x) i +₆₄ alpha *₆₄ at (c .p) i))
 

@@ -8,7 +8,7 @@ use lib.Ieee.{Float, Format, binary32, binary64, ofBits}
 use lib.Ieee.Scale.{finite}
 use Rattle.loops.specs.Lists.{if_then_else_, allOf}
 use Rattle.definition.specs.Options.{within, maxGauss, maxFeat, maxIvector, maxColumns}
-use Rattle.definition.specs.Reader.{read, refused, Parser, _>>=_, _>>_, give, need, times, bytes, run, text, same, littleEndian, size, floats}
+use Rattle.definition.specs.Reader.{read, refused, Parser, _>>=_, _>>_, give, need, times, bytes, run, text, same, littleEndian, byteWidth, floats}
 
 -- ---- items
 
@@ -24,8 +24,8 @@ blank b = eqb b 32 || (eqb b 10 || eqb b 9)
 
 -- a run of other bytes, leading blanks skipped, ended by a blank, which is read too
 unfoldable pub word : Parser (List ℕ)
-word s at =
-    let from = at + run blank (drop at s) in
+word s i =
+    let from = i + run blank (drop i s) in
     let n = run (λ b. not (blank b)) (drop from s) in
     if ltb (from + n) (length s) then read (take n (drop from s)) (from + n + 1) else refused 2
 
@@ -65,7 +65,7 @@ unfoldable pub skipped : Format → Parser (Unit {0})
 skipped f = do
   token (vectorTag f)
   n ← dim 0 1_000_000
-  bytes (n * size f)
+  bytes (n * byteWidth f)
   give tt
 
 pub record Matrix : Type 0 where
@@ -86,7 +86,7 @@ triangle n = n * (n + 1) / 2
 
 -- a symmetric matrix: the lower triangle, row after row
 pub record Packed : Type 0 where
-  pub size : ℕ
+  pub rows : ℕ
   pub nums : List Float
 
 unfoldable pub packedMatrix : Parser Packed
@@ -94,7 +94,7 @@ packedMatrix = do
   token (text "DP")
   n ← dim 1 maxFeat
   xs ← floats binary64 false (triangle n)
-  give (record { size = n; nums = xs })
+  give (record { rows = n; nums = xs })
 
 -- ---- the GMM
 
@@ -167,7 +167,7 @@ matrixAt ms i = getD ms i (record { rows = 0; cols = 0; nums = [] })
 unfoldable pub alike : List Matrix → List Packed → Bool
 alike ms vs =
     let a = matrixAt ms 0 in
-    allOf (λ m. eqb (m .rows) (a .rows) && eqb (m .cols) (a .cols)) ms && allOf (λ v. eqb (v .size) (a .rows)) vs
+    allOf (λ m. eqb (m .rows) (a .rows) && eqb (m .cols) (a .cols)) ms && allOf (λ v. eqb (v .rows) (a .rows)) vs
 
 unfoldable pub extractor : Parser Extractor
 extractor = do

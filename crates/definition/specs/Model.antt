@@ -6,7 +6,7 @@ use lib.ListN.{length, getD, take}
 use lib.Dec.{leb, ltb, eqb}
 use lib.Ieee.{Float, neg}
 use Rattle.loops.specs.Lists.{if_then_else_, build, flat, allTrue, pairwise, over}
-use Rattle.floats.specs.Operators.{_+₆₄_, _-₆₄_, _*₆₄_, _/₆₄_, f64, zero₃₂, zero₆₄, half₆₄, count, at, sum₆₄}
+use Rattle.floats.specs.Operators.{_+₆₄_, _-₆₄_, _*₆₄_, _/₆₄_, f64, zero₃₂, zero₆₄, half₆₄, asF64, at, sum₆₄}
 use Rattle.floats.specs.Narrow.{narrowed}
 use Rattle.floats.specs.Ln.{lnOf}
 use Rattle.definition.specs.declared.IvectorOptions.{IvectorOptions}
@@ -26,7 +26,7 @@ use Rattle.definition.specs.Text.{cmvn}
 unfoldable pub gconst : Gmm → ℕ → Float
 gconst x i =
     let d = x .inv-vars .cols in
-    let offset = neg half₆₄ *₆₄ lnOf (f64 0x4019_21fb_5444_2d18) *₆₄ count d in
+    let offset = neg half₆₄ *₆₄ lnOf (f64 0x4019_21fb_5444_2d18) *₆₄ asF64 d in
     narrowed (sum₆₄ (lnOf (at (x .weights) i) +₆₄ offset) d (λ k.
     let miv = at (x .means-invvars .nums) (i * d + k) in
     let iv = at (x .inv-vars .nums) (i * d + k) in
@@ -107,7 +107,7 @@ tablesOf o c =
     let s = x .ivector-dim in
     let n = spliced o (dimsOf c) in
     let m : ℕ → List Float = λ i. matrixAt (x .m) i .nums in
-    let sim : ℕ → List Float = λ i. sigmaInvM d s (getD (x .sigma-inv) i (record { size = 0; nums = [] }) .nums) (m i) in
+    let sim : ℕ → List Float = λ i. sigmaInvM d s (getD (x .sigma-inv) i (record { rows = 0; nums = [] }) .nums) (m i) in
     tablesFrom (build (c .gmm .inv-vars .rows) (gconst (c .gmm)))
     (transposed d (c .gmm .means-invvars))
     (transposed d (c .gmm .inv-vars))

@@ -21,32 +21,32 @@ Parser A = List ℕ → ℕ → Got A
 
 abbrev pub after : {A B : Type 0} → Got A → (A → Parser B) → List ℕ → Got B
 after (refused n) k s = refused n
-after (read a at) k s = k a s at
+after (read a i) k s = k a s i
 
 infixl 20 _>>=_ _>>_
 abbrev pub _>>=_ : {A B : Type 0} → Parser A → (A → Parser B) → Parser B
-_>>=_ p k s at = after (p s at) k s
+_>>=_ p k s i = after (p s i) k s
 
 abbrev pub _>>_ : {A B : Type 0} → Parser A → Parser B → Parser B
-_>>_ p q s at = after (p s at) (λ _. q) s
+_>>_ p q s i = after (p s i) (λ _. q) s
 
 -- a value, with nothing read
 abbrev pub give : {A : Type 0} → A → Parser A
-give a s at = read a at
+give a s i = read a i
 
 -- refusal n unless the test passes
 abbrev pub need : Bool → ℕ → Parser (Unit {0})
-need true n s at = read tt at
-need false n s at = refused n
+need true n s i = read tt i
+need false n s i = refused n
 
 -- n items, one after the other
 unfoldable pub times : {A : Type 0} → ℕ → Parser A → Parser (List A)
-times zero p s at = read [] at
-times (suc n) p s at = after (p s at) (λ x t q. after (times n p t q) (λ xs. give (x ∷ xs)) t) s
+times zero p s i = read [] i
+times (suc n) p s i = after (p s i) (λ x t q. after (times n p t q) (λ xs. give (x ∷ xs)) t) s
 
 -- the next n bytes; 2 where fewer are left
 unfoldable pub bytes : ℕ → Parser (List ℕ)
-bytes n s at = if leb n (length s - at) then read (take n (drop at s)) (at + n) else refused 2
+bytes n s i = if leb n (length s - i) then read (take n (drop i s)) (i + n) else refused 2
 
 -- how many bytes in front pass a test
 unfoldable pub run : (ℕ → Bool) → List ℕ → ℕ
@@ -55,7 +55,7 @@ run t (b ∷ s) = elim (t b) [ true ↦ suc (run t s) | false ↦ 0 ]
 
 -- whether there is a byte at a place, and it passes a test
 unfoldable pub here : (ℕ → Bool) → List ℕ → ℕ → Bool
-here t s at = ltb at (length s) && t (getD s at 0)
+here t s i = ltb i (length s) && t (getD s i 0)
 
 -- a token's bytes: ASCII
 abbrev pub letters : ℕ → ℕ → String → List ℕ
@@ -73,14 +73,14 @@ littleEndian [] = 0
 littleEndian (b ∷ s) = b + 256 * littleEndian s
 
 -- bytes of a float
-abbrev pub size : Format → ℕ
-size binary32 = 4
-size binary64 = 8
+abbrev pub byteWidth : Format → ℕ
+byteWidth binary32 = 4
+byteWidth binary64 = 8
 
 -- the first n floats of a list of bytes
 unfoldable pub numbers : Format → ℕ → List ℕ → List Float
 numbers f zero b = []
-numbers f (suc n) b = ofBits f (littleEndian (take (size f) b)) ∷ numbers f n (drop (size f) b)
+numbers f (suc n) b = ofBits f (littleEndian (take (byteWidth f) b)) ∷ numbers f n (drop (byteWidth f) b)
 
 -- what a kept number has to be: finite, and above 0 where `positive` says so
 unfoldable pub kept : Bool → Float → Bool
@@ -90,6 +90,6 @@ kept true x = finite x && lt zero₃₂ x
 -- n kept floats, their whole extent (2) before their values (6)
 unfoldable pub floats : Format → Bool → ℕ → Parser (List Float)
 floats f positive n = do
-  b ← bytes (n * size f)
+  b ← bytes (n * byteWidth f)
   need (allOf (kept positive) (numbers f n b)) 6
   give (numbers f n b)

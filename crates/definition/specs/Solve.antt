@@ -78,11 +78,11 @@ module _ (a : List Float) (n : ℕ) (b : List Float) where
       let alpha = neg (dot n (c .p) (c .r)) /₆₄ dot n (c .p) ap in
       let x = build n (λ i. at (c .x) i +₆₄ alpha *₆₄ at (c .p) i) in
       let moved = build n (λ i. at (c .r) i +₆₄ alpha *₆₄ at ap i) in
-      let size = dot n moved moved in
-      let far = lt size (residualFactor *₆₄ c .r-recompute) || lt (one₆₄ /₆₄ residualFactor *₆₄ c .r-recompute) size in
+      let square = dot n moved moved in
+      let far = lt square (residualFactor *₆₄ c .r-recompute) || lt (one₆₄ /₆₄ residualFactor *₆₄ c .r-recompute) square in
       let ax = spMatVec a n x in
       let r = if far then build n (λ i. at ax i -₆₄ at b i) else moved in
-      let r-next = if far then dot n r r else size in
+      let r-next = if far then dot n r r else square in
       let r-recompute = if far then r-next else c .r-recompute in
       let beta = r-next /₆₄ c .r-cur in
       let p = build n (λ i. beta *₆₄ at (c .p) i -₆₄ at r i) in

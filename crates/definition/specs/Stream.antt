@@ -79,13 +79,13 @@ breaks s waiting =
     let d = s .info .dims in
     let held = take (s .waiting) waiting in
     not (infoSound (s .info))
-    ∷ not (roomsFit d (s .rooms))
+    ∷ not (roomsFit d (s .lengths))
     ∷ ltb 1000000000 (s .accepted)
     ∷ ltb (s .accepted) (s .«num_frames_stats»)
     ∷ ltb (s .«num_frames_stats» - o .«left_context») (s .mark)
-    ∷ ltb (rowsIn (s .rooms .rings .frames) (d .«base_dim»)) (framesHeld (s .accepted) (s .mark))
-    ∷ ltb (rowsIn (s .rooms .rings .rows) (d .«base_dim»)) (rowsHeld (o .«cmn_window») (s .accepted) (s .mark))
-    ∷ ltb (waitingRoom (s .rooms .rings)) (s .waiting)
+    ∷ ltb (rowsIn (s .lengths .rings .frames) (d .«base_dim»)) (framesHeld (s .accepted) (s .mark))
+    ∷ ltb (rowsIn (s .lengths .rings .rows) (d .«base_dim»)) (rowsHeld (o .«cmn_window») (s .accepted) (s .mark))
+    ∷ ltb (waitingRoom (s .lengths .rings)) (s .waiting)
     ∷ not (rising 0 held)
     ∷ anyOf (λ f. ltb (f - o .«left_context») (s .mark)) held ∷ []
 

@@ -16,40 +16,40 @@ use Rattle.definition.specs.Reader.{read, refused, Parser, after, _>>=_,
 
 -- a sign, if any: whether it is a minus
 unfoldable pub sign : Parser Bool
-sign s at = read (here (eqb 45) s at) (if here (λ b. eqb b 43 || eqb b 45) s at then at + 1 else at)
+sign s i = read (here (eqb 45) s i) (if here (λ b. eqb b 43 || eqb b 45) s i then i + 1 else i)
 
 -- digits, if any
 unfoldable pub digits : Parser (List ℕ)
-digits s at = let n = run (within 48 57) (drop at s) in read (take n (drop at s)) (at + n)
+digits s i = let n = run (within 48 57) (drop i s) in read (take n (drop i s)) (i + n)
 
 -- a point and the digits after it, if any
 unfoldable pub fraction : Parser (List ℕ)
-fraction s at = if here (eqb 46) s at then digits s (at + 1) else read [] at
+fraction s i = if here (eqb 46) s i then digits s (i + 1) else read [] i
 
 -- the whole number that digits stand for, after m
-unfoldable pub decimal : ℕ → List ℕ → ℕ
-decimal m [] = m
-decimal m (b ∷ s) = decimal (m * 10 + (b - 48)) s
+unfoldable pub digitsValue : ℕ → List ℕ → ℕ
+digitsValue m [] = m
+digitsValue m (b ∷ s) = digitsValue (m * 10 + (b - 48)) s
 
--- an exponent: whether it is below zero, and its size
+-- an exponent: whether it is below zero, and its magnitude
 pub record Power : Type 0 where
   pub under : Bool
-  pub size : ℕ
+  pub magnitude : ℕ
 
-unfoldable pub power : Parser Power
-power = do
+unfoldable pub signedDigits : Parser Power
+signedDigits = do
   minus ← sign
   d ← digits
   need (ltb 0 (length d)) 7
-  give (record { under = minus; size = decimal 0 d })
+  give (record { under = minus; magnitude = digitsValue 0 d })
 
 -- `e` or `E` and an exponent, if any
 unfoldable pub exponent : Parser Power
-exponent s at = if here (λ b. eqb b 69 || eqb b 101) s at then power s (at + 1) else read (record { under = false; size = 0 }) at
+exponent s i = if here (λ b. eqb b 69 || eqb b 101) s i then signedDigits s (i + 1) else read (record { under = false; magnitude = 0 }) i
 
 -- ±m * 10 ^ (up - down): m below 2 ^ 53, the power of ten -22 .. 22
-unfoldable pub finished : Bool → ℕ → ℕ → ℕ → Parser Float
-finished minus m up down = do
+unfoldable pub toNearest : Bool → ℕ → ℕ → ℕ → Parser Float
+toNearest minus m up down = do
   need (ltb m (2 ^ 53) && (leb up (down + 22) && leb down (up + 22))) 7
   give (scaled minus m up down)
 
@@ -60,7 +60,7 @@ number = do
   b ← fraction
   need (ltb 0 (length (a ++ b))) 7
   e ← exponent
-  finished minus (decimal 0 (a ++ b)) (if e .under then 0 else e .size) ((if e .under then e .size else 0) + length b)
+  toNearest minus (digitsValue 0 (a ++ b)) (if e .under then 0 else e .magnitude) ((if e .under then e .magnitude else 0) + length b)
 
 -- ---- the matrix
 
@@ -72,12 +72,12 @@ unfoldable pub stop : ℕ → Bool
 stop b = eqb b 10 || eqb b 93
 
 unfoldable pub skip : (ℕ → Bool) → Parser (Unit {0})
-skip t s at = read tt (at + run t (drop at s))
+skip t s i = read tt (i + run t (drop i s))
 
 -- fewer than n numbers, each with a blank or the end of the row behind it
 unfoldable pub row : ℕ → Parser (List Float)
-row zero s at = refused 7
-row (suc n) s at = after (skip (λ b. not (eqb b 10) && space b) s at) (λ _ t p. if here stop t p then read [] p
+row zero s i = refused 7
+row (suc n) s i = after (skip (λ b. not (eqb b 10) && space b) s i) (λ _ t p. if here stop t p then read [] p
     else after (number t p) (λ x u q. if here (λ b. space b || stop b) u q then after (row n u q) (λ xs. give (x ∷ xs)) u else refused 7) t) s
 
 -- a row of at most 65, after blanks and blank rows
@@ -88,7 +88,7 @@ line = do
 
 -- one byte
 unfoldable pub byte : ℕ → Parser (Unit {0})
-byte b s at = if here (eqb b) s at then read tt (at + 1) else refused 7
+byte b s i = if here (eqb b) s i then read tt (i + 1) else refused 7
 
 -- a bracket, blanks aside
 unfoldable pub bracket : ℕ → Parser (Unit {0})
@@ -98,15 +98,15 @@ bracket b = do
 
 -- nothing more, blanks aside
 unfoldable pub ending : Parser (Unit {0})
-ending s at = need (leb (length s) (at + run space (drop at s))) 7 s at
+ending s i = need (leb (length s) (i + run space (drop i s))) 7 s i
 
 abbrev pub last : Float → List Float → Float
 last x [] = x
 last x (y ∷ ys) = last y ys
 
 -- of two equal rows of 2 .. 65 numbers between brackets the first, whose last number is the count
-unfoldable pub rows : Parser (List Float)
-rows = do
+unfoldable pub cmvnRows : Parser (List Float)
+cmvnRows = do
   bracket 91
   a ← line
   b ← line
@@ -116,4 +116,4 @@ rows = do
   give a
 
 unfoldable pub cmvn : Parser (List Float)
-cmvn s at = after (need (leb (length s) 65536) 7 s at) (λ _. rows) s
+cmvn s i = after (need (leb (length s) 65536) 7 s i) (λ _. cmvnRows) s

@@ -5,7 +5,7 @@ use lib.ListN.{length}
 use lib.Ieee.{Float, lt}
 use Rattle.loops.specs.Loop.{iter}
 use Rattle.loops.specs.Lists.{if_then_else_, build, flat}
-use Rattle.floats.specs.Operators.{_-₃₂_, _*₃₂_, _+₆₄_, _-₆₄_, _*₆₄_, _/₆₄_, count, at, sum₃₂}
+use Rattle.floats.specs.Operators.{_-₃₂_, _*₃₂_, _+₆₄_, _-₆₄_, _*₆₄_, _/₆₄_, asF64, at, sum₃₂}
 use Rattle.floats.specs.Narrow.{narrowed}
 use Rattle.floats.specs.Extremes.{smaller}
 use Rattle.definition.specs.declared.IvectorOptions.{IvectorOptions}
@@ -20,15 +20,15 @@ pub record Frames : Type 0 where
 -- a CMVN state (dim sums, then the count) with the global row added, where its count is below the window
 unfoldable pub smoothed : IvectorOptions → ℕ → List Float → List Float → List Float
 smoothed o dim global state =
-    let window = count (o .«cmn_window») in
-    let scale = smaller (window -₆₄ at state dim) (count (o .«global_frames»)) /₆₄ at global dim in
+    let window = asF64 (o .«cmn_window») in
+    let scale = smaller (window -₆₄ at state dim) (asF64 (o .«global_frames»)) /₆₄ at global dim in
     if lt (at state dim) window then build (dim + 1) (λ d. at state d +₆₄ scale *₆₄ at global d) else state
 
 -- the sums of the window up to frame t, and their count
 unfoldable pub windowed : IvectorOptions → ℕ → Frames → ℕ → List Float
 windowed o dim F t =
     let lo = t + 1 - o .«cmn_window» in
-    build dim (λ d. F .prefix (t + 1) d -₆₄ F .prefix lo d) ++ (count (t + 1 - lo) ∷ [])
+    build dim (λ d. F .prefix (t + 1) d -₆₄ F .prefix lo d) ++ (asF64 (t + 1 - lo) ∷ [])
 
 -- the CMVN state that a fetch of frame t leaves: that of the window where t is loud (raw c0 above `min_energy`), else the old one; then smoothed
 unfoldable pub cmvnState : IvectorOptions → ℕ → List Float → Frames → ℕ → List Float → List Float

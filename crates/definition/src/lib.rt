@@ -90,7 +90,7 @@ pub struct RoomLengths {
 #[repr(C)]
 pub struct IvectorStream {
     pub info: IvectorInfo,
-    pub rooms: RoomLengths,
+    pub lengths: RoomLengths,
     pub accepted: usize,
     pub num_frames_stats: usize,
     pub mark: usize,

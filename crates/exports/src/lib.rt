@@ -151,7 +151,7 @@ fn no_stream(info: IvectorInfo) -> IvectorStream
 {
     IvectorStream {
         info,
-        rooms: RoomLengths {
+        lengths: RoomLengths {
             rings: RingLengths {
                 frames: 0,
                 rows: 0,

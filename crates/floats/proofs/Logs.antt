@@ -18,7 +18,7 @@ use mir.Syntax.{w32}
 use mir.Val.{toZ, ofZ, SFits}
 use mir.ValLaws.{toZ-pos, toZ-ofZ}
 use borrow.Author.Tests.{le-ltb, ne-eqb}
-use Rattle.floats.specs.Operators.{_+₆₄_, _-₆₄_, _*₆₄_, _/₆₄_, f64, zero₆₄, one₆₄, count}
+use Rattle.floats.specs.Operators.{_+₆₄_, _-₆₄_, _*₆₄_, _/₆₄_, f64, zero₆₄, one₆₄, asF64}
 use Rattle.floats.specs.Ln.{chained, lnSum, plus, lnOf}
 use Rattle.floats.specs.Steps.{unitsOf, IsSplit}
 use Rattle.floats.proofs.Sizes.{size-gt, size-exact, size-shift, drop-is}
@@ -33,7 +33,7 @@ ratio m = (m -₆₄ one₆₄) /₆₄ (m +₆₄ one₆₄)
 
 pub sum-is : (m e h : Float) → h ≡ chained 17 1 (ratio m *₆₄ ratio m) → e *₆₄ f64 0x3fe6_2e42_fefa_39ef +₆₄ f64 0x4000_0000_0000_0000 *₆₄ ratio m *₆₄ h ≡ lnSum m e
 unfolding lnSum ofBits ofInt
-sum-is m e h p = let s = (m -₆₄ count 1) /₆₄ (m +₆₄ count 1) in ap (λ (x : Float). e *₆₄ f64 0x3fe6_2e42_fefa_39ef +₆₄ count 2 *₆₄ s *₆₄ x) p
+sum-is m e h p = let s = (m -₆₄ asF64 1) /₆₄ (m +₆₄ asF64 1) in ap (λ (x : Float). e *₆₄ f64 0x3fe6_2e42_fefa_39ef +₆₄ asF64 2 *₆₄ s *₆₄ x) p
 
 -- ---- m / 2 ^ z with z + 1 digits in m, as an f64: its digits are q, and its exponent's field is that of 1
 module _ (m q : ℕ) (l : 2 ^ 52 ≤ q) (u : q < 2 ^ 53) (e : m * 2 ^ 52 ≡ q * 2 ^ (size m - 1)) where

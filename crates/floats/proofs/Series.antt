@@ -4,7 +4,7 @@ use mathlib.Core.Bool.{Bool, true, false, cond}
 use Prim.Native.Nat.{ℕ, suc, _+_, _-_, _*_, _≤_, _<_}
 use native.Mathlib.Omega.{arith}
 use lib.Ieee.{Float, ofInt, ofBits, neg, lt}
-use Rattle.floats.specs.Operators.{_+₆₄_, _*₆₄_, _/₆₄_, f32, f64, zero₃₂, one₆₄, count}
+use Rattle.floats.specs.Operators.{_+₆₄_, _*₆₄_, _/₆₄_, f32, f64, zero₃₂, one₆₄, asF64}
 use Rattle.floats.specs.Narrow.{narrowed}
 use Rattle.floats.specs.Ln.{chained}
 use Rattle.floats.specs.Exp.{series, squares, expOf}
@@ -13,7 +13,7 @@ none : (n : ℕ) → n ≤ 0 → n ≡ 0
 none n h = omega arith
 
 -- ---- `chain`
-chained-more : (d k : ℕ) (q : Float) → chained (suc d) k q ≡ one₆₄ /₆₄ count k +₆₄ q *₆₄ chained d (k + 2) q
+chained-more : (d k : ℕ) (q : Float) → chained (suc d) k q ≡ one₆₄ /₆₄ asF64 k +₆₄ q *₆₄ chained d (k + 2) q
 unfolding chained ofBits ofInt
 chained-more d k q = refl
 
@@ -21,9 +21,9 @@ pub chain-first : (q : Float) → one₆₄ /₆₄ f64 0x4041_8000_0000_0000 �
 unfolding chained ofBits ofInt
 chain-first q = refl
 
-pub chain-next : (q h : Float) (n : ℕ) → 0 < n → n ≤ 17 → h ≡ chained (17 - n) (n * 2 + 1) q → one₆₄ /₆₄ count ((n - 1) * 2 + 1) +₆₄ q *₆₄ h ≡ chained (17 - (n - 1)) ((n - 1) * 2 + 1) q
+pub chain-next : (q h : Float) (n : ℕ) → 0 < n → n ≤ 17 → h ≡ chained (17 - n) (n * 2 + 1) q → one₆₄ /₆₄ asF64 ((n - 1) * 2 + 1) +₆₄ q *₆₄ h ≡ chained (17 - (n - 1)) ((n - 1) * 2 + 1) q
 chain-next q h n p l e =
-    ap (λ (x : Float). one₆₄ /₆₄ count ((n - 1) * 2 + 1) +₆₄ q *₆₄ x) (e ∙ ap (λ (k : ℕ). chained (17 - n) k q) (two n p))
+    ap (λ (x : Float). one₆₄ /₆₄ asF64 ((n - 1) * 2 + 1) +₆₄ q *₆₄ x) (e ∙ ap (λ (k : ℕ). chained (17 - n) k q) (two n p))
     ∙ sym (chained-more (17 - n) ((n - 1) * 2 + 1) q)
     ∙ ap (λ (d : ℕ). chained d ((n - 1) * 2 + 1) q) (one n p l)
   where
@@ -37,7 +37,7 @@ pub chain-last : (q h : Float) (n : ℕ) → n ≤ 0 → h ≡ chained (17 - n) 
 chain-last q h n z e = e ∙ ap (λ (k : ℕ). chained (17 - k) (k * 2 + 1) q) (none n z)
 
 -- ---- `powers`
-series-more : (d k : ℕ) (y : Float) → series (suc d) k y ≡ one₆₄ +₆₄ y /₆₄ count k *₆₄ series d (k + 1) y
+series-more : (d k : ℕ) (y : Float) → series (suc d) k y ≡ one₆₄ +₆₄ y /₆₄ asF64 k *₆₄ series d (k + 1) y
 unfolding series ofBits ofInt
 series-more d k y = refl
 
@@ -45,9 +45,9 @@ pub series-first : (y : Float) → one₆₄ ≡ series (16 - 16) (16 + 1) y
 unfolding series ofBits ofInt
 series-first y = refl
 
-pub series-next : (y h : Float) (k : ℕ) → 0 < k → k ≤ 16 → h ≡ series (16 - k) (k + 1) y → one₆₄ +₆₄ y /₆₄ count k *₆₄ h ≡ series (16 - (k - 1)) (k - 1 + 1) y
+pub series-next : (y h : Float) (k : ℕ) → 0 < k → k ≤ 16 → h ≡ series (16 - k) (k + 1) y → one₆₄ +₆₄ y /₆₄ asF64 k *₆₄ h ≡ series (16 - (k - 1)) (k - 1 + 1) y
 series-next y h k p l e =
-    ap (λ (x : Float). one₆₄ +₆₄ y /₆₄ count k *₆₄ x) e
+    ap (λ (x : Float). one₆₄ +₆₄ y /₆₄ asF64 k *₆₄ x) e
     ∙ sym (series-more (16 - k) k y)
     ∙ ap (λ (d : ℕ). series d k y) (one k p l)
     ∙ ap (λ (d : ℕ). series (16 - (k - 1)) d y) (back k p)
@@ -64,7 +64,7 @@ series-last y h k z e = e ∙ ap (λ (x : ℕ). series (16 - x) (x + 1) y) (none
 -- ---- `exp`
 exp-by : (x : Float) (t : Bool) → lt x (neg (f32 0x42d0_0000)) ≡ t → cond t zero₃₂ (narrowed (squares 7 (series 16 1 (x /₆₄ f64 0x4060_0000_0000_0000)))) ≡ expOf x
 unfolding expOf neg ofBits ofInt
-exp-by x t h = sym (ap (λ (b : Bool). cond b zero₃₂ (narrowed (squares 7 (series 16 1 (x /₆₄ count 128))))) h)
+exp-by x t h = sym (ap (λ (b : Bool). cond b zero₃₂ (narrowed (squares 7 (series 16 1 (x /₆₄ asF64 128))))) h)
 
 pub exp-low : (x : Float) → lt x (neg (f32 0x42d0_0000)) ≡ true → zero₃₂ ≡ expOf x
 exp-low x h = exp-by x true h

@@ -13,7 +13,7 @@ use lib.Ieee.Exact.{HasValue, round-exact}
 use lib.Ieee.Back.{round-whole}
 use lib.Ieee.Scale.{round-same}
 use borrow.Author.Tests.{le-leb, lt-leb, ne-eqb}
-use Rattle.floats.specs.Operators.{_*₆₄_, _/₆₄_, count}
+use Rattle.floats.specs.Operators.{_*₆₄_, _/₆₄_, asF64}
 use Rattle.floats.specs.Decimal.{scaled}
 use Rattle.floats.proofs.Patterns.{value-nonzero}
 
@@ -22,11 +22,11 @@ pub whole-in : (m : ℕ) → m < 2 ^ 53 → T (inFloat binary64 (pos m))
 unfolding inFloat
 whole-in m h = le→leb m (2 ^ 53) (le-of-lt h)
 
-whole-value : (m : ℕ) → m < 2 ^ 53 → HasValue (count m) false m 1
+whole-value : (m : ℕ) → m < 2 ^ 53 → HasValue (asF64 m) false m 1
 unfolding ofInt
 whole-value m h = round-whole binary64 false m (le-of-lt h)
 
-pub plus-value : (m : ℕ) (x : Float) → m < 2 ^ 53 → x ≡ count m → HasValue x false m 1
+pub plus-value : (m : ℕ) (x : Float) → m < 2 ^ 53 → x ≡ asF64 m → HasValue x false m 1
 plus-value m x h e = subst (λ (y : Float). HasValue y false m 1) (sym e) (whole-value m h)
 
 neg-value : (x : Float) (a c : ℕ) → HasValue x false a c → HasValue (neg x) true a c
@@ -35,14 +35,14 @@ neg-value nan a c h = h
 neg-value (inf s) a c h = h
 neg-value (fin s m e) a c h = (ap not (h .0), h .1)
 
-pub minus-value : (m : ℕ) (x : Float) → m < 2 ^ 53 → x ≡ neg (count m) → HasValue x true m 1
-minus-value m x h e = subst (λ (y : Float). HasValue y true m 1) (sym e) (neg-value (count m) m 1 (whole-value m h))
+pub minus-value : (m : ℕ) (x : Float) → m < 2 ^ 53 → x ≡ neg (asF64 m) → HasValue x true m 1
+minus-value m x h e = subst (λ (y : Float). HasValue y true m 1) (sym e) (neg-value (asF64 m) m 1 (whole-value m h))
 
 ten-is : (k : ℕ) → 10 ^ k ≡ 5 ^ k * 2 ^ k
 ten-is zero = refl
 ten-is (suc k) = pow-suc 10 k ∙ ap (λ (x : ℕ). x * 10) (ten-is k) ∙ mul-mul-mul-comm (5 ^ k) (2 ^ k) 5 2 ∙ ap (λ (x : ℕ). x * (2 ^ k * 2)) (sym (pow-suc 5 k)) ∙ ap (λ (x : ℕ). 5 ^ suc k * x) (sym (pow-suc 2 k))
 
-ten-value : (k : ℕ) → k ≤ 22 → HasValue (count (10 ^ k)) false (10 ^ k) 1
+ten-value : (k : ℕ) → k ≤ 22 → HasValue (asF64 (10 ^ k)) false (10 ^ k) 1
 unfolding ofInt
 ten-value k h =
     round-exact binary64 false (10 ^ k) 1 (5 ^ k) (k + 1074) (lit< tt) five-lt
@@ -94,16 +94,16 @@ module _ (f : Format) (s : Bool) where
 
 -- ---- the words of `decimal`: x is ±m, and t the power of ten
 module _ (s : Bool) (m u d : ℕ) (x t : Float) (h : HasValue x s m 1) where
-  pub times-ten : d ≤ u → u ≤ d + 22 → t ≡ count (10 ^ (u - d)) → x *₆₄ t ≡ scaled s m u d
+  pub times-ten : d ≤ u → u ≤ d + 22 → t ≡ asF64 (10 ^ (u - d)) → x *₆₄ t ≡ scaled s m u d
   unfolding scaled
-  times-ten l g e = simp (le-leb d u l) (ap (λ (y : Float). x *₆₄ y) e ∙ product binary64 s x (count (10 ^ (u - d))) m (10 ^ (u - d)) h (ten-value (u - d) (go u d g)))
+  times-ten l g e = simp (le-leb d u l) (ap (λ (y : Float). x *₆₄ y) e ∙ product binary64 s x (asF64 (10 ^ (u - d))) m (10 ^ (u - d)) h (ten-value (u - d) (go u d g)))
     where
       go : (u d : ℕ) → u ≤ d + 22 → u - d ≤ 22
       go u d g = omega arith
 
-  pub over-ten : u < d → d ≤ u + 22 → t ≡ count (10 ^ (d - u)) → x /₆₄ t ≡ scaled s m u d
+  pub over-ten : u < d → d ≤ u + 22 → t ≡ asF64 (10 ^ (d - u)) → x /₆₄ t ≡ scaled s m u d
   unfolding scaled
-  over-ten l g e = simp (lt-leb d u l) (ap (λ (y : Float). x /₆₄ y) e ∙ quotient binary64 s x (count (10 ^ (d - u))) m (10 ^ (d - u)) (one-le-pow (d - u) 10 (lit< tt)) h (ten-value (d - u) (go u d g)))
+  over-ten l g e = simp (lt-leb d u l) (ap (λ (y : Float). x /₆₄ y) e ∙ quotient binary64 s x (asF64 (10 ^ (d - u))) m (10 ^ (d - u)) (one-le-pow (d - u) 10 (lit< tt)) h (ten-value (d - u) (go u d g)))
     where
       go : (u d : ℕ) → d ≤ u + 22 → d - u ≤ 22
       go u d g = omega arith

@@ -5,20 +5,20 @@ use lib.IntN.{ℤ, pos, negsuc}
 use lib.Dec.{eqb}
 use lib.Ieee.{Float, nan, inf, fin, binary64, minus, size, round, ofInt}
 use Rattle.loops.specs.Lists.{if_then_else_}
-use Rattle.floats.specs.Operators.{_+₆₄_, _-₆₄_, _*₆₄_, _/₆₄_, f64, count}
+use Rattle.floats.specs.Operators.{_+₆₄_, _-₆₄_, _*₆₄_, _/₆₄_, f64, asF64}
 use Rattle.floats.specs.Narrow.{narrowed}
 
 -- 1/k + q * (1/(k + 2) + q * (.. 1/(k + 2 d)))
 unfoldable pub chained : ℕ → ℕ → Float → Float
-chained zero k q = count 1 /₆₄ count k
-chained (suc d) k q = count 1 /₆₄ count k +₆₄ q *₆₄ chained d (k + 2) q
+chained zero k q = asF64 1 /₆₄ asF64 k
+chained (suc d) k q = asF64 1 /₆₄ asF64 k +₆₄ q *₆₄ chained d (k + 2) q
 
 -- of m and e: 3fe6.. is LN2, and the chain ends at k = 35
 unfoldable pub lnSum : Float → Float → Float
 unfolding chained
 lnSum m e =
-    let s = (m -₆₄ count 1) /₆₄ (m +₆₄ count 1) in
-    e *₆₄ f64 0x3fe6_2e42_fefa_39ef +₆₄ count 2 *₆₄ s *₆₄ chained 17 1 (s *₆₄ s)
+    let s = (m -₆₄ asF64 1) /₆₄ (m +₆₄ asF64 1) in
+    e *₆₄ f64 0x3fe6_2e42_fefa_39ef +₆₄ asF64 2 *₆₄ s *₆₄ chained 17 1 (s *₆₄ s)
 
 -- e + z
 abbrev pub plus : ℤ → ℕ → ℤ

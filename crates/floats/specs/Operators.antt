@@ -55,8 +55,8 @@ abbrev pub half₆₄ : Float
 half₆₄ = f64 0x3fe0_0000_0000_0000
 
 -- a count as an f64
-abbrev pub count : ℕ → Float
-count n = ofInt binary64 (pos n)
+abbrev pub asF64 : ℕ → Float
+asF64 n = ofInt binary64 (pos n)
 
 -- element i, for an i below the length
 abbrev pub at : List Float → ℕ → Float

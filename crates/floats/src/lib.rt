@@ -4,7 +4,7 @@ ghost use Prim.Native.Nat.{_+_, _*_, _≤_, _<_, _^_};
 ghost use lib.Ieee.{binary64, toBits, ofBits};
 ghost use lib.Ieee.Nearest.{closest};
 ghost use lib.Ieee.Scale.{finite};
-ghost use Rattle.floats.specs.Operators.{count};
+ghost use Rattle.floats.specs.Operators.{asF64};
 ghost use Rattle.floats.specs.Narrow.{narrowed};
 ghost use Rattle.floats.specs.Sqrt.{squareRoot};
 ghost use Rattle.floats.specs.Ln.{chained, lnSum, lnOf, lnNarrow};
@@ -375,7 +375,7 @@ const TENS: [f64; 23] = [
 // 10^k, which an f64 holds.
 fn ten(k: u64) -> f64
     requires { ⌜ k ≤ 22 ⌝ }
-    ensures { λ r. ⌜ r ≡ count (10 ^ k) ⌝ }
+    ensures { λ r. ⌜ r ≡ asF64 (10 ^ k) ⌝ }
 {
     TENS[k as usize]
 }

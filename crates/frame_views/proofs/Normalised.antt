@@ -10,7 +10,7 @@ use Rattle.loops.specs.Steps.{fill}
 use Rattle.loops.proofs.Choose.{choose-true, choose-false}
 use Rattle.loops.proofs.Build.{at-build, build-ext}
 use Rattle.loops.proofs.Fill.{fill-ext, fill-whole, fill-last}
-use Rattle.floats.specs.Operators.{_-₃₂_, _+₆₄_, _-₆₄_, _*₆₄_, _/₆₄_, count, at}
+use Rattle.floats.specs.Operators.{_-₃₂_, _+₆₄_, _-₆₄_, _*₆₄_, _/₆₄_, asF64, at}
 use Rattle.floats.specs.Narrow.{narrowed}
 use Rattle.floats.specs.Extremes.{smaller}
 use Rattle.definition.specs.declared.IvectorOptions.{IvectorOptions}
@@ -29,7 +29,7 @@ module _ (o : IvectorOptions) (dim accepted t : ℕ) (fs rs x : List Float) {raw
   loud-at h = rw (row-at dim fs t e 0 some) at h
 
   pub window-true : {lo : ℕ} {high low y : List Float} {v : Float} → length x ≡ dim + 1 → lt (o .«min_energy») (at raw 0) ≡ true → lo ≡ t + 1 - o .«cmn_window»
-      → high ≡ build dim (ringAt dim rs (t + 1)) → low ≡ build dim (ringAt dim rs lo) → y ≡ fill dim (λ d. at high d -₆₄ at low d) x → v ≡ count (t + 1 - lo)
+      → high ≡ build dim (ringAt dim rs (t + 1)) → low ≡ build dim (ringAt dim rs lo) → y ≡ fill dim (λ d. at high d -₆₄ at low d) x → v ≡ asF64 (t + 1 - lo)
       → set y dim v ≡ (if lt (o .«min_energy») (ringAt dim fs t 0) then windowed o dim (ringFrames dim accepted fs rs) t else x)
   unfolding windowed
   window-true {lo} {high} {low} {y} {v} l h el eh ew ey ev =
@@ -42,18 +42,18 @@ module _ (o : IvectorOptions) (dim accepted t : ℕ) (fs rs x : List Float) {raw
 
 -- ---- smoothing
 
-module _ (o : IvectorOptions) (dim : ℕ) (global x : List Float) {w : Float} (e : w ≡ count (o .«cmn_window»)) where
-  pub smooth-true : {k m : Float} {y : List Float} → length x ≡ dim + 1 → lt (at x dim) w ≡ true → k ≡ count (o .«global_frames») → m ≡ smaller (w -₆₄ at x dim) k
+module _ (o : IvectorOptions) (dim : ℕ) (global x : List Float) {w : Float} (e : w ≡ asF64 (o .«cmn_window»)) where
+  pub smooth-true : {k m : Float} {y : List Float} → length x ≡ dim + 1 → lt (at x dim) w ≡ true → k ≡ asF64 (o .«global_frames») → m ≡ smaller (w -₆₄ at x dim) k
       → y ≡ fill (dim + 1) (λ d. at x d +₆₄ m /₆₄ at global dim *₆₄ at global d) x → y ≡ smoothed o dim global x
   unfolding smoothed
   smooth-true {k} {m} l t f g h =
-      let u : lt (at x dim) (count (o .«cmn_window»)) ≡ true = rw e at t in
-      let v : m ≡ smaller (count (o .«cmn_window») -₆₄ at x dim) (count (o .«global_frames»)) = rw (e, f) at g in
+      let u : lt (at x dim) (asF64 (o .«cmn_window»)) ≡ true = rw e at t in
+      let v : m ≡ smaller (asF64 (o .«cmn_window») -₆₄ at x dim) (asF64 (o .«global_frames»)) = rw (e, f) at g in
       h ∙ fill-whole _ (dim + 1) x l ∙ rw (u, v)
 
   pub smooth-false : lt (at x dim) w ≡ false → x ≡ smoothed o dim global x
   unfolding smoothed
-  smooth-false t = let u : lt (at x dim) (count (o .«cmn_window»)) ≡ false = rw e at t in rw u
+  smooth-false t = let u : lt (at x dim) (asF64 (o .«cmn_window»)) ≡ false = rw e at t in rw u
 
 -- ---- the frame
 

@@ -97,7 +97,7 @@ module _ (s : IvectorStream) (z : Rooms) (f : ℕ) where
       pub stream-up : {n : Float} → n ≡ E .stats .num-frames
           → record {
             info = s .info;
-            rooms = s .rooms;
+            lengths = s .lengths;
             accepted = s .accepted;
             «num_frames_stats» = f + 1;
             mark = s .mark;

@@ -68,7 +68,7 @@ same-rooms a b e =
 module _ (s : IvectorStream) (t : TableLengths) (z : RoomLengths) (fs : List ℕ) (f n : ℕ) where
   abbrev pub fetchList : List (Bool × ℕ)
   fetchList =
-      (not (sameTables t (s .info .tables)), 10) ∷ (not (sameRooms z (s .rooms)), 10) ∷ (isBroken s fs, 10)
+      (not (sameTables t (s .info .tables)), 10) ∷ (not (sameRooms z (s .lengths)), 10) ∷ (isBroken s fs, 10)
       ∷ (not (eqb n (s .info .dims .«ivector_dim»)), 20)
       ∷ (leb (framesReady (s .info .opts) (s .«input_finished») (s .accepted)) f, 21)
       ∷ (leb (s .«num_frames_stats») f && s .«delta_weights_provided» && leb (s .«past_highest») f, 22) ∷ []
@@ -88,14 +88,14 @@ module _ (s : IvectorStream) (t : TableLengths) (w : Rooms) (scratch f n : ℕ) 
   abbrev fs : List ℕ
   fs = w .rings .waiting-frames
 
-  rooms-passed : not (sameRooms z (s .rooms)) ≡ false → isBroken s fs ≡ false → Passed s (w .rings)
+  rooms-passed : not (sameRooms z (s .lengths)) ≡ false → isBroken s fs ≡ false → Passed s (w .rings)
   unfolding sameRooms
-  rooms-passed e b = tests-passed s (w .rings) (ap not (and-holds (sameRings (z .rings) (s .rooms .rings)) _ (not-false _ e) .0)) b
+  rooms-passed e b = tests-passed s (w .rings) (ap not (and-holds (sameRings (z .rings) (s .lengths .rings)) _ (not-false _ e) .0)) b
 
   pub record FetchTaken : Type 0 where
     pub passed : Passed s (w .rings)
     pub tables-are : t ≡ s .info .tables
-    pub rooms-are : z ≡ s .rooms
+    pub rooms-are : z ≡ s .lengths
     pub wide : n ≡ s .info .dims .«ivector_dim»
     pub below : f < s .accepted
 
@@ -111,7 +111,7 @@ module _ (s : IvectorStream) (t : TableLengths) (w : Rooms) (scratch f n : ℕ) 
       record {
         passed = rooms-passed (h .1 .0) (h .1 .1 .0);
         tables-are = same-tables t (s .info .tables) (not-false _ (h .0));
-        rooms-are = same-rooms z (s .rooms) (not-false _ (h .1 .0));
+        rooms-are = same-rooms z (s .lengths) (not-false _ (h .1 .0));
         wide = eqb-true n (s .info .dims .«ivector_dim») (not-false _ (h .1 .1 .1 .0));
         below = omega (arith, leb-false _ f (h .1 .1 .1 .1 .0), ready-under (s .«input_finished») (s .accepted));
       }
@@ -132,5 +132,5 @@ module _ (s : IvectorStream) (t : TableLengths) (w : Rooms) (scratch f n : ℕ) 
   unfolding fetchRefusal
   fetch-few h =
       by-test (not (sameTables t (s .info .tables))) (λ a. absurd (h (first-here _ _ a)))
-      (λ a. by-test (not (sameRooms z (s .rooms))) (λ b. absurd (h (first-past _ _ a ∙ first-here _ _ b)))
+      (λ a. by-test (not (sameRooms z (s .lengths))) (λ b. absurd (h (first-past _ _ a ∙ first-here _ _ b)))
       (λ b. by-test (isBroken s fs) (λ c. absurd (h (first-past _ _ a ∙ first-past _ _ b ∙ first-here _ _ c))) (λ c. few s (w .rings) (rooms-passed b c))))

@@ -36,22 +36,22 @@ fn unreached(next: usize, called: bool, past_highest: usize, f: usize) -> bool
 fn fetch_refusal(
     s: IvectorStream,
     tables: TableLengths,
-    rooms: RoomLengths,
+    lengths: RoomLengths,
     waiting_frames: &[usize],
     frame: usize,
     n: usize,
 ) -> usize
-    ensures { λ r. ⌜ r ≡ fetchRefusal s tables rooms (now («waiting_frames» .entry)) frame n ⌝ }
+    ensures { λ r. ⌜ r ≡ fetchRefusal s tables lengths (now («waiting_frames» .entry)) frame n ⌝ }
 {
     let i = s.info;
     let o = i.opts;
     let d = i.dims;
     let t = i.tables;
-    let z = s.rooms;
+    let z = s.lengths;
     if !limits::same_tables(tables, t) {
         return 10;
     }
-    if !limits::same_rooms(rooms, z) {
+    if !limits::same_rooms(lengths, z) {
         return 10;
     }
     if limits::is_broken(s, waiting_frames) {
@@ -314,8 +314,8 @@ pub fn get_frame(
         current: current.len(),
         scratch: scratch.len(),
     };
-    let rooms = RoomLengths { rings, estimate };
-    let refusal = fetch_refusal(s, tables, rooms, waiting_frames, frame, out.len());
+    let lengths = RoomLengths { rings, estimate };
+    let refusal = fetch_refusal(s, tables, lengths, waiting_frames, frame, out.len());
     if refusal != 0 {
         return ivector_stream::reply(refusal, s, 0);
     }

@@ -25,20 +25,20 @@ module _ (s : IvectorStream) (z : Rings) where
     pub dims-are : DimRanges (s .info .dims)
     pub frame-room : 1 ≤ rowsIn (length (z .frames)) (s .info .dims .«base_dim»)
     pub row-room : 2 ≤ rowsIn (length (z .rows)) (s .info .dims .«base_dim»)
-    pub waiting-frames-are : length (z .waiting-frames) ≡ s .rooms .rings .«waiting_frames»
-    pub waiting-weights-are : length (z .waiting-weights) ≡ s .rooms .rings .«waiting_weights»
+    pub waiting-frames-are : length (z .waiting-frames) ≡ s .lengths .rings .«waiting_frames»
+    pub waiting-weights-are : length (z .waiting-weights) ≡ s .lengths .rings .«waiting_weights»
 
-  pub tests-passed : not (sameRings (ringLengthsOf z) (s .rooms .rings)) ≡ false → isBroken s (z .waiting-frames) ≡ false → Passed
+  pub tests-passed : not (sameRings (ringLengthsOf z) (s .lengths .rings)) ≡ false → isBroken s (z .waiting-frames) ≡ false → Passed
   unfolding sameRings
   tests-passed e b =
-      let h = each-pair eqb (ringLengths (ringLengthsOf z)) (ringLengths (s .rooms .rings)) (not-false _ e) in
+      let h = each-pair eqb (ringLengths (ringLengthsOf z)) (ringLengths (s .lengths .rings)) (not-false _ e) in
       let w = whole s (z .waiting-frames) b in
       let r = fitting _ _ (w .rooms-fit) in
       record {
         whole-is = w;
         dims-are = dim-ranges _ (info-sound _ (w .info-is) .0 .dims-are);
-        frame-room = rw (eqb-true (length (z .frames)) (s .rooms .rings .frames) (h .0)) (r .frames-fit);
-        row-room = rw (eqb-true (length (z .rows)) (s .rooms .rings .rows) (h .1 .0)) (r .rows-fit);
+        frame-room = rw (eqb-true (length (z .frames)) (s .lengths .rings .frames) (h .0)) (r .frames-fit);
+        row-room = rw (eqb-true (length (z .rows)) (s .lengths .rings .rows) (h .1 .0)) (r .rows-fit);
         waiting-frames-are = eqb-true _ _ (h .1 .1 .0);
         waiting-weights-are = eqb-true _ _ (h .1 .1 .1 .0);
       }
@@ -49,7 +49,7 @@ module _ (s : IvectorStream) (z : Rings) where
 
   other-passed : (us : List (Bool × ℕ)) {r : ℕ} → r ≡ firstOf (recordTests s z ++ us) → (r ≡ 10 → ⊥) → Passed
   other-passed us e h =
-      by-test (not (sameRings (ringLengthsOf z) (s .rooms .rings))) (λ a. absurd (h (e ∙ first-here _ _ a)))
+      by-test (not (sameRings (ringLengthsOf z) (s .lengths .rings))) (λ a. absurd (h (e ∙ first-here _ _ a)))
       (λ a. by-test (isBroken s (z .waiting-frames)) (λ b. absurd (h (e ∙ first-past _ _ a ∙ first-here _ _ b))) (λ b. tests-passed a b))
 
   -- the counts of an answer

@@ -49,7 +49,7 @@ new-taken i t z e g =
 
 module _ (s : IvectorStream) (z : Rings) (x : List Float) where
   abbrev pub push-tests : List (Bool × ℕ)
-  push-tests = pushTests (s .info .opts) (s .info .dims) (s .rooms .rings) (s .accepted) (s .mark) x
+  push-tests = pushTests (s .info .opts) (s .info .dims) (s .lengths .rings) (s .accepted) (s .mark) x
 
   pub record PushTaken : Type 0 where
     pub passed : Passed s z
@@ -120,13 +120,13 @@ room-enough {room} {n = n} {m = m} l e h = le-ltb room (n + m) (omega arith)
 
 module _ (s : IvectorStream) (z : Rings) (gs : List ℕ) (ws : List Float) where
   abbrev pub change-tests : List (Bool × ℕ)
-  change-tests = changeTests (s .info .opts) (s .rooms .rings) (s .mark) (s .waiting) gs ws
+  change-tests = changeTests (s .info .opts) (s .lengths .rings) (s .mark) (s .waiting) gs ws
 
   pub record ChangeTaken : Type 0 where
     pub passed : Passed s z
     pub even : length gs ≡ length ws
     pub near : anyOf (leb 1000000000) gs ≡ false
-    pub room-is : s .waiting + length gs ≤ waitingRoom (s .rooms .rings)
+    pub room-is : s .waiting + length gs ≤ waitingRoom (s .lengths .rings)
 
   pub change-taken : {r : ℕ} → r ≡ updateFrameWeights s z gs ws .refusal → r ≡ 0 → ChangeTaken
   unfolding updateFrameWeights changeTests

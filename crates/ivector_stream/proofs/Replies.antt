@@ -91,7 +91,7 @@ module _ (s : IvectorStream) (z : Rings) (gs : List ℕ) (vs : List Float) where
   pub changed-stream : {p : ℕ} → p ≡ after .past-highest
       → record {
         info = s .info;
-        rooms = s .rooms;
+        lengths = s .lengths;
         accepted = s .accepted;
         «num_frames_stats» = s .«num_frames_stats»;
         mark = s .mark;

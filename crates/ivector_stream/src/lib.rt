@@ -73,7 +73,7 @@ fn plain_refusal(
 ) -> usize
     ensures { λ r. ⌜ r ≡ firstOf (recordTests s (ringsFrom (now (frames .entry)) (now (rows .entry)) (now («waiting_frames» .entry)) (now («waiting_weights» .entry)))) ⌝ }
 {
-    let z = s.rooms;
+    let z = s.lengths;
     let own = z.rings;
     let lent = RingLengths {
         frames: frames.len(),
@@ -92,8 +92,8 @@ fn plain_refusal(
 
 // ---- a fresh stream
 
-fn new_refusal(info: IvectorInfo, tables: TableLengths, rooms: RoomLengths) -> usize
-    ensures { λ r. ⌜ r ≡ newRefusal info tables rooms ⌝ }
+fn new_refusal(info: IvectorInfo, tables: TableLengths, lengths: RoomLengths) -> usize
+    ensures { λ r. ⌜ r ≡ newRefusal info tables lengths ⌝ }
 {
     let t = info.tables;
     let o = info.opts;
@@ -107,7 +107,7 @@ fn new_refusal(info: IvectorInfo, tables: TableLengths, rooms: RoomLengths) -> u
     if !limits::tables_fit(o, d, t) {
         return 8;
     }
-    if limits::rooms_fit(d, rooms) { 0 } else { 8 }
+    if limits::rooms_fit(d, lengths) { 0 } else { 8 }
 }
 
 // Zeros in a room's first n places.
@@ -197,8 +197,8 @@ pub fn new(
         current: current.len(),
         scratch: scratch.len(),
     };
-    let rooms = RoomLengths { rings, estimate };
-    let refusal = new_refusal(info, tables, rooms);
+    let lengths = RoomLengths { rings, estimate };
+    let refusal = new_refusal(info, tables, lengths);
     if refusal != 0 {
         return NewStream::Refused(refusal);
     }
@@ -208,7 +208,7 @@ pub fn new(
     fresh_estimate(d.ivector_dim, info.prior_offset, linear, quadratic, current);
     let stream = IvectorStream {
         info,
-        rooms,
+        lengths,
         accepted: 0,
         num_frames_stats: 0,
         mark: 0,
@@ -262,7 +262,7 @@ fn push_refusal(
     let i = s.info;
     let o = i.opts;
     let d = i.dims;
-    let z = s.rooms;
+    let z = s.lengths;
     let own = z.rings;
     if frame.len() != d.base_dim {
         return 11;
@@ -417,7 +417,7 @@ fn change_refusal(
     }
     let i = s.info;
     let o = i.opts;
-    let z = s.rooms;
+    let z = s.lengths;
     let own = z.rings;
     if delta_frames.len() != delta_weights.len() {
         return 16;

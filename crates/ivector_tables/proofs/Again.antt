@@ -54,9 +54,9 @@ module _ {d : ℕ} {s : List ℕ} {q : ℕ} (o : SigmaAt d s q) where
   pub sigma-there : {r : ℕ} → packedMatrix s q ≡ refused r → ⊥
   sigma-there e = not-read (sym e ∙ o .stands)
 
-  module _ (dim from next : ℕ) (e : packedMatrix s q ≡ read (record { size = dim; nums = numbers binary64 (triangle dim) (drop from s) }) next) where
+  module _ (dim from next : ℕ) (e : packedMatrix s q ≡ read (record { rows = dim; nums = numbers binary64 (triangle dim) (drop from s) }) next) where
     sigma-size : triangle dim ≡ triangle d
-    sigma-size = ap triangle (ap (λ (v : Packed). v .size) (same-value (sym e ∙ o .stands)) ∙ o .size-is)
+    sigma-size = ap triangle (ap (λ (v : Packed). v .rows) (same-value (sym e ∙ o .stands)) ∙ o .size-is)
 
     pub sigma-ready : PackedIn s dim from → Ready binary64 (triangle d) s from
     sigma-ready b = subst (λ (k : ℕ). Ready binary64 k s from) sigma-size (b .ready)
@@ -73,7 +73,7 @@ abbrev pub noMatrix : Matrix
 noMatrix = record { rows = 0; cols = 0; nums = [] }
 
 abbrev pub noPacked : Packed
-noPacked = record { size = 0; nums = [] }
+noPacked = record { rows = 0; nums = [] }
 
 -- the M's from p on, and the Σ⁻¹'s from q on, are those from Gaussian i on
 abbrev pub MFrom : List ℕ → ℕ → ℕ → ℕ → ℕ → Type 0

@@ -6,7 +6,7 @@ use native.Mathlib.Nat.{mul-le-mul}
 use lib.Ieee.{Float, neg}
 use borrow.Author.Tests.{lt-ltb, le-ltb}
 use Rattle.loops.specs.Lists.{if_then_else_}
-use Rattle.floats.specs.Operators.{_+₆₄_, _-₆₄_, _*₆₄_, _/₆₄_, f64, zero₃₂, half₆₄, count, at, sum₆₄}
+use Rattle.floats.specs.Operators.{_+₆₄_, _-₆₄_, _*₆₄_, _/₆₄_, f64, zero₃₂, half₆₄, asF64, at, sum₆₄}
 use Rattle.floats.specs.Narrow.{narrowed}
 use Rattle.floats.specs.Ln.{lnOf}
 use Rattle.definition.specs.Kaldi.{Matrix, Gmm}
@@ -23,7 +23,7 @@ pub term-is : {l a b m v : Float} → l ≡ lnOf b → a ≡ m → b ≡ v
     → half₆₄ *₆₄ l -₆₄ half₆₄ *₆₄ a *₆₄ a /₆₄ b ≡ half₆₄ *₆₄ lnOf v -₆₄ half₆₄ *₆₄ m *₆₄ m /₆₄ v
 term-is h e f = rw (h, e, f)
 
-pub offset-is : (d : ℕ) {x y : Float} → x ≡ lnOf (f64 0x4019_21fb_5444_2d18) → y ≡ count d → neg half₆₄ *₆₄ x *₆₄ y ≡ offset₆₄ d
+pub offset-is : (d : ℕ) {x y : Float} → x ≡ lnOf (f64 0x4019_21fb_5444_2d18) → y ≡ asF64 d → neg half₆₄ *₆₄ x *₆₄ y ≡ offset₆₄ d
 unfolding offset₆₄
 offset-is d e f = rw (e, f)
 

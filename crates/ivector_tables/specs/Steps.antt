@@ -7,7 +7,7 @@ use lib.ListN.{drop, getD}
 use lib.Dec.{ltb}
 use lib.Ieee.{Float, binary32, binary64, neg}
 use Rattle.loops.specs.Lists.{if_then_else_, flat}
-use Rattle.floats.specs.Operators.{_*₆₄_, f64, zero₃₂, half₆₄, count, at}
+use Rattle.floats.specs.Operators.{_*₆₄_, f64, zero₃₂, half₆₄, asF64, at}
 use Rattle.floats.specs.Ln.{lnOf}
 use Rattle.definition.specs.Options.{maxFeat, maxIvector}
 use Rattle.definition.specs.Reader.{Got, read, refused, numbers}
@@ -18,7 +18,7 @@ use Rattle.kaldi_files.specs.Answers.{means, inverses, items}
 -- ---- numbers that stand in the bytes s
 
 unfoldable pub offset₆₄ : ℕ → Float
-offset₆₄ d = neg half₆₄ *₆₄ lnOf (f64 0x4019_21fb_5444_2d18) *₆₄ count d
+offset₆₄ d = neg half₆₄ *₆₄ lnOf (f64 0x4019_21fb_5444_2d18) *₆₄ asF64 d
 
 abbrev pub floatMatrix : List ℕ → ℕ → ℕ → ℕ → Matrix
 floatMatrix s rows cols from = record { rows = rows; cols = cols; nums = numbers binary32 (rows * cols) (drop from s) }
@@ -57,7 +57,7 @@ pub record SigmaAt (d : ℕ) (s : List ℕ) (q : ℕ) : Type 0 where
   pub block : Packed
   pub next : ℕ
   pub stands : packedMatrix s q ≡ read block next
-  pub size-is : block .size ≡ d
+  pub size-is : block .rows ≡ d
 
 -- ---- the tables of all Gaussians
 
@@ -65,7 +65,7 @@ abbrev pub mAt : List ℕ → ℕ → ℕ → ℕ → List Float
 mAt s gauss m i = matrixAt (items (means s gauss m)) i .nums
 
 abbrev pub sigmaInvMAt : List ℕ → ℕ → ℕ → ℕ → ℕ → ℕ → ℕ → List Float
-sigmaInvMAt s gauss d n m sigma i = sigmaInvM d n (getD (items (inverses s gauss sigma)) i (record { size = 0; nums = [] }) .nums) (mAt s gauss m i)
+sigmaInvMAt s gauss d n m sigma i = sigmaInvM d n (getD (items (inverses s gauss sigma)) i (record { rows = 0; nums = [] }) .nums) (mAt s gauss m i)
 
 unfoldable pub sigmaInvMs : List ℕ → ℕ → ℕ → ℕ → ℕ → ℕ → List Float
 sigmaInvMs s gauss d n m sigma = flat gauss (sigmaInvMAt s gauss d n m sigma)

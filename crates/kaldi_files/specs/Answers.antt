@@ -78,7 +78,7 @@ abbrev pub sizedAs : ℕ → ℕ → K.Matrix → Bool
 sizedAs rows cols m = eqb (m .rows) rows && eqb (m .cols) cols
 
 abbrev pub squareAs : ℕ → K.Packed → Bool
-squareAs dim v = eqb (v .size) dim
+squareAs dim v = eqb (v .rows) dim
 
 -- what a fill has to know: both runs are there, of these lengths, and few
 pub record ExtractorIn (s : List ℕ) (gauss feat ivec m sigma : ℕ) : Type 0 where

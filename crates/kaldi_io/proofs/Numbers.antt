@@ -18,7 +18,7 @@ use Rattle.loops.proofs.Choose.{by-test}
 use Rattle.loops.proofs.Fill.{fill-end, fill-list}
 use Rattle.loops.proofs.Tests.{each-at, at-each, all-turn, all-fails, all-end}
 use Rattle.floats.specs.Operators.{zero₃₂, at}
-use Rattle.definition.specs.Reader.{littleEndian, size, numbers, kept, floats, refused, read}
+use Rattle.definition.specs.Reader.{littleEndian, byteWidth, numbers, kept, floats, refused, read}
 use Rattle.kaldi_io.specs.Answers.{Ready}
 use Rattle.kaldi_io.proofs.Bytes.{bytes-ok, bytes-short, both-true}
 
@@ -91,14 +91,14 @@ module _ (f : Format) (positive : Bool) (b : ℕ) where
 
 -- ---- the numbers of a list of bytes
 
-numbers-cons : (f : Format) (n : ℕ) (l : List ℕ) → numbers f (suc n) l ≡ ofBits f (littleEndian (take (size f) l)) ∷ numbers f n (drop (size f) l)
+numbers-cons : (f : Format) (n : ℕ) (l : List ℕ) → numbers f (suc n) l ≡ ofBits f (littleEndian (take (byteWidth f) l)) ∷ numbers f n (drop (byteWidth f) l)
 unfolding numbers
 numbers-cons f n l = refl
 
 pub numbers-length : (f : Format) (n : ℕ) (l : List ℕ) → length (numbers f n l) ≡ n
 unfolding numbers
 numbers-length f zero l = refl
-numbers-length f (suc n) l = ap suc (numbers-length f n (drop (size f) l))
+numbers-length f (suc n) l = ap suc (numbers-length f n (drop (byteWidth f) l))
 
 drop-take : {A : Type 0} (m n : ℕ) (l : List A) → drop m (take (m + n) l) ≡ take n (drop m l)
 drop-take zero n l = ap (λ (k : ℕ). take k l) (zero-add n)
@@ -106,47 +106,47 @@ drop-take (suc m) n [] = ap (λ (k : ℕ). drop (suc m) (take k [])) (suc-add m 
 drop-take (suc m) n (x ∷ l) = ap (λ (k : ℕ). drop (suc m) (take k (x ∷ l))) (suc-add m n) ∙ drop-take m n l
 
 -- only their own bytes count
-numbers-take : (f : Format) (n : ℕ) (l : List ℕ) → numbers f n (take (n * size f) l) ≡ numbers f n l
+numbers-take : (f : Format) (n : ℕ) (l : List ℕ) → numbers f n (take (n * byteWidth f) l) ≡ numbers f n l
 unfolding numbers
 numbers-take f zero l = refl
 numbers-take f (suc n) l =
-    let e : suc n * size f ≡ size f + n * size f = suc-mul n (size f) ∙ add-comm (n * size f) (size f) in
-    let p : take (size f) (take (suc n * size f) l) ≡ take (size f) l = rw e (take-take (size f) (size f + n * size f) l (le-add-right (size f) (n * size f))) in
-    let q : drop (size f) (take (suc n * size f) l) ≡ take (n * size f) (drop (size f) l) = rw e (drop-take (size f) (n * size f) l) in
-    rw (p, q, numbers-take f n (drop (size f) l))
+    let e : suc n * byteWidth f ≡ byteWidth f + n * byteWidth f = suc-mul n (byteWidth f) ∙ add-comm (n * byteWidth f) (byteWidth f) in
+    let p : take (byteWidth f) (take (suc n * byteWidth f) l) ≡ take (byteWidth f) l = rw e (take-take (byteWidth f) (byteWidth f + n * byteWidth f) l (le-add-right (byteWidth f) (n * byteWidth f))) in
+    let q : drop (byteWidth f) (take (suc n * byteWidth f) l) ≡ take (n * byteWidth f) (drop (byteWidth f) l) = rw e (drop-take (byteWidth f) (n * byteWidth f) l) in
+    rw (p, q, numbers-take f n (drop (byteWidth f) l))
 
 -- number i stands i sizes further
-pub numbers-at : (f : Format) (n : ℕ) (s : List ℕ) (p i : ℕ) → i < n → at (numbers f n (drop p s)) i ≡ ofBits f (littleEndian (take (size f) (drop (p + size f * i) s)))
+pub numbers-at : (f : Format) (n : ℕ) (s : List ℕ) (p i : ℕ) → i < n → at (numbers f n (drop p s)) i ≡ ofBits f (littleEndian (take (byteWidth f) (drop (p + byteWidth f * i) s)))
 numbers-at f zero s p i h = absurd (not-suc-le-zero h)
 numbers-at f (suc n) s p zero h =
-    let e : p ≡ p + size f * 0 = sym (rw mul-zero (add-zero p)) in
-    ap (λ (l : List Float). at l 0) (numbers-cons f n (drop p s)) ∙ ap (λ (q : ℕ). ofBits f (littleEndian (take (size f) (drop q s)))) e
+    let e : p ≡ p + byteWidth f * 0 = sym (rw mul-zero (add-zero p)) in
+    ap (λ (l : List Float). at l 0) (numbers-cons f n (drop p s)) ∙ ap (λ (q : ℕ). ofBits f (littleEndian (take (byteWidth f) (drop q s)))) e
 numbers-at f (suc n) s p (suc i) h =
-    let e : p + size f + size f * i ≡ p + size f * suc i = rw mul-suc (omega arith) in
+    let e : p + byteWidth f + byteWidth f * i ≡ p + byteWidth f * suc i = rw mul-suc (omega arith) in
     ap (λ (l : List Float). at l (suc i)) (numbers-cons f n (drop p s))
-    ∙ ap (λ (l : List ℕ). at (numbers f n l) i) (drop-drop (size f) p s)
-    ∙ numbers-at f n s (p + size f) i (le-of-suc-le-suc h)
-    ∙ ap (λ (q : ℕ). ofBits f (littleEndian (take (size f) (drop q s)))) e
+    ∙ ap (λ (l : List ℕ). at (numbers f n l) i) (drop-drop (byteWidth f) p s)
+    ∙ numbers-at f n s (p + byteWidth f) i (le-of-suc-le-suc h)
+    ∙ ap (λ (q : ℕ). ofBits f (littleEndian (take (byteWidth f) (drop q s)))) e
 
 -- ---- a run of numbers, as the loop over it goes
 
 module _ (f : Format) (positive : Bool) (n : ℕ) (s : List ℕ) (p : ℕ) where
-  pub floats-short : length s - p < n * size f → refused 2 ≡ floats f positive n s p
+  pub floats-short : length s - p < n * byteWidth f → refused 2 ≡ floats f positive n s p
   unfolding floats
-  floats-short h = simp (bytes-short (n * size f) s p h)
+  floats-short h = simp (bytes-short (n * byteWidth f) s p h)
 
-  module _ (fits : n * size f ≤ length s - p) where
+  module _ (fits : n * byteWidth f ≤ length s - p) where
     floats-bad : allOf (kept positive) (numbers f n (drop p s)) ≡ false → refused 6 ≡ floats f positive n s p
     unfolding floats
-    floats-bad e = simp (bytes-ok (n * size f) s p fits, numbers-take, e)
+    floats-bad e = simp (bytes-ok (n * byteWidth f) s p fits, numbers-take, e)
 
-    floats-good : allOf (kept positive) (numbers f n (drop p s)) ≡ true → read (numbers f n (drop p s)) (p + n * size f) ≡ floats f positive n s p
+    floats-good : allOf (kept positive) (numbers f n (drop p s)) ≡ true → read (numbers f n (drop p s)) (p + n * byteWidth f) ≡ floats f positive n s p
     unfolding floats
-    floats-good e = simp (bytes-ok (n * size f) s p fits, numbers-take, e)
+    floats-good e = simp (bytes-ok (n * byteWidth f) s p fits, numbers-take, e)
 
     -- the first i are passed
     module _ (i : ℕ) (so-far : allOf (kept positive) (drop i (numbers f n (drop p s))) ≡ allOf (kept positive) (numbers f n (drop p s))) where
-      module _ (l : i < n) {x : ℕ} (is : x ≡ littleEndian (take (size f) (drop (p + size f * i) s))) where
+      module _ (l : i < n) {x : ℕ} (is : x ≡ littleEndian (take (byteWidth f) (drop (p + byteWidth f * i) s))) where
         known : {b : Bool} → kept positive (ofBits f x) ≡ b → kept positive (at (numbers f n (drop p s)) i) ≡ b
         known e = ap (kept positive) (numbers-at f n s p i l ∙ ap (ofBits f) (sym is)) ∙ e
 
@@ -160,7 +160,7 @@ module _ (f : Format) (positive : Bool) (n : ℕ) (s : List ℕ) (p : ℕ) where
         passed : allOf (kept positive) (numbers f n (drop p s)) ≡ true
         passed = sym (all-end (kept positive) _ i (rw numbers-length l) so-far)
 
-        pub floats-end : (z : ℕ) → z ≡ p + n * size f → read (numbers f n (drop p s)) z ≡ floats f positive n s p
+        pub floats-end : (z : ℕ) → z ≡ p + n * byteWidth f → read (numbers f n (drop p s)) z ≡ floats f positive n s p
         floats-end z e = rw e (floats-good passed)
 
         pub floats-ready : Ready f n s p
@@ -169,7 +169,7 @@ module _ (f : Format) (positive : Bool) (n : ℕ) (s : List ℕ) (p : ℕ) where
 
 -- ---- a number, and all of them, once they are checked
 
-module _ (f : Format) (n : ℕ) (s : List ℕ) (p i : ℕ) {x : ℕ} (l : i < n) (is : x ≡ littleEndian (take (size f) (drop (p + size f * i) s))) where
+module _ (f : Format) (n : ℕ) (s : List ℕ) (p i : ℕ) {x : ℕ} (l : i < n) (is : x ≡ littleEndian (take (byteWidth f) (drop (p + byteWidth f * i) s))) where
   pub number-is : ofBits f x ≡ at (numbers f n (drop p s)) i
   number-is = ap (ofBits f) is ∙ sym (numbers-at f n s p i l)
 

@@ -9,7 +9,7 @@ use lib.Ieee.{Float, Format, binary64}
 use lib.Ieee.Scale.{finite}
 use Rattle.loops.specs.Lists.{allOf}
 use Rattle.definition.specs.Options.{maxFeat}
-use Rattle.definition.specs.Reader.{Got, read, refused, size, numbers}
+use Rattle.definition.specs.Reader.{Got, read, refused, byteWidth, numbers}
 use Rattle.definition.specs.Kaldi as K
 use Rattle.definition.specs.Kaldi.{triangle}
 use Rattle.kaldi_io.specs.declared.Next.{Next}
@@ -63,7 +63,7 @@ floatsOf f n s at (N.Refused r) = refused r
 
 -- n numbers can be read from a place: they are in the bytes, and finite
 pub record Ready (f : Format) (n : ℕ) (s : List ℕ) (at : ℕ) : Type 0 where
-  pub inside : n * size f ≤ length s - at
+  pub inside : n * byteWidth f ≤ length s - at
   pub good : allOf finite (numbers f n (drop at s)) ≡ true
 
 abbrev pub floatsIn : Format → ℕ → List ℕ → ℕ → Next → Type 0
@@ -101,7 +101,7 @@ matrixIn f most-rows most-cols s (M.Is rows cols from next) = MatrixIn f most-ro
 matrixIn f most-rows most-cols s (M.Refused r) = Unit {0}
 
 abbrev pub packedOf : List ℕ → Packed → Got K.Packed
-packedOf s (P.Is dim from next) = read (record { size = dim; nums = numbers binary64 (triangle dim) (drop from s) }) next
+packedOf s (P.Is dim from next) = read (record { rows = dim; nums = numbers binary64 (triangle dim) (drop from s) }) next
 packedOf s (P.Refused r) = refused r
 
 pub record PackedIn (s : List ℕ) (dim from : ℕ) : Type 0 where

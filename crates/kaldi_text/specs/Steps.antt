@@ -50,15 +50,15 @@ pub record Sorted (test : (ℕ → Bool) → Bool) (k : Kind) : Type 0 where
 
 -- a size is at most 100,000: no digits after a point bring a larger one back to 22
 abbrev pub capped : Got T.Power → Got T.Power
-capped (read p next) = read (record { under = p .under; size = min (p .size) 100000 }) next
+capped (read p next) = read (record { under = p .under; magnitude = min (p .magnitude) 100000 }) next
 capped (refused n) = refused n
 
 abbrev pub powerOf : Power → Got T.Power
-powerOf (P.Is under size next) = read (record { under = under; size = size }) next
+powerOf (P.Is under magnitude next) = read (record { under = under; magnitude = magnitude }) next
 powerOf (P.Refused r) = refused r
 
 abbrev pub powerIn : Power → Type 0
-powerIn (P.Is under size next) = size ≤ 100000
+powerIn (P.Is under magnitude next) = magnitude ≤ 100000
 powerIn (P.Refused r) = Unit {0}
 
 -- ---- rows

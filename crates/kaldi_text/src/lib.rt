@@ -11,7 +11,7 @@ ghost use lib.Dec.{eqb};
 ghost use Rattle.floats.specs.Operators.{zero₆₄};
 ghost use Rattle.definition.specs.Options.{within};
 ghost use Rattle.definition.specs.Reader.{read, run, here};
-ghost use Rattle.definition.specs.Text.{sign, fraction, decimal, exponent, finished, number, space, stop, row, line, bracket, ending, rows, cmvn};
+ghost use Rattle.definition.specs.Text.{sign, fraction, digitsValue, exponent, toNearest, number, space, stop, row, line, bracket, ending, cmvnRows, cmvn};
 ghost use Rattle.kaldi_io.specs.Answers.{nextOf, numberOf};
 ghost use Rattle.kaldi_text.specs.Answers.{cmvnOf, cmvnIn, RowIn, cells};
 ghost use Rattle.kaldi_text.specs.Steps.{Sorted, capped, powerOf, powerIn, outline, rowOf, rowIn, nextIn};
@@ -135,7 +135,7 @@ fn digit_value(b: u8) -> u64
 fn decimal_of(s: &[u8], from: usize, to: usize, m: u64, cap: u64) -> u64
     requires { ⌜ to ≤ length (now s) ⌝ }
     requires { ⌜ (m ≤ cap) × (cap ≤ 2 ^ 53) ⌝ }
-    ensures { λ r. ⌜ r ≡ min (decimal m (take (to - from) (drop from (now (s .entry))))) cap ⌝ }
+    ensures { λ r. ⌜ r ≡ min (digitsValue m (take (to - from) (drop from (now (s .entry))))) cap ⌝ }
 {
     let mut x = m;
     let mut i = from;
@@ -151,9 +151,13 @@ fn decimal_of(s: &[u8], from: usize, to: usize, m: u64, cap: u64) -> u64
     x
 }
 
-// An exponent: whether it is below zero, and its size.
+// An exponent: whether it is below zero, and its magnitude.
 pub enum Power {
-    Is { under: bool, size: u64, next: usize },
+    Is {
+        under: bool,
+        magnitude: u64,
+        next: usize,
+    },
     Refused(usize),
 }
 
@@ -173,13 +177,13 @@ fn read_exponent(s: &[u8], at: usize) -> Power
             }
             Power::Is {
                 under: lead.minus,
-                size: decimal_of(s, from, to, 0, 100000),
+                magnitude: decimal_of(s, from, to, 0, 100000),
                 next: to,
             }
         }
         _ => Power::Is {
             under: false,
-            size: 0,
+            magnitude: 0,
             next: at,
         },
     }
@@ -188,7 +192,7 @@ fn read_exponent(s: &[u8], at: usize) -> Power
 // The number ±m * 10^(up - down).
 fn finish(minus: bool, m: u64, up: u64, down: u64, next: usize) -> Number
     requires { ⌜ (up ≤ 200000) × (down ≤ 200000) ⌝ }
-    ensures { λ r. ⌜ numberOf r ≡ finished minus m up down [] next ⌝ }
+    ensures { λ r. ⌜ numberOf r ≡ toNearest minus m up down [] next ⌝ }
 {
     if m >= 9007199254740992 {
         return Number::Refused(7);
@@ -222,14 +226,18 @@ fn read_number(s: &[u8], at: usize) -> Number
     }
     match read_exponent(s, stop) {
         Power::Refused(e) => Number::Refused(e),
-        Power::Is { under, size, next } => {
+        Power::Is {
+            under,
+            magnitude,
+            next,
+        } => {
             let whole = decimal_of(s, from, to, 0, 9007199254740992);
             let m = decimal_of(s, start, stop, whole, 9007199254740992);
             let below = behind as u64;
             if under {
-                finish(minus, m, 0, size + below, next)
+                finish(minus, m, 0, magnitude + below, next)
             } else {
-                finish(minus, m, size, below, next)
+                finish(minus, m, magnitude, below, next)
             }
         }
     }
@@ -407,7 +415,7 @@ pub enum Cmvn {
 // Two equal rows between brackets.
 fn check_rows(s: &[u8]) -> Cmvn
     requires { ⌜ length (now s) ≤ 65536 ⌝ }
-    ensures { λ r. ⌜ cmvnOf (now (s .entry)) r ≡ rows (now (s .entry)) 0 ⌝ }
+    ensures { λ r. ⌜ cmvnOf (now (s .entry)) r ≡ cmvnRows (now (s .entry)) 0 ⌝ }
     ensures { λ r. ⌜ cmvnIn (now (s .entry)) r ⌝ }
 {
     let a = match expect_bracket(s, 0, b'[') {

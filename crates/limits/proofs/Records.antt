@@ -51,13 +51,13 @@ module _ (d : Dimensions) (z : RoomLengths) where
 
 pub record Whole (s : IvectorStream) (waiting : List ℕ) : Type 0 where
   pub info-is : infoSound (s .info) ≡ true
-  pub rooms-fit : roomsFit (s .info .dims) (s .rooms) ≡ true
+  pub rooms-fit : roomsFit (s .info .dims) (s .lengths) ≡ true
   pub few : s .accepted ≤ 1000000000
   pub next-is : s .«num_frames_stats» ≤ s .accepted
   pub mark-is : s .mark ≤ s .«num_frames_stats» - s .info .opts .«left_context»
-  pub frames-fit : s .accepted - s .mark ≤ rowsIn (s .rooms .rings .frames) (s .info .dims .«base_dim»)
-  pub rows-fit : s .accepted + 1 - (s .mark + 1 - s .info .opts .«cmn_window») ≤ rowsIn (s .rooms .rings .rows) (s .info .dims .«base_dim»)
-  pub waiting-fit : s .waiting ≤ waitingRoom (s .rooms .rings)
+  pub frames-fit : s .accepted - s .mark ≤ rowsIn (s .lengths .rings .frames) (s .info .dims .«base_dim»)
+  pub rows-fit : s .accepted + 1 - (s .mark + 1 - s .info .opts .«cmn_window») ≤ rowsIn (s .lengths .rings .rows) (s .info .dims .«base_dim»)
+  pub waiting-fit : s .waiting ≤ waitingRoom (s .lengths .rings)
   pub in-order : rising 0 (take (s .waiting) waiting) ≡ true
   pub held-back : anyOf (λ f. ltb (f - s .info .opts .«left_context») (s .mark)) (take (s .waiting) waiting) ≡ false
 

@@ -378,7 +378,7 @@ pub fn is_broken(s: IvectorStream, waiting: &[usize]) -> bool
     let i = s.info;
     let o = i.opts;
     let d = i.dims;
-    let z = s.rooms;
+    let z = s.lengths;
     let r = z.rings;
     if !info_sound(i) {
         return true;

@@ -15,7 +15,7 @@ use Rattle.loops.proofs.Choose.{by-test, choose-true, choose-false}
 use Rattle.floats.specs.Operators.{_+₆₄_, _-₆₄_, _*₆₄_, _/₆₄_, f64, at}
 use Rattle.definition.specs.Solve.{dot, spMatVec, factor, solvedOr, Cgd, begun, turn, linearCgd}
 use Rattle.linear.specs.declared.CgdState.{CgdState}
-use Rattle.linear.specs.Steps.{started, stepped, recomputed, isFar, isLast, isWorse, rooms, ended, residual}
+use Rattle.linear.specs.Steps.{started, stepped, recomputed, isFar, isLast, isWorse, cgdOf, ended, residual}
 
 -- ---- whether a turn is left, of at most n and at most m
 
@@ -32,7 +32,7 @@ module _ (a : List Float) (n : ℕ) (b x : List Float) where
   -- ---- before the first turn
 
   pub begin-is : {q p r : List Float} {v : Float} {s : CgdState} → q ≡ spMatVec a n x → p ≡ build n (λ i. at b i -₆₄ at q i) → r ≡ build n (λ i. neg (at p i)) → v ≡ dot n r r → s ≡ started v
-      → (rooms x r p s ≡ begun a n b x) × (s .k ≡ 0)
+      → (cgdOf x r p s ≡ begun a n b x) × (s .k ≡ 0)
   unfolding begun
   begin-is e1 e2 e3 e4 e5 = (rw (e5, e4, e3, e2, e1), rw e5)
 
@@ -58,7 +58,7 @@ module _ (a : List Float) (n : ℕ) (b x r p : List Float) (s : CgdState) where
   -- its end, with the residual R and the scalars T
   abbrev turnEnd : List Float → List Float → CgdState → Out Cgd
   turnEnd x R T =
-      if isLast T then off (rooms x R p T) else on (rooms x R (build n (λ i. T .«r_cur» /₆₄ s .«r_cur» *₆₄ at p i -₆₄ at R i)) T)
+      if isLast T then off (cgdOf x R p T) else on (cgdOf x R (build n (λ i. T .«r_cur» /₆₄ s .«r_cur» *₆₄ at p i -₆₄ at R i)) T)
 
   -- from the step along p on: the same as the definition has it, by whether the residual is recomputed
   abbrev turnFar : Bool → List Float → List Float → List Float → Out Cgd
@@ -81,7 +81,7 @@ module _ (a : List Float) (n : ℕ) (b x r p : List Float) (s : CgdState) where
   end-is true x moved anew = refl
   end-is false x moved anew = refl
 
-  along-is : turnAlong (neg (dot n p r) /₆₄ dot n p (spMatVec a n p)) (spMatVec a n p) ≡ turn a n b (rooms x r p s)
+  along-is : turnAlong (neg (dot n p r) /₆₄ dot n p (spMatVec a n p)) (spMatVec a n p) ≡ turn a n b (cgdOf x r p s)
   unfolding turn
   along-is = refl
 
@@ -90,7 +90,7 @@ module _ (a : List Float) (n : ℕ) (b x r p : List Float) (s : CgdState) where
       (e4 : x′ ≡ build n (λ i. at x i +₆₄ neg d₁ /₆₄ d₂ *₆₄ at p i)) (e5 : r₁ ≡ build n (λ i. at r i +₆₄ neg d₁ /₆₄ d₂ *₆₄ at q i))
       (e6 : v ≡ dot n r₁ r₁) (e7 : s₁ ≡ stepped s v)
       (e8 : R ≡ (if isFar s₁ then residual a n b x′ else r₁)) (e9 : T ≡ (if isFar s₁ then recomputed s₁ (dot n R R) else s₁)) where
-    turn-is : turnEnd x′ R T ≡ turn a n b (rooms x r p s)
+    turn-is : turnEnd x′ R T ≡ turn a n b (cgdOf x r p s)
     turn-is =
         ap (turnEnd x′ R) e9
         ∙ ap (λ (R : List Float). turnEnd x′ R (if isFar s₁ then recomputed s₁ (dot n R R) else s₁)) e8
@@ -106,14 +106,14 @@ module _ (a : List Float) (n : ℕ) (b x r p : List Float) (s : CgdState) where
     counted : T .k ≡ s .k + 1
     counted = ap (λ (t : CgdState). t .k) e9 ∙ renewed-k (isFar s₁) s₁ (dot n R R) ∙ ap (λ (t : CgdState). t .k) e7
 
-    pub turn-last : {t : Bool} → t ≡ isLast T → t ≡ true → (ended T (rooms x′ R p T) ≡ turn a n b (rooms x r p s)) × (T .k ≡ s .k + 1)
+    pub turn-last : {t : Bool} → t ≡ isLast T → t ≡ true → (ended T (cgdOf x′ R p T) ≡ turn a n b (cgdOf x r p s)) × (T .k ≡ s .k + 1)
     turn-last h l = let f : isLast T ≡ true = sym h ∙ l in (sym (is-last (isLast T) _ f) ∙ choose-true _ f refl ∙ turn-is, counted)
 
     pub turn-on : {t : Bool} {p′ : List Float} → t ≡ isLast T → t ≡ false → p′ ≡ build n (λ i. T .«r_cur» /₆₄ s .«r_cur» *₆₄ at p i -₆₄ at R i)
-        → (ended T (rooms x′ R p′ T) ≡ turn a n b (rooms x r p s)) × (T .k ≡ s .k + 1)
+        → (ended T (cgdOf x′ R p′ T) ≡ turn a n b (cgdOf x r p s)) × (T .k ≡ s .k + 1)
     turn-on h l e =
         let f : isLast T ≡ false = sym h ∙ l in
-        (sym (goes-on (isLast T) _ f) ∙ choose-false _ f (ap (λ (p : List Float). on (rooms x′ R p T)) e) ∙ turn-is, counted)
+        (sym (goes-on (isLast T) _ f) ∙ choose-false _ f (ap (λ (p : List Float). on (cgdOf x′ R p T)) e) ∙ turn-is, counted)
 
 -- ---- the turns, m at most
 
@@ -124,27 +124,27 @@ module _ (a : List Float) (n : ℕ) (b : List Float) where
   pub no-turn : {c : Cgd} {k : ℕ} → k ≡ 0 → on c ≡ turnsFrom k c
   no-turn {c} e = leave-none _ c ∙ ap (λ (k : ℕ). turnsFrom k c) (sym e)
 
-  module _ (c : Cgd) {x r p : List Float} (t : CgdState) (e : on (rooms x r p t) ≡ turnsFrom (t .k) c) where
-    pub turns-end : (m : ℕ) → t .k ≤ m → m ≤ t .k → rooms x r p t ≡ final (turnsFrom m c)
+  module _ (c : Cgd) {x r p : List Float} (t : CgdState) (e : on (cgdOf x r p t) ≡ turnsFrom (t .k) c) where
+    pub turns-end : (m : ℕ) → t .k ≤ m → m ≤ t .k → cgdOf x r p t ≡ final (turnsFrom m c)
     turns-end m l g = ap final (leave-end _ c (t .k) m l g e)
 
-    module _ {x′ r′ p′ : List Float} (t′ : CgdState) (h : ended t′ (rooms x′ r′ p′ t′) ≡ turn a n b (rooms x r p t)) {l : Bool} (f : l ≡ isLast t′) where
-      pub next-turn : t′ .k ≡ t .k + 1 → l ≡ false → on (rooms x′ r′ p′ t′) ≡ turnsFrom (t′ .k) c
+    module _ {x′ r′ p′ : List Float} (t′ : CgdState) (h : ended t′ (cgdOf x′ r′ p′ t′) ≡ turn a n b (cgdOf x r p t)) {l : Bool} (f : l ≡ isLast t′) where
+      pub next-turn : t′ .k ≡ t .k + 1 → l ≡ false → on (cgdOf x′ r′ p′ t′) ≡ turnsFrom (t′ .k) c
       next-turn g q = leave-step _ c (t .k) e (goes-on (isLast t′) _ (sym f ∙ q) ∙ h) ∙ ap (λ (k : ℕ). turnsFrom k c) (sym g)
 
-      pub last-turn : (m : ℕ) → t .k < m → l ≡ true → rooms x′ r′ p′ t′ ≡ final (turnsFrom m c)
+      pub last-turn : (m : ℕ) → t .k < m → l ≡ true → cgdOf x′ r′ p′ t′ ≡ final (turnsFrom m c)
       last-turn m g q = ap final (leave-left _ c (t .k) m g e (is-last (isLast t′) _ (sym f ∙ q) ∙ h))
 
 -- ---- the end
 
 module _ (a : List Float) (n : ℕ) (b x : List Float) (max-iters : ℕ) (first last : CgdState) {x′ r p r′ p′ : List Float} {w : Bool} {d : Float}
-    (e1 : rooms x r p first ≡ begun a n b x) (e2 : rooms x′ r′ p′ last ≡ final (leave (min (n + 5) max-iters) (λ k. turn a n b) (rooms x r p first)))
+    (e1 : cgdOf x r p first ≡ begun a n b x) (e2 : cgdOf x′ r′ p′ last ≡ final (leave (min (n + 5) max-iters) (λ k. turn a n b) (cgdOf x r p first)))
     (e3 : d ≡ dot n b b) (e4 : w ≡ isWorse last (first .«r_cur») d) where
   abbrev judged : Float → Cgd → List Float
   judged v c =
       if lt v (c .r-cur) && lt (v +₆₄ f64 0x3ddb_7cdf_d9d7_bdbb *₆₄ dot n b b) (c .r-cur) then solvedOr x n b (factor a n) else c .x
 
-  judged-is : judged (first .«r_cur») (rooms x′ r′ p′ last) ≡ linearCgd a n b x max-iters
+  judged-is : judged (first .«r_cur») (cgdOf x′ r′ p′ last) ≡ linearCgd a n b x max-iters
   unfolding linearCgd
   judged-is = ap (judged (first .«r_cur»)) e2 ∙ ap (λ (c : Cgd). judged (c .r-cur) (final (leave (min (n + 5) max-iters) (λ k. turn a n b) c))) e1
 

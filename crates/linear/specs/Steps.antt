@@ -35,8 +35,8 @@ abbrev pub isWorse : CgdState → Float → Float → Bool
 isWorse s first bb = lt first (s .«r_cur») && lt (first +₆₄ f64 0x3ddb_7cdf_d9d7_bdbb *₆₄ bb) (s .«r_cur»)
 
 -- the rooms and the scalars
-abbrev pub rooms : List Float → List Float → List Float → CgdState → Cgd
-rooms x r p s = record { x = x; r = r; p = p; r-cur = s .«r_cur»; r-recompute = s .«r_recompute» }
+abbrev pub cgdOf : List Float → List Float → List Float → CgdState → Cgd
+cgdOf x r p s = record { x = x; r = r; p = p; r-cur = s .«r_cur»; r-recompute = s .«r_recompute» }
 
 -- off after the last turn
 abbrev pub ended : CgdState → Cgd → Out Cgd

@@ -14,7 +14,7 @@ ghost use Rattle.loops.specs.Lists.{build, if_then_else_};
 ghost use Rattle.floats.specs.Operators.{_+₆₄_, _-₆₄_, _*₆₄_, at};
 ghost use Rattle.definition.specs.Kaldi.{triangle};
 ghost use Rattle.definition.specs.Solve.{dot as dotOf, factor as factorOf, forward as forwardOf, backward as backwardOf, solvedOr, begun, turn, linearCgd};
-ghost use Rattle.linear.specs.Steps.{started, stepped as steppedOf, recomputed as recomputedOf, isFar, isLast, isWorse, rooms, ended, isOn, residual};
+ghost use Rattle.linear.specs.Steps.{started, stepped as steppedOf, recomputed as recomputedOf, isFar, isLast, isWorse, cgdOf, ended, isOn, residual};
 
 // The lower factor L of A = L Lᵗ, by rows of n, or false at the first pivot that is at most 0.
 fn factor(a: &[f64], n: usize, l: &mut [f64]) -> bool
@@ -228,7 +228,7 @@ fn cgd_begin(
     ap: &mut [f64],
 ) -> CgdState
     requires { ⌜ (triangle n ≤ length (now a)) × (n ≤ length (now b)) × (n ≤ length (now x)) × (length (now r) ≡ n) × (length (now p) ≡ n) × (length (now ap) ≡ n) ⌝ }
-    ensures { λ s. ⌜ (rooms (now (x .entry)) (now (r .exit)) (now (p .exit)) s ≡ begun (now (a .entry)) n (now (b .entry)) (now (x .entry))) × (s .k ≡ 0) ⌝ }
+    ensures { λ s. ⌜ (cgdOf (now (x .entry)) (now (r .exit)) (now (p .exit)) s ≡ begun (now (a .entry)) n (now (b .entry)) (now (x .entry))) × (s .k ≡ 0) ⌝ }
 {
     sp_mat_vec(a, n, x, ap);
     difference(b, ap, n, p);
@@ -269,7 +269,7 @@ fn cgd_turn(
     s: CgdState,
 ) -> CgdState
     requires { ⌜ (s .k < 200) × (triangle n ≤ length (now a)) × (n ≤ length (now b)) × (length (now x) ≡ n) × (length (now r) ≡ n) × (length (now p) ≡ n) × (length (now ap) ≡ n) ⌝ }
-    ensures { λ t. ⌜ (ended t (rooms (now (x .exit)) (now (r .exit)) (now (p .exit)) t) ≡ turn (now (a .entry)) n (now (b .entry)) (rooms (now (x .entry)) (now (r .entry)) (now (p .entry)) s)) × (t .k ≡ s .k + 1) ⌝ }
+    ensures { λ t. ⌜ (ended t (cgdOf (now (x .exit)) (now (r .exit)) (now (p .exit)) t) ≡ turn (now (a .entry)) n (now (b .entry)) (cgdOf (now (x .entry)) (now (r .entry)) (now (p .entry)) s)) × (t .k ≡ s .k + 1) ⌝ }
 {
     sp_mat_vec(a, n, p, ap);
     let alpha = -dot(p, r, n) / dot(p, ap, n);
@@ -297,7 +297,7 @@ fn cgd_turns(
     s: CgdState,
 ) -> CgdState
     requires { ⌜ (s .k ≡ 0) × (n ≤ 128) × (triangle n ≤ length (now a)) × (n ≤ length (now b)) × (length (now x) ≡ n) × (length (now r) ≡ n) × (length (now p) ≡ n) × (length (now ap) ≡ n) ⌝ }
-    ensures { λ t. ⌜ rooms (now (x .exit)) (now (r .exit)) (now (p .exit)) t ≡ final (leave (min (n + 5) «max_iters») (λ k. turn (now (a .entry)) n (now (b .entry))) (rooms (now (x .entry)) (now (r .entry)) (now (p .entry)) s)) ⌝ }
+    ensures { λ t. ⌜ cgdOf (now (x .exit)) (now (r .exit)) (now (p .exit)) t ≡ final (leave (min (n + 5) «max_iters») (λ k. turn (now (a .entry)) n (now (b .entry))) (cgdOf (now (x .entry)) (now (r .entry)) (now (p .entry)) s)) ⌝ }
 {
     let mut t = s;
     while t.goes_on(n, max_iters) {

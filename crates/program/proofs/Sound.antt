@@ -31,7 +31,7 @@ abbrev pub streamOf : IvectorInfo → RoomLengths → Machine → IvectorStream
 streamOf i z k =
     record {
       info = i;
-      rooms = z;
+      lengths = z;
       accepted = accepted k;
       «num_frames_stats» = k .next;
       mark = k .mark;

@@ -150,7 +150,7 @@ module _ (i : IvectorInfo) (z : RoomLengths) (n : ℕ) (t : Tables) (made : Made
           w,
           ap (λ (gs : List ℕ). program (record {
             info = i;
-            rooms = z;
+            lengths = z;
             accepted = accepted k;
             «num_frames_stats» = k .next;
             mark = max (k .mark) (foldl min (min f (k .next)) gs - left);

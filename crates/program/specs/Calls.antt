@@ -35,7 +35,7 @@ abbrev pub streamFrom : IvectorInfo → RoomLengths → ℕ → ℕ → ℕ → 
 streamFrom i z accepted next mark waiting past-highest called finished n =
     record {
       info = i;
-      rooms = z;
+      lengths = z;
       accepted = accepted;
       «num_frames_stats» = next;
       mark = mark;
@@ -87,20 +87,20 @@ freshRooms i z =
 
 abbrev pub withAccepted : IvectorStream → ℕ → IvectorStream
 withAccepted s n =
-    streamFrom (s .info) (s .rooms) n (s .«num_frames_stats») (s .mark) (s .waiting) (s .«past_highest») (s .«delta_weights_provided») (s .«input_finished») (s .«num_frames»)
+    streamFrom (s .info) (s .lengths) n (s .«num_frames_stats») (s .mark) (s .waiting) (s .«past_highest») (s .«delta_weights_provided») (s .«input_finished») (s .«num_frames»)
 
 abbrev pub withFinished : IvectorStream → IvectorStream
 withFinished s =
-    streamFrom (s .info) (s .rooms) (s .accepted) (s .«num_frames_stats») (s .mark) (s .waiting) (s .«past_highest») (s .«delta_weights_provided») true (s .«num_frames»)
+    streamFrom (s .info) (s .lengths) (s .accepted) (s .«num_frames_stats») (s .mark) (s .waiting) (s .«past_highest») (s .«delta_weights_provided») true (s .«num_frames»)
 
 abbrev pub withMark : IvectorStream → ℕ → IvectorStream
 withMark s m =
-    streamFrom (s .info) (s .rooms) (s .accepted) (s .«num_frames_stats») m (s .waiting) (s .«past_highest») (s .«delta_weights_provided») (s .«input_finished») (s .«num_frames»)
+    streamFrom (s .info) (s .lengths) (s .accepted) (s .«num_frames_stats») m (s .waiting) (s .«past_highest») (s .«delta_weights_provided») (s .«input_finished») (s .«num_frames»)
 
 -- with changes, next and the statistics' frame count
 abbrev pub withChanges : IvectorStream → Changes → ℕ → Float → IvectorStream
 withChanges s c next n =
-    streamFrom (s .info) (s .rooms) (s .accepted) next (s .mark) (length (c .waiting)) (c .past-highest) (c .called) (s .«input_finished») n
+    streamFrom (s .info) (s .lengths) (s .accepted) next (s .mark) (length (c .waiting)) (c .past-highest) (c .called) (s .«input_finished») n
 
 -- ---- push, finish, change and forget: a call on the rings
 
@@ -127,7 +127,7 @@ doneOn s z x = ringCall (callOf (x .refusal) (taken (x .refusal) (x .stream) s) 
 
 -- 10 of every call
 abbrev pub recordTests : IvectorStream → Rings → List (Bool × ℕ)
-recordTests s z = (not (sameRings (ringLengthsOf z) (s .rooms .rings)), 10) ∷ (isBroken s (z .waiting-frames), 10) ∷ []
+recordTests s z = (not (sameRings (ringLengthsOf z) (s .lengths .rings)), 10) ∷ (isBroken s (z .waiting-frames), 10) ∷ []
 
 -- a push: the new frame at its place, and the sum of all frames up to it as the next prefix row
 unfoldable pub pushedFrames : IvectorStream → List Float → List Float → List Float
@@ -140,7 +140,7 @@ pushedRows s rows x =
 
 unfoldable pub pushFrame : IvectorStream → Rings → List Float → RingStep
 pushFrame s z x =
-    ringStep (recordTests s z ++ pushTests (s .info .opts) (s .info .dims) (s .rooms .rings) (s .accepted) (s .mark) x)
+    ringStep (recordTests s z ++ pushTests (s .info .opts) (s .info .dims) (s .lengths .rings) (s .accepted) (s .mark) x)
     (withAccepted s (s .accepted + 1)) (ringsFrom (pushedFrames s (z .frames) x) (pushedRows s (z .rows) x) (z .waiting-frames) (z .waiting-weights))
 
 unfoldable pub setInputFinished : IvectorStream → Rings → RingStep
@@ -153,7 +153,7 @@ overWaiting c z = ringsFrom (z .frames) (z .rows) (over (framesOf (c .waiting)) 
 unfoldable pub updateFrameWeights : IvectorStream → Rings → List ℕ → List Float → RingStep
 updateFrameWeights s z fs ws =
     let c = changed (changesIn s z) fs ws in
-    ringStep (recordTests s z ++ changeTests (s .info .opts) (s .rooms .rings) (s .mark) (s .waiting) fs ws)
+    ringStep (recordTests s z ++ changeTests (s .info .opts) (s .lengths .rings) (s .mark) (s .waiting) fs ws)
     (withChanges s c (s .«num_frames_stats») (s .«num_frames»)) (overWaiting c z)
 
 unfoldable pub forgetMark : IvectorStream → List ℕ → ℕ → ℕ
@@ -191,7 +191,7 @@ unfoldable pub fetchRefusal : IvectorStream → TableLengths → RoomLengths →
 fetchRefusal s t z fs f m =
     firstOf
     ((not (sameTables t (s .info .tables)), 10)
-    ∷ (not (sameRooms z (s .rooms)), 10)
+    ∷ (not (sameRooms z (s .lengths)), 10)
     ∷ (isBroken s fs, 10)
     ∷ fetchTests (s .info .dims) (framesReady (s .info .opts) (s .«input_finished») (s .accepted)) (s .«num_frames_stats») (s .«delta_weights_provided») (s .«past_highest») f m)
 

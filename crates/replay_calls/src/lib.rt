@@ -383,7 +383,7 @@ pub fn push_in(
     waiting_weights: &[f32],
 ) -> Session {
     let p = session.playing;
-    let z = p.rooms;
+    let z = p.lengths;
     let rings = z.rings;
     let n = at_most(count, frame.len());
     let n0 = at_most(rings.frames, frames.len());
@@ -413,7 +413,7 @@ pub fn mark_line(
     waiting_weights: &[f32],
 ) -> Session {
     let p = session.playing;
-    let z = p.rooms;
+    let z = p.lengths;
     let rings = z.rings;
     let n0 = at_most(rings.frames, frames.len());
     let n1 = at_most(rings.rows, rows.len());
@@ -480,7 +480,7 @@ pub fn change_in(
     waiting_weights: &mut [f32],
 ) -> Session {
     let p = session.playing;
-    let z = p.rooms;
+    let z = p.lengths;
     let rings = z.rings;
     let na = at_most(frame_count, delta_frames.len());
     let nb = at_most(weight_count, delta_weights.len());
@@ -524,7 +524,7 @@ pub fn fetch_in(
     out: &mut [u32],
 ) -> Session {
     let p = session.playing;
-    let z = p.rooms;
+    let z = p.lengths;
     let rings = z.rings;
     let estimate = z.estimate;
     let n0 = at_most(rings.waiting_frames, waiting_frames.len());
@@ -588,7 +588,7 @@ pub fn fetch_line(
     let n = script::number(text, frame.next, 10);
     let p = session.playing;
     let t = p.tables;
-    let z = p.rooms;
+    let z = p.lengths;
     let rings = z.rings;
     let n0 = at_most(t.gconsts, gconsts.len());
     let n1 = at_most(t.means_invvars_t, means_invvars_t.len());

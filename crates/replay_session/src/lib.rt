@@ -52,7 +52,7 @@ pub struct Playing {
     pub stream: IvectorStream,
     pub forged: IvectorStream,
     pub tables: TableLengths,
-    pub rooms: RoomLengths,
+    pub lengths: RoomLengths,
     pub altered: bool,
     pub moved_waiting: bool,
 }
@@ -136,7 +136,7 @@ pub fn no_info() -> IvectorInfo {
 pub fn empty_stream(info: IvectorInfo) -> IvectorStream {
     IvectorStream {
         info,
-        rooms: no_rooms(),
+        lengths: no_rooms(),
         accepted: 0,
         num_frames_stats: 0,
         mark: 0,
@@ -151,14 +151,14 @@ pub fn empty_stream(info: IvectorInfo) -> IvectorStream {
 pub fn with_stream(s: IvectorStream, streaming: bool) -> Playing {
     let i = s.info;
     let tables = i.tables;
-    let rooms = s.rooms;
+    let lengths = s.lengths;
     Playing {
         loaded: true,
         streaming,
         stream: s,
         forged: s,
         tables,
-        rooms,
+        lengths,
         altered: false,
         moved_waiting: false,
     }
@@ -1201,9 +1201,9 @@ pub fn forge_record(text: &[u8], at: usize, session: Session) -> Session {
         let k = script::number(text, from, 10);
         let by = read_signed(text, k.next);
         let t = p.tables;
-        let z = p.rooms;
+        let z = p.lengths;
         p.tables = forge_table(k.value, by, t);
-        p.rooms = forge_room(k.value, by, z);
+        p.lengths = forge_room(k.value, by, z);
         return set_playing(session, p);
     }
     let s = p.forged;

@@ -6,7 +6,7 @@ use Prim.Native.Nat.{ℕ}
 use mathlib.Core.List.{List, [], _∷_}
 use lib.ListN.{replicate, take}
 use lib.Ieee.{Float}
-use Rattle.floats.specs.Operators.{count, zero₃₂, zero₆₄}
+use Rattle.floats.specs.Operators.{asF64, zero₃₂, zero₆₄}
 use Rattle.definition.specs.Model.{Tables, tablesFrom, Files}
 use Rattle.definition.specs.Machine.{Call, push, fetch}
 use Rattle.definition.proofs.Computed.{computed}
@@ -26,7 +26,7 @@ room n = roomsFrom (ringsFrom (replicate n zero₃₂) (replicate 3 zero₆₄) 
 
 -- one frame, 4, and a fetch of it with an output of one number
 abbrev calls : List Call
-calls = push (count 4 ∷ []) ∷ fetch 0 1 ∷ []
+calls = push (asF64 4 ∷ []) ∷ fetch 0 1 ∷ []
 
 -- 0 frames and 1 row held at first
 abbrev half : Answered

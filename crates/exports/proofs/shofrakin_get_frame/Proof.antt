@@ -200,7 +200,7 @@ module _ {M : Type 1} (𝓤 : URA M) (H : Heap 𝓤) (A : Atoms 𝓤) (W : Given
 
   -- the record at exit, where the plain call returns s
   abbrev left-by : IvectorStream → IvectorStream
-  left-by s = record { info = h .info; rooms = h .rooms; accepted = h .accepted; «num_frames_stats» = s .«num_frames_stats»; mark = h .mark; waiting = s .waiting; «past_highest» = h .«past_highest»; «delta_weights_provided» = h .«delta_weights_provided»; «input_finished» = h .«input_finished»; «num_frames» = s .«num_frames» }
+  left-by s = record { info = h .info; lengths = h .lengths; accepted = h .accepted; «num_frames_stats» = s .«num_frames_stats»; mark = h .mark; waiting = s .waiting; «past_highest» = h .«past_highest»; «delta_weights_provided» = h .«delta_weights_provided»; «input_finished» = h .«input_finished»; «num_frames» = s .«num_frames» }
 
   -- nothing else of the record differs: a fetch keeps the highest changed frame, and whether a change call was taken
   same-changes : (fetchChanges h (z .rings) frame .past-highest ≡ h .«past_highest») × (fetchChanges h (z .rings) frame .called ≡ h .«delta_weights_provided»)

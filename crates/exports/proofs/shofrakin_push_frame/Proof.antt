@@ -131,7 +131,7 @@ module _ {M : Type 1} (𝓤 : URA M) (H : Heap 𝓤) (A : Atoms 𝓤) (W : Given
 
   -- the record at exit, where the plain call returns s
   abbrev left-by : IvectorStream → IvectorStream
-  left-by s = record { info = h .info; rooms = h .rooms; accepted = s .accepted; «num_frames_stats» = h .«num_frames_stats»; mark = h .mark; waiting = h .waiting; «past_highest» = h .«past_highest»; «delta_weights_provided» = h .«delta_weights_provided»; «input_finished» = h .«input_finished»; «num_frames» = h .«num_frames» }
+  left-by s = record { info = h .info; lengths = h .lengths; accepted = s .accepted; «num_frames_stats» = h .«num_frames_stats»; mark = h .mark; waiting = h .waiting; «past_highest» = h .«past_highest»; «delta_weights_provided» = h .«delta_weights_provided»; «input_finished» = h .«input_finished»; «num_frames» = h .«num_frames» }
 
   -- nothing else of the record differs
   only-that : (m : ℕ) → left-by (taken m (step .stream) h) ≡ taken m (step .stream) h

@@ -4,7 +4,7 @@ use lib.Ieee.{nan, round, ofInt, ofBits}
 use borrow.Author.Needs.{needs}
 use Rattle.loops.specs.Lists.{build}
 use Rattle.loops.proofs.Build.{at-build}
-use Rattle.floats.specs.Operators.{count}
+use Rattle.floats.specs.Operators.{asF64}
 use Rattle.floats.proofs.ten.Statement.{statement}
 use Rattle.floats.proofs.ten.Tie as tie
 
@@ -17,7 +17,7 @@ array-read-result c = search needs
 -- antt computes that the table is the list of 10 ^ 0, .., 10 ^ 22
 returns : tie.Need-returns
 unfolding build ofInt ofBits round
-returns c = at-build nan 23 (λ (k : ℕ). count (10 ^ k)) (c .args .k) (omega arith)
+returns c = at-build nan 23 (λ (k : ℕ). asF64 (10 ^ k)) (c .args .k) (omega arith)
 
 pub ten-spec : {M : Type 1} → statement M
 ten-spec = tie.close (tie.spec mul-result array-read-result returns)

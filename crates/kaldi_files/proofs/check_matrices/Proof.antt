@@ -4,10 +4,8 @@ use Prim.Native.Nat.{_-_}
 use native.Mathlib.Omega.{arith}
 use borrow.Author.Needs.{needs}
 use lib.Ieee.{binary64}
-use Rattle.floats.specs.Operators.{count, at}
 use Rattle.definition.specs.Options.{maxFeat, maxIvector}
 use Rattle.definition.specs.Kaldi.{matrix, alike}
-use Rattle.definition.specs.Text.{rows}
 use Rattle.kaldi_io.specs.Answers.{matrixOf}
 use Rattle.kaldi_io.proofs.Chain.{told}
 use Rattle.kaldi_files.specs.Answers.{means, sizedAs}

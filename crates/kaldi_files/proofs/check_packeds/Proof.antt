@@ -3,7 +3,6 @@ use mathlib.Core.Bool.{true}
 use Prim.Native.Nat.{_-_}
 use native.Mathlib.Omega.{arith}
 use borrow.Author.Needs.{needs}
-use Rattle.floats.specs.Operators.{count, at}
 use Rattle.definition.specs.Kaldi.{dim, packedMatrix, alike}
 use Rattle.kaldi_io.specs.Answers.{packedOf}
 use Rattle.kaldi_io.proofs.Chain.{told}

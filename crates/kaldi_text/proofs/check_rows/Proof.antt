@@ -1,7 +1,7 @@
 use mathlib.Core.Path.{refl, sym, subst}
 use borrow.Author.Needs.{needs}
 use Rattle.floats.specs.Operators.{zero₆₄}
-use Rattle.definition.specs.Text.{line, rows}
+use Rattle.definition.specs.Text.{line, cmvnRows}
 use Rattle.kaldi_io.specs.Answers.{nextOf}
 use Rattle.kaldi_io.proofs.Chain.{told, step, goes, stops, met, unmet}
 use Rattle.kaldi_text.specs.Steps.{nextIn, rowOf, rowIn}
@@ -19,7 +19,7 @@ enum-known-e : tie.Need-enum-known-e
 enum-known-e c = search needs
 
 returns : tie.Need-returns
-unfolding rows
+unfolding cmvnRows
 returns c =
     let expect-bracket = c .before .before .before .expect-bracket in (
       step nextOf _ _ (expect-bracket .ensures .0) (c .before .e .given .1) refl,
@@ -62,7 +62,7 @@ enum-known-e-4 : tie.Need-enum-known-e-4
 enum-known-e-4 c = search needs
 
 returns-2 : tie.Need-returns-2
-unfolding rows
+unfolding cmvnRows
 returns-2 c =
     let expect-bracket = c .before .before .before .before .before .before .before .before .before .before .before .before .before .before .before .expect-bracket in
     let next = c .before .before .before .before .before .before .before .before .before .before .before .before .before .next in
@@ -89,7 +89,7 @@ enum-known-e-5 : tie.Need-enum-known-e-5
 enum-known-e-5 c = search needs
 
 returns-3 : tie.Need-returns-3
-unfolding rows
+unfolding cmvnRows
 returns-3 c =
     let expect-bracket = c .before .before .before .before .before .before .before .before .before .before .before .before .before .before .before .before .before .before .before .expect-bracket in
     let next = c .before .before .before .before .before .before .before .before .before .before .before .before .before .before .before .before .before .next in
@@ -110,7 +110,7 @@ returns-3 c =
     )
 
 returns-4 : tie.Need-returns-4
-unfolding rows
+unfolding cmvnRows
 returns-4 c =
     let expect-bracket = c .before .before .before .before .before .before .before .before .before .before .before .before .before .before .before .before .before .before .before .before .expect-bracket in
     let next = c .before .before .before .before .before .before .before .before .before .before .before .before .before .before .before .before .before .before .next in
@@ -132,7 +132,7 @@ returns-4 c =
     )
 
 returns-5 : tie.Need-returns-5
-unfolding rows
+unfolding cmvnRows
 returns-5 c =
     let expect-bracket = c .before .before .before .before .before .before .before .before .before .before .before .before .before .before .before .before .before .before .before .before .before .expect-bracket in
     let next = c .before .before .before .before .before .before .before .before .before .before .before .before .before .before .before .before .before .before .before .next in
@@ -155,7 +155,7 @@ returns-5 c =
     )
 
 returns-6 : tie.Need-returns-6
-unfolding rows
+unfolding cmvnRows
 returns-6 c =
     let expect-bracket = c .before .before .before .before .before .before .before .expect-bracket in
     let next = c .before .before .before .before .before .next in
@@ -167,7 +167,7 @@ returns-6 c =
     )
 
 returns-7 : tie.Need-returns-7
-unfolding rows
+unfolding cmvnRows
 returns-7 c =
     let expect-bracket = c .before .before .before .before .before .before .before .before .before .before .before .expect-bracket in
     let next = c .before .before .before .before .before .before .before .before .before .next in
@@ -182,7 +182,7 @@ returns-7 c =
     )
 
 returns-8 : tie.Need-returns-8
-unfolding rows
+unfolding cmvnRows
 returns-8 c =
     let expect-bracket = c .before .before .before .before .before .before .before .before .before .before .before .before .before .before .before .before .before .before .before .before .before .before .expect-bracket in
     let next = c .before .before .before .before .before .before .before .before .before .before .before .before .before .before .before .before .before .before .before .before .next in
@@ -207,7 +207,7 @@ returns-8 c =
     )
 
 returns-9 : tie.Need-returns-9
-unfolding rows
+unfolding cmvnRows
 returns-9 c =
     let expect-bracket = c .before .before .before .before .before .before .before .before .before .before .before .before .before .before .before .before .before .before .before .before .before .before .expect-bracket in
     let next = c .before .before .before .before .before .before .before .before .before .before .before .before .before .before .before .before .before .before .before .before .next in

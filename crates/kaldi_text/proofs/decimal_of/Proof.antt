@@ -4,14 +4,14 @@ use Prim.Native.Nat.{_+_, _-_, _*_, _≤_, min}
 use native.Mathlib.Omega.{arith}
 use borrow.Author.Needs.{needs}
 use lib.ListN.{take, drop}
-use Rattle.definition.specs.Text.{decimal}
+use Rattle.definition.specs.Text.{digitsValue}
 use Rattle.kaldi_text.proofs.Decimals.{decimal-turn, decimal-end}
 use Rattle.kaldi_text.proofs.decimal_of.Statement.{statement}
 use Rattle.kaldi_text.proofs.decimal_of.Tie as tie
 
 abbrev Inv-loop : tie.InvT-loop
 Inv-loop s from to m cap x₀ i₀ x i =
-    (x ≤ cap) × (min (decimal m (take (to - from) (drop from s))) cap ≡ min (decimal x (take (to - i) (drop i s))) cap)
+    (x ≤ cap) × (min (digitsValue m (take (to - from) (drop from s))) cap ≡ min (digitsValue x (take (to - i) (drop i s))) cap)
 
 abbrev μ-loop : tie.MeasureT-loop
 μ-loop s from to m cap x₀ i₀ x i = to - i

@@ -6,14 +6,14 @@ use native.Mathlib.Omega.{arith}
 use borrow.Author.Tests.{ltb-true, ltb-false}
 use lib.ListN.{length}
 use Rattle.loops.specs.Loop.{on}
-use Rattle.linear.specs.Steps.{rooms}
+use Rattle.linear.specs.Steps.{cgdOf}
 use Rattle.linear.proofs.Turns.{turnsFrom, no-turn, turns-end, next-turn, last-turn}
 use Rattle.linear.proofs.cgd_turns.Statement.{statement}
 use Rattle.linear.proofs.cgd_turns.Tie as tie
 
 abbrev Inv-loop : tie.InvT-loop
 Inv-loop a n b x₀ r₀ p₀ ap₀ max-iters t₀ x r p ap t =
-    (t .k ≤ min (n + 5) max-iters) × (length x ≡ n) × (length r ≡ n) × (length p ≡ n) × (length ap ≡ n) × (on (rooms x r p t) ≡ turnsFrom a n b (t .k) (rooms x₀ r₀ p₀ t₀))
+    (t .k ≤ min (n + 5) max-iters) × (length x ≡ n) × (length r ≡ n) × (length p ≡ n) × (length ap ≡ n) × (on (cgdOf x r p t) ≡ turnsFrom a n b (t .k) (cgdOf x₀ r₀ p₀ t₀))
 
 abbrev μ-loop : tie.MeasureT-loop
 μ-loop a n b x₀ r₀ p₀ ap₀ max-iters t₀ x r p ap t = min (n + 5) max-iters - t .k
