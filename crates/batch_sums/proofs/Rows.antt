@@ -4,21 +4,18 @@ use mathlib.Core.List.{List, _++_}
 use Prim.Native.Nat.{ℕ, _+_, _-_, _*_, _≤_}
 use native.Mathlib.Omega.{arith}
 use lib.ListN.{length, getD, set, take, drop, replicate, length-replicate}
-use lib.Ieee.{Float, nan}
+use lib.Ieee.{Float, nan, binary64}
 use Rattle.loops.specs.Loop.{iter}
 use Rattle.loops.specs.Lists.{build}
 use Rattle.loops.specs.Steps.{fill}
 use Rattle.loops.specs.Ring.{put}
 use Rattle.loops.proofs.Loop.{iter-end}
 use Rattle.loops.proofs.Build.{length-build, build-ext, build-same}
-use Rattle.loops.proofs.Fill.{fill-end, fill-same, fill-ext, fill-whole, iter-fill, put-back}
+use Rattle.loops.proofs.Fill.{fill-ext, fill-whole, iter-fill, put-back}
 use Rattle.loops.proofs.Columns.{columns-turn}
 use Rattle.loops.proofs.Parts.{lent-is, length-lent, at-part}
+use Rattle.basics.proofs.Rows.{times-comm}
 use Rattle.floats.specs.Operators.{_+₆₄_, _*₆₄_, zero₆₄, at, sum₆₄}
-
--- a loop that fills, at its end
-pub filled : {A : Type 0} (v : A) (i n : ℕ) (x : List A) {s : List A} → i ≤ n → n ≤ i → n ≡ length x → s ≡ fill i (λ k. v) x → s ≡ replicate (length x) v
-filled v i n x p q l e = fill-end (λ k. v) i n x p q e ∙ ap (λ (n : ℕ). fill n (λ k. v) x) l ∙ fill-same v (length x) x refl
 
 -- a loop that makes each place from its old value, at its end
 pub updated : {A : Type 0} (d : A) (g : ℕ → A → A) (i n : ℕ) (x : List A) {s : List A} → i ≤ n → n ≤ i → n ≡ length x → s ≡ iter i (λ k s. set s k (g k (getD s k d))) x
@@ -41,10 +38,9 @@ row-updated d a room {xs} g h e =
     put-back a (a + d - a) xs room (ap length f ∙ length-build d _ ∙ n) ∙ ap (λ (s : List Float). put a s room) f
 
 -- the same, of zeros
-pub row-cleared : (d a : ℕ) (room : List Float) {xs : List Float} → a + d ≤ length room → xs ≡ replicate (length (take (a + d - a) (drop a room))) zero₆₄
+pub row-cleared : (d a : ℕ) (room : List Float) {xs : List Float} → a + d ≤ length room → xs ≡ replicate d zero₆₄
     → take a room ++ (xs ++ drop (a + d - a) (drop a room)) ≡ put a (replicate d zero₆₄) room
-row-cleared d a room {xs} h e =
-    let f : xs ≡ replicate d zero₆₄ = e ∙ ap (λ (n : ℕ). replicate n zero₆₄) (length-lent a d (a + d) room refl h) in
+row-cleared d a room {xs} h f =
     let n : d ≡ a + d - a = omega arith in
     put-back a (a + d - a) xs room (ap length f ∙ length-replicate d zero₆₄ ∙ n) ∙ ap (λ (s : List Float). put a s room) f
 
@@ -54,15 +50,16 @@ module _ (d s : ℕ) (table : List Float) (x : ℕ → Float) where
   abbrev column : ℕ → ℕ → Float → Float
   column c a v = v +₆₄ at table (a * s + c) *₆₄ x a
 
-  pub rows-none : {y : List Float} {n : ℕ} → n ≡ s → y ≡ replicate n zero₆₄ → y ≡ build s (λ c. sum₆₄ zero₆₄ 0 (λ a. at table (a * s + c) *₆₄ x a))
+  pub rows-none : {y : List Float} → y ≡ replicate s zero₆₄ → y ≡ build s (λ c. sum₆₄ zero₆₄ 0 (λ a. at table (a * s + c) *₆₄ x a))
   unfolding iter
-  rows-none l e = e ∙ ap (λ (n : ℕ). replicate n zero₆₄) l ∙ sym (build-same s zero₆₄)
+  rows-none e = e ∙ sym (build-same s zero₆₄)
 
   pub rows-turn : (a : ℕ) {y z : List Float} → a * s + s ≤ length table → y ≡ build s (λ c. sum₆₄ zero₆₄ a (λ a. at table (a * s + c) *₆₄ x a))
-      → z ≡ fill (length y) (λ c. at y c +₆₄ at (take (a * s + s - a * s) (drop (a * s) table)) c *₆₄ x a) y
+      → z ≡ fill (length y) (λ c. at y c +₆₄ x a *₆₄ at (take (a * s + s - a * s) (drop (a * s) table)) c) y
       → z ≡ build s (λ c. sum₆₄ zero₆₄ (a + 1) (λ a. at table (a * s + c) *₆₄ x a))
   rows-turn a {y} h e f =
       let l : length y ≡ s = ap length e ∙ length-build s _ in
       columns-turn nan s column (λ c. zero₆₄) a e
-      (f ∙ ap (λ (n : ℕ). fill n (λ c. at y c +₆₄ at (take (a * s + s - a * s) (drop (a * s) table)) c *₆₄ x a) y) l
-      ∙ fill-ext s _ _ y (λ c p. ap (λ (v : Float). at y c +₆₄ v *₆₄ x a) (ap (λ (t : List Float). at t c) (lent-is (a * s) s _ table refl) ∙ at-part nan (a * s) s table c p)))
+      (f ∙ ap (λ (n : ℕ). fill n (λ c. at y c +₆₄ x a *₆₄ at (take (a * s + s - a * s) (drop (a * s) table)) c) y) l
+      ∙ fill-ext s _ _ y (λ c p. ap (λ (v : Float). at y c +₆₄ v) (times-comm binary64 _ _)
+      ∙ ap (λ (v : Float). at y c +₆₄ v *₆₄ x a) (ap (λ (t : List Float). at t c) (lent-is (a * s) s _ table refl) ∙ at-part nan (a * s) s table c p)))

@@ -14,14 +14,6 @@ ghost use Rattle.definition.specs.Statistics.{Entry};
 ghost use Rattle.diag_gmm.specs.Steps.{held};
 ghost use Rattle.batch_sums.specs.Batch.{entryOf, scaledEntry, Slots, Sums};
 
-pub fn clear(row: &mut [f64])
-    ensures { λ _. ⌜ now (row .exit) ≡ replicate (length (now (row .entry))) zero₆₄ ⌝ }
-{
-    for i in 0..row.len() {
-        row[i] = 0.0;
-    }
-}
-
 // Where Gaussian g stands among the m seen; m where it was not seen.
 fn slot(g: usize, m: usize, seen: &[usize]) -> usize
     requires { ⌜ m ≤ length (now seen) ⌝ }
@@ -56,7 +48,7 @@ fn begin(g: usize, k: usize, d: usize, seen: &mut [usize], tot: &mut [f64], sum:
     tot[k] = 0.0;
     let start = k * d;
     let end = start + d;
-    clear(&mut sum[start..end]);
+    basics::clear(&mut sum[start..end], d);
 }
 
 // The weight w and the features x times w go to slot k.

@@ -1,17 +1,17 @@
 -- The lists of a stream's numbers keep their lengths.
 use mathlib.Core.Path.{_≡_, refl, ap, _∙_}
 use Prim.Native.Nat.{ℕ, _+_, _-_, _*_, min}
-use mathlib.Core.Bool.{Bool, _&&_, _||_}
+use mathlib.Core.Bool.{Bool, _&&_}
 use mathlib.Core.List.{List, [], _∷_}
 use lib.ListN.{length, set, replicate, length-append, length-set, length-replicate}
-use lib.Ieee.{Float, neg, lt, le, eq, ne}
-use Rattle.loops.specs.Loop.{iter, Out, on, off, leave, final}
+use lib.Ieee.{Float, neg, lt, eq, ne}
+use Rattle.loops.specs.Loop.{Out, on, off, leave, final}
 use Rattle.loops.specs.Lists.{if_then_else_, build}
 use Rattle.loops.proofs.Choose.{by-test}
 use Rattle.loops.proofs.Loop.{iter-keeps}
 use Rattle.loops.proofs.Leave.{leave-keeps}
 use Rattle.loops.proofs.Build.{length-build}
-use Rattle.floats.specs.Operators.{_+₆₄_, _-₆₄_, _*₆₄_, _/₆₄_, f64, zero₆₄, one₆₄, asF64, at}
+use Rattle.floats.specs.Operators.{_+₆₄_, _-₆₄_, _*₆₄_, _/₆₄_, zero₆₄, asF64, at}
 use Rattle.floats.specs.Extremes.{larger}
 use Rattle.definition.specs.declared.IvectorOptions.{IvectorOptions}
 use Rattle.definition.specs.Options.{width}
@@ -19,7 +19,7 @@ use Rattle.definition.specs.Kaldi.{triangle}
 use Rattle.definition.specs.Model.{Model}
 use Rattle.definition.specs.Views.{Frames, smoothed, windowed, cmvnState, normalisedRow}
 use Rattle.definition.specs.Statistics.{Stats, Entry, addDiagonal, newStats, rescaled, accLinear, accQuadratic, acc}
-use Rattle.definition.specs.Solve.{Cgd, dot, spMatVec, residualFactor, backward, solvedOr, factor, begun, turn, linearCgd, priorVector, getIvector}
+use Rattle.definition.specs.Solve.{Cgd, dot, spMatVec, residualFar, residualLast, residualWorse, backward, solvedOr, factor, begun, residual, turn, linearCgd, priorVector, getIvector}
 use Rattle.definition.specs.Changes.{Batch}
 use Rattle.definition.specs.Estimate.{Estimate, entries, accumulated, updated}
 
@@ -122,11 +122,10 @@ module _ (a : List Float) (n : ℕ) (b : List Float) where
       let x = build n (λ i. at (c .x) i +₆₄ alpha *₆₄ at (c .p) i) in
       let moved = build n (λ i. at (c .r) i +₆₄ alpha *₆₄ at ap i) in
       let square = dot n moved moved in
-      let far = lt square (residualFactor *₆₄ c .r-recompute) || lt (one₆₄ /₆₄ residualFactor *₆₄ c .r-recompute) square in
-      let ax = spMatVec a n x in
-      let r = if far then build n (λ i. at ax i -₆₄ at b i) else moved in
+      let far = residualFar square (c .r-recompute) in
+      let r = if far then residual a n b x else moved in
       let r-next = if far then dot n r r else square in
-      final-if (le r-next (f64 0x0010_0000_0000_0000)) x r (c .p) (build n (λ i. (r-next /₆₄ c .r-cur) *₆₄ at (c .p) i -₆₄ at r i)) r-next
+      final-if (residualLast r-next) x r (c .p) (build n (λ i. (r-next /₆₄ c .r-cur) *₆₄ at (c .p) i -₆₄ at r i)) r-next
       (if far then r-next else c .r-recompute) (length-build n (λ i. at (c .x) i +₆₄ alpha *₆₄ at (c .p) i))
 
   begun-long : (x : List Float) → length x ≡ n → length (begun a n b x .x) ≡ n
@@ -138,7 +137,7 @@ module _ (a : List Float) (n : ℕ) (b : List Float) where
   length-cgd x m h =
       let first = begun a n b x .r-cur in
       let c = final (leave (min (n + 5) m) (λ k. turn a n b) (begun a n b x)) in
-      if-long (lt first (c .r-cur) && lt (first +₆₄ f64 0x3ddb_7cdf_d9d7_bdbb *₆₄ dot n b b) (c .r-cur))
+      if-long (residualWorse (c .r-cur) first (dot n b b))
       (solvedOr x n b (factor a n)) (c .x) n (length-solved x (factor a n) h)
       (leave-keeps (λ (c : Cgd). length (c .x) ≡ n) (min (n + 5) m) (λ k. turn a n b) (begun a n b x) (λ i l c p. length-turn c) (begun-long x h))
 

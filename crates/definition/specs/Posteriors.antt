@@ -48,17 +48,36 @@ abbrev pub orElse : List Post → List Post → List Post
 orElse [] ps = ps
 orElse (q ∷ qs) ps = q ∷ qs
 
+-- the log-likelihoods with their Gaussians, and the largest of them
+abbrev pub every : List Float → List Post
+every ls = build (length ls) (λ g. (g, at ls g))
+
+abbrev pub maxLike : List Float → Float
+maxLike ls = foldl larger (inf true) ls
+
+-- of log-likelihoods, the likelihoods, and the k most likely
+abbrev pub likelihoods : Float → List Post → List Post
+likelihoods max-like ps = map (λ p. (p .0, expOf (p .1 -₃₂ max-like))) ps
+
+unfoldable pub ranked : ℕ → Float → List Post → List Post
+ranked k max-like ps = take k (sorted (likelihoods max-like ps))
+
+-- the k most likely of the log-likelihoods ls, of those not below min_post of the largest where there are any
+unfoldable pub bestOf : List Float → ℕ → Float → List Post
+bestOf ls k min-post =
+    let likely = if eq min-post zero₃₂ then [] else those (λ p. lt (maxLike ls +₃₂ lnNarrow min-post) (p .1)) (every ls) in
+    ranked k (maxLike ls) (orElse likely (every ls))
+
+-- pruned below min_post of their total, and scaled to a total of one
+unfoldable pub renormalised : Float → List Post → List Post
+renormalised min-post best =
+    let tot = foldl (λ a p. a +₃₂ p .1) (neg zero₃₂) best in
+    let left = pruned best (min-post *₃₂ tot) (length best) tot in
+    map (λ p. (p .0, p .1 *₃₂ (one₃₂ /₃₂ left .1))) (take (left .0) best)
+
 -- the `num_gselect` most likely Gaussians of the log-likelihoods ls, as posteriors
 unfoldable pub selectPosteriors : List Float → ℕ → Float → List Post
-selectPosteriors ls num-gselect min-post =
-    let max-like = foldl larger (inf true) ls in
-    let every : List Post = build (length ls) (λ g. (g, at ls g)) in
-    let likely = if eq min-post zero₃₂ then [] else those (λ p. lt (max-like +₃₂ lnNarrow min-post) (p .1)) every in
-    let chosen : List Post = map (λ p. (p .0, expOf (p .1 -₃₂ max-like))) (orElse likely every) in
-    let best = take num-gselect (sorted chosen) in
-    let tot = foldl (λ a p. a +₃₂ p .1) (neg zero₃₂) best in
-    let (n, rest) = pruned best (min-post *₃₂ tot) (length best) tot in
-    map (λ p. (p .0, p .1 *₃₂ (one₃₂ /₃₂ rest))) (take n best)
+selectPosteriors ls num-gselect min-post = renormalised min-post (bestOf ls num-gselect min-post)
 
 -- `min_post_for`, the prune floor of a weight; 3f7d70a4 is 0.99
 unfoldable pub minPostFor : IvectorOptions → Float → Float

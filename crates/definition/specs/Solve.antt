@@ -1,6 +1,6 @@
 -- "Statistics and solve": `linear_cgd`, with `cholesky_solve` behind it, and `get_ivector`. A matrix a is packed, and n wide.
 use Prim.Native.Nat.{ℕ, _+_, _-_, _*_, min}
-use mathlib.Core.Bool.{_&&_, _||_}
+use mathlib.Core.Bool.{Bool, _&&_, _||_}
 use mathlib.Core.List.{List}
 use lib.ListN.{set, replicate}
 use lib.Dec.{eqb}
@@ -63,6 +63,18 @@ pub record Cgd : Type 0 where
 abbrev pub residualFactor : Float
 residualFactor = f64 0x3f84_7ae1_47ae_147b *₆₄ f64 0x3f84_7ae1_47ae_147b
 
+-- of the residual squared: whether it shrank or grew past the factor since it was recomputed
+abbrev pub residualFar : Float → Float → Bool
+residualFar square recomputed = lt square (residualFactor *₆₄ recomputed) || lt (one₆₄ /₆₄ residualFactor *₆₄ recomputed) square
+
+-- whether it is at most MIN_POSITIVE (0010..), which ends the turns
+abbrev pub residualLast : Float → Bool
+residualLast square = le square (f64 0x0010_0000_0000_0000)
+
+-- whether it got worse than the first; bb is b's square, and 3ddb.. is 1e-10
+abbrev pub residualWorse : Float → Float → Float → Bool
+residualWorse square first bb = lt first square && lt (first +₆₄ f64 0x3ddb_7cdf_d9d7_bdbb *₆₄ bb) square
+
 module _ (a : List Float) (n : ℕ) (b : List Float) where
   unfoldable pub begun : List Float → Cgd
   begun x =
@@ -71,7 +83,11 @@ module _ (a : List Float) (n : ℕ) (b : List Float) where
       let r = build n (λ i. neg (at p i)) in
       record { x = x; r = r; p = p; r-cur = dot n r r; r-recompute = dot n r r }
 
-  -- a turn; the last where the residual squared is at most MIN_POSITIVE (0010..)
+  -- A x - b
+  abbrev pub residual : List Float → List Float
+  residual x = let ax = spMatVec a n x in build n (λ i. at ax i -₆₄ at b i)
+
+  -- a turn
   unfoldable pub turn : Cgd → Out Cgd
   turn c =
       let ap = spMatVec a n (c .p) in
@@ -79,23 +95,21 @@ module _ (a : List Float) (n : ℕ) (b : List Float) where
       let x = build n (λ i. at (c .x) i +₆₄ alpha *₆₄ at (c .p) i) in
       let moved = build n (λ i. at (c .r) i +₆₄ alpha *₆₄ at ap i) in
       let square = dot n moved moved in
-      let far = lt square (residualFactor *₆₄ c .r-recompute) || lt (one₆₄ /₆₄ residualFactor *₆₄ c .r-recompute) square in
-      let ax = spMatVec a n x in
-      let r = if far then build n (λ i. at ax i -₆₄ at b i) else moved in
+      let far = residualFar square (c .r-recompute) in
+      let r = if far then residual x else moved in
       let r-next = if far then dot n r r else square in
       let r-recompute = if far then r-next else c .r-recompute in
       let beta = r-next /₆₄ c .r-cur in
       let p = build n (λ i. beta *₆₄ at (c .p) i -₆₄ at r i) in
-      if le r-next (f64 0x0010_0000_0000_0000) then off (record { x = x; r = r; p = c .p; r-cur = r-next; r-recompute = r-recompute })
+      if residualLast r-next then off (record { x = x; r = r; p = c .p; r-cur = r-next; r-recompute = r-recompute })
       else on (record { x = x; r = r; p = p; r-cur = r-next; r-recompute = r-recompute })
 
-  -- the exact solution instead, or the start, where the residual got worse; 3ddb.. is 1e-10
+  -- the exact solution instead, or the start, where the residual got worse
   unfoldable pub linearCgd : List Float → ℕ → List Float
   linearCgd x max-iters =
       let first = begun x .r-cur in
       let c = final (leave (min (n + 5) max-iters) (λ k. turn) (begun x)) in
-      let worse = lt first (c .r-cur) && lt (first +₆₄ f64 0x3ddb_7cdf_d9d7_bdbb *₆₄ dot n b b) (c .r-cur) in
-      if worse then solvedOr x n b (factor a n) else c .x
+      if residualWorse (c .r-cur) first (dot n b b) then solvedOr x n b (factor a n) else c .x
 
 -- the prior: a vector of zeros but for the offset in element 0
 unfoldable pub priorVector : ℕ → Float → List Float

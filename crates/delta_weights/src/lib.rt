@@ -14,13 +14,6 @@ ghost use Rattle.delta_weights.specs.Waiting.{waitingChanges};
 ghost use Rattle.program.specs.Rooms.{waitingIn, framesOf, weightsOf};
 ghost use Rattle.delta_weights.specs.Steps.{insertedTo};
 
-// The higher of two.
-fn max_usize(a: usize, b: usize) -> usize
-    ensures { λ r. ⌜ r ≡ max a b ⌝ }
-{
-    if a <= b { b } else { a }
-}
-
 // How many of them are up to frame f.
 pub fn up_to(frames: &[usize], n: usize, f: usize) -> usize
     requires { ⌜ (n ≤ length (now frames)) × (rising 0 (take n (now frames)) ≡ true) ⌝ }
@@ -89,7 +82,7 @@ fn past_highest_of(past_highest: usize, delta_frames: &[usize]) -> usize
     let mut past = past_highest;
     let m = delta_frames.len();
     for i in 0..m {
-        past = max_usize(past, delta_frames[i] + 1);
+        past = basics::larger(past, delta_frames[i] + 1);
     }
     past
 }

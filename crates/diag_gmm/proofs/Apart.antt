@@ -10,8 +10,8 @@ use lib.Ieee.{Float, nan, eq, neg}
 use Rattle.loops.specs.Lists.{if_then_else_, build, those}
 use Rattle.loops.proofs.Choose.{by-test}
 use Rattle.floats.specs.Operators.{_+₃₂_, _*₃₂_, _/₃₂_, zero₃₂, one₃₂}
-use Rattle.definition.specs.Posteriors.{Post, ahead, insert, sorted, orElse, pruned}
-use Rattle.diag_gmm.specs.Steps.{held, Fair, every, ranked, bestOf, finished}
+use Rattle.definition.specs.Posteriors.{Post, ahead, insert, sorted, orElse, pruned, every, ranked, bestOf, renormalised}
+use Rattle.diag_gmm.specs.Steps.{held, Fair}
 use Rattle.diag_gmm.proofs.Sorting.{into}
 use Rattle.diag_gmm.proofs.Rooms.{length-held, held-at}
 
@@ -131,9 +131,9 @@ best-apart ls k min-post =
     let r : Rising n 0 (every ls) = rising-build n 0 n _ (λ k. omega arith) (omega arith) in
     apart-take k (apart-sort (omega arith) empty (rising-map n _ (rising-or n (rising-likely n (eq min-post zero₃₂) (rising-those n _ r)) r)))
 
-pub finished-apart : {n : ℕ} (min-post : Float) {ps : List Post} → Apart n ps → Apart n (finished min-post ps)
-unfolding finished
-finished-apart min-post {ps} a =
+pub renormalised-apart : {n : ℕ} (min-post : Float) {ps : List Post} → Apart n ps → Apart n (renormalised min-post ps)
+unfolding renormalised
+renormalised-apart min-post {ps} a =
     let tot = foldl (λ s p. s +₃₂ p .1) (neg zero₃₂) ps in
     let left = pruned ps (min-post *₃₂ tot) (length ps) tot in
     apart-map (λ p. p .1 *₃₂ (one₃₂ /₃₂ left .1)) (apart-take (left .0) a)

@@ -11,8 +11,8 @@ ghost use Rattle.loops.specs.Lists.{if_then_else_, those};
 ghost use Rattle.loops.specs.Steps.{fill};
 ghost use Rattle.floats.specs.Operators.{_+₃₂_, _-₃₂_, _*₃₂_, f32, zero₃₂, at, sum₃₂};
 ghost use Rattle.floats.specs.Exp.{expOf};
-ghost use Rattle.definition.specs.Posteriors.{loglikes as loglikesOf, ahead as isAhead, insert as insertOf, pruned, selectPosteriors, minPostFor, weighed as weighedOf, unweighted as unweightedOf};
-ghost use Rattle.diag_gmm.specs.Steps.{held, Fair, slid, every, maxLike, ranked, bestOf};
+ghost use Rattle.definition.specs.Posteriors.{loglikes as loglikesOf, ahead as isAhead, insert as insertOf, pruned, every, maxLike, ranked, bestOf, selectPosteriors, minPostFor, weighed as weighedOf, unweighted as unweightedOf};
+ghost use Rattle.diag_gmm.specs.Steps.{held, Fair, slid};
 
 fn clear(sum: &mut [f32])
     ensures { λ _. ⌜ now (sum .exit) ≡ fill (length (now (sum .entry))) (λ m. zero₃₂) (now (sum .entry)) ⌝ }

@@ -13,6 +13,7 @@ use Rattle.loops.proofs.Fill.{fill-ext, fill-whole, fill-last}
 use Rattle.floats.specs.Operators.{_-₃₂_, _+₆₄_, _-₆₄_, _*₆₄_, _/₆₄_, asF64, at}
 use Rattle.floats.specs.Narrow.{narrowed}
 use Rattle.floats.specs.Extremes.{smaller}
+use Rattle.basics.proofs.Rows.{whole}
 use Rattle.definition.specs.declared.IvectorOptions.{IvectorOptions}
 use Rattle.definition.specs.Views.{smoothed, windowed, cmvnState, cmvnFrame}
 use Rattle.program.specs.Rooms.{ringAt, ringFrames}
@@ -44,12 +45,12 @@ module _ (o : IvectorOptions) (dim accepted t : ℕ) (fs rs x : List Float) {raw
 
 module _ (o : IvectorOptions) (dim : ℕ) (global x : List Float) {w : Float} (e : w ≡ asF64 (o .«cmn_window»)) where
   pub smooth-true : {k m : Float} {y : List Float} → length x ≡ dim + 1 → lt (at x dim) w ≡ true → k ≡ asF64 (o .«global_frames») → m ≡ smaller (w -₆₄ at x dim) k
-      → y ≡ fill (dim + 1) (λ d. at x d +₆₄ m /₆₄ at global dim *₆₄ at global d) x → y ≡ smoothed o dim global x
+      → y ≡ fill (length x) (λ d. at x d +₆₄ m /₆₄ at global dim *₆₄ at global d) x → y ≡ smoothed o dim global x
   unfolding smoothed
   smooth-true {k} {m} l t f g h =
       let u : lt (at x dim) (asF64 (o .«cmn_window»)) ≡ true = rw e at t in
       let v : m ≡ smaller (asF64 (o .«cmn_window») -₆₄ at x dim) (asF64 (o .«global_frames»)) = rw (e, f) at g in
-      h ∙ fill-whole _ (dim + 1) x l ∙ rw (u, v)
+      whole _ (dim + 1) x l h ∙ rw (u, v)
 
   pub smooth-false : lt (at x dim) w ≡ false → x ≡ smoothed o dim global x
   unfolding smoothed

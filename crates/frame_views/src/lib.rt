@@ -1,16 +1,21 @@
 // The frame views of a stream: what `IvectorStream` does on its rings.
 //
 // Frames lie in a ring, prefix rows in another: row t begins at (t mod F) * dim, F being how many rows the room has.
+use basics::add_scaled;
+use basics::difference;
+use basics::less;
+use basics::row_place;
+use basics::smaller;
 use definition::IvectorOptions;
 ghost use mathlib.Core.Path.{_≡_};
 ghost use mathlib.Core.Bool.{true};
-ghost use Prim.Native.Nat.{_+_, _-_, _*_, _<_, _≤_, min};
+ghost use Prim.Native.Nat.{_+_, _-_, _*_, _<_, _≤_};
 ghost use lib.ListN.{length, take};
 ghost use lib.Ieee.{lt};
 ghost use Rattle.loops.specs.Lists.{if_then_else_, build};
 ghost use Rattle.loops.specs.Ring.{rowsIn, put};
 ghost use Rattle.loops.specs.Steps.{fill};
-ghost use Rattle.floats.specs.Operators.{_-₃₂_, _+₆₄_, _-₆₄_, _*₆₄_, _/₆₄_, at};
+ghost use Rattle.floats.specs.Operators.{_-₃₂_, _/₆₄_, at};
 ghost use Rattle.floats.specs.Narrow.{narrowed};
 ghost use Rattle.definition.specs.Options.{width};
 ghost use Rattle.definition.specs.Views.{smoothed, windowed, cmvnState, cmvnFrame, spliceAt, ldaFrame};
@@ -18,26 +23,12 @@ ghost use Rattle.program.specs.Rooms.{ringAt, ringFrames};
 ghost use Rattle.frame_views.specs.Rows.{Lent, splicedRow};
 ghost use Rattle.frame_views.specs.Steps.{fetched, viewed, splicedTo};
 
-// a less b, not below 0.
-fn saturating_sub(a: usize, b: usize) -> usize
-    ensures { λ r. ⌜ r ≡ a - b ⌝ }
-{
-    if b <= a { a - b } else { 0 }
-}
-
-// The lower of two.
-fn min_usize(a: usize, b: usize) -> usize
-    ensures { λ r. ⌜ r ≡ min a b ⌝ }
-{
-    if a <= b { a } else { b }
-}
-
 // Frame t.
 fn frame(frames: &[f32], dim: usize, t: usize) -> &[f32]
     requires { ⌜ (0 < dim) × (0 < rowsIn (length (now frames)) dim) ⌝ }
     ensures { λ r. ⌜ (now r ≡ build dim (ringAt dim (now (frames .entry)) t)) × (length (now r) ≡ dim) ⌝ }
 {
-    let start = t % (frames.len() / dim) * dim;
+    let start = row_place(frames.len(), dim, t);
     let end = start + dim;
     &frames[start..end]
 }
@@ -47,19 +38,9 @@ fn prefix(rows: &[f64], dim: usize, t: usize) -> &[f64]
     requires { ⌜ (0 < dim) × (0 < rowsIn (length (now rows)) dim) ⌝ }
     ensures { λ r. ⌜ (now r ≡ build dim (ringAt dim (now (rows .entry)) t)) × (length (now r) ≡ dim) ⌝ }
 {
-    let start = t % (rows.len() / dim) * dim;
+    let start = row_place(rows.len(), dim, t);
     let end = start + dim;
     &rows[start..end]
-}
-
-// One row less another, at the front of the CMVN state.
-fn row_less(high: &[f64], low: &[f64], dim: usize, cmvn: &mut [f64])
-    requires { ⌜ (length (now high) ≡ dim) × (length (now low) ≡ dim) × (dim ≤ length (now cmvn)) ⌝ }
-    ensures { λ _. ⌜ now (cmvn .exit) ≡ fill dim (λ d. at (now (high .entry)) d -₆₄ at (now (low .entry)) d) (now (cmvn .entry)) ⌝ }
-{
-    for d in 0..dim {
-        cmvn[d] = high[d] - low[d];
-    }
 }
 
 // The CMVN state: that of frame t's window if the frame is loud, else as it was.
@@ -77,21 +58,11 @@ fn cmvn_window(
 {
     let raw = frame(frames, dim, t);
     if raw[0] > o.min_energy {
-        let lo = saturating_sub(t + 1, o.cmn_window);
+        let lo = less(t + 1, o.cmn_window);
         let high = prefix(rows, dim, t + 1);
         let low = prefix(rows, dim, lo);
-        row_less(high, low, dim, cmvn);
+        difference(high, low, dim, cmvn);
         cmvn[dim] = std::num::nearest_u64_to_f64((t + 1 - lo) as u64);
-    }
-}
-
-// The global row, scaled, added to the CMVN state.
-fn add_scaled(scale: f64, global: &[f64], n: usize, cmvn: &mut [f64])
-    requires { ⌜ (n ≤ length (now global)) × (n ≤ length (now cmvn)) ⌝ }
-    ensures { λ _. ⌜ now (cmvn .exit) ≡ fill n (λ d. at (now (cmvn .entry)) d +₆₄ scale *₆₄ at (now (global .entry)) d) (now (cmvn .entry)) ⌝ }
-{
-    for d in 0..n {
-        cmvn[d] += scale * global[d];
     }
 }
 
@@ -108,7 +79,7 @@ fn cmvn_smooth(o: IvectorOptions, dim: usize, global: &[f64], cmvn: &mut [f64])
             std::num::nearest_u64_to_f64(o.global_frames as u64),
         );
         let scale = from_global / global[dim];
-        add_scaled(scale, global, dim + 1, cmvn);
+        add_scaled(scale, global, cmvn);
     }
 }
 
@@ -238,7 +209,7 @@ fn splice_at(o: IvectorOptions, accepted: usize, t: usize, n: usize) -> usize
     requires { ⌜ (t < accepted) × (accepted ≤ 1000000000) × (n < 1000000000) ⌝ }
     ensures { λ r. ⌜ (r ≡ spliceAt o accepted t n) × (r < accepted) ⌝ }
 {
-    min_usize(saturating_sub(t + n, o.left_context), accepted - 1)
+    smaller(less(t + n, o.left_context), accepted - 1)
 }
 
 // The row spliced around frame t; a repeated frame is fetched again.

@@ -1,5 +1,6 @@
 // `OnlineIvectorStats`: the statistics of an i-vector, and its solve. The numbers lie in lent rooms, the frame count goes by value.
-use batch_sums::clear;
+use basics::add_scaled;
+use basics::clear;
 use definition::IvectorOptions;
 ghost use mathlib.Core.Path.{_≡_};
 ghost use mathlib.Core.List.{List};
@@ -32,9 +33,9 @@ pub fn new(dim: usize, prior_offset: f64, linear: &mut [f64], quadratic: &mut [f
     requires { ⌜ (0 < dim) × (dim ≤ 128) × (length (now linear) ≡ dim) × (length (now quadratic) ≡ triangle dim) ⌝ }
     ensures { λ _. ⌜ (now (linear .exit) ≡ newStats dim «prior_offset» .linear) × (now (quadratic .exit) ≡ newStats dim «prior_offset» .quadratic) ⌝ }
 {
-    clear(linear);
+    clear(linear, dim);
     linear[0] += prior_offset;
-    clear(quadratic);
+    clear(quadratic, quadratic.len());
     add_diagonal(dim, 1.0, quadratic);
 }
 
@@ -43,18 +44,8 @@ pub fn prior_vector(dim: usize, prior_offset: f64, ivector: &mut [f64])
     requires { ⌜ (0 < dim) × (length (now ivector) ≡ dim) ⌝ }
     ensures { λ _. ⌜ now (ivector .exit) ≡ priorVector dim «prior_offset» ⌝ }
 {
-    clear(ivector);
+    clear(ivector, dim);
     ivector[0] = prior_offset;
-}
-
-// A row times v, added to another.
-fn add_scaled(row: &[f64], v: f64, out: &mut [f64])
-    requires { ⌜ length (now row) ≡ length (now out) ⌝ }
-    ensures { λ _. ⌜ now (out .exit) ≡ fill (length (now (out .entry))) (λ c. at (now (out .entry)) c +₆₄ at (now (row .entry)) c *₆₄ v) (now (out .entry)) ⌝ }
-{
-    for c in 0..out.len() {
-        out[c] += row[c] * v;
-    }
 }
 
 // d rows of s, each times its element of x, added up.
@@ -62,11 +53,11 @@ fn weighted_rows(rows: &[f64], d: usize, s: usize, x: &[f64], out: &mut [f64])
     requires { ⌜ (d * s ≤ length (now rows)) × (d ≤ length (now x)) × (length (now out) ≡ s) ⌝ }
     ensures { λ _. ⌜ now (out .exit) ≡ build s (λ c. sum₆₄ zero₆₄ d (λ a. at (now (rows .entry)) (a * s + c) *₆₄ at (now (x .entry)) a)) ⌝ }
 {
-    clear(out);
+    clear(out, s);
     for a in 0..d {
         let start = a * s;
         let end = start + s;
-        add_scaled(&rows[start..end], x[a], out);
+        add_scaled(x[a], &rows[start..end], out);
     }
 }
 
@@ -76,16 +67,6 @@ fn add(row: &[f64], out: &mut [f64])
 {
     for c in 0..out.len() {
         out[c] += row[c];
-    }
-}
-
-// w times a Gaussian's quadratic term, added.
-fn add_weighted(w: f64, u: &[f64], quadratic: &mut [f64])
-    requires { ⌜ length (now u) ≡ length (now quadratic) ⌝ }
-    ensures { λ _. ⌜ now (quadratic .exit) ≡ fill (length (now (quadratic .entry))) (λ i. at (now (quadratic .entry)) i +₆₄ w *₆₄ at (now (u .entry)) i) (now (quadratic .entry)) ⌝ }
-{
-    for i in 0..quadratic.len() {
-        quadratic[i] += w * u[i];
     }
 }
 
@@ -113,7 +94,7 @@ fn acc_gauss(
     add(row, linear);
     let from = g * quadratic.len();
     let to = from + quadratic.len();
-    add_weighted(w, &u[from..to], quadratic);
+    add_scaled(w, &u[from..to], quadratic);
 }
 
 // What the m Gaussians seen add to the statistics, in the order first seen; the answer is their weight.

@@ -1,4 +1,4 @@
--- Rooms that the calls write: a frame and a prefix row in their rings, and cleared rooms.
+-- Rooms that the calls write: a frame and a prefix row in their rings.
 use mathlib.Core.Path.{_≡_, sym, ap, _∙_}
 use mathlib.Core.Bool.{true}
 use mathlib.Core.List.{List, [], _∷_, foldl}
@@ -6,14 +6,13 @@ use mathlib.Core.Logic.{_⊎_, ⊎-elim}
 use Prim.Native.Nat.{ℕ, _+_, _-_, _≤_, _<_, min, max}
 use native.Mathlib.Omega.{arith}
 use lib.Dec.{leb}
-use lib.ListN.{length, getD, set, take, replicate}
+use lib.ListN.{length, getD, set, take}
 use lib.Seq.{length-take-le, getD-take}
 use lib.Ieee.{Float, nan}
-use Rattle.loops.specs.Lists.{if_then_else_, build, over}
+use Rattle.loops.specs.Lists.{if_then_else_, build}
 use Rattle.loops.specs.Ring.{rowsIn, put, place}
-use Rattle.loops.specs.Steps.{fill}
-use Rattle.loops.proofs.Build.{length-build, build-list, build-same}
-use Rattle.loops.proofs.Fill.{fill-end, fill-over, put-end, put-turn, put-before, put-past}
+use Rattle.loops.proofs.Build.{length-build, build-list}
+use Rattle.loops.proofs.Fill.{put-end, put-turn, put-before, put-past}
 use Rattle.loops.proofs.Ring.{place-next, rows-apart}
 use Rattle.floats.specs.Operators.{_+₆₄_, at}
 use Rattle.definition.specs.declared.IvectorStream.{IvectorStream}
@@ -22,10 +21,6 @@ use Rattle.definition.specs.Stream.{rising}
 use Rattle.limits.proofs.Ordered.{min-first}
 use Rattle.program.specs.Rooms.{ringAt}
 use Rattle.program.specs.Calls.{pushedFrames, pushedRows, forgetMark}
-
--- a room with zeros, or another value, in its first n places
-pub cleared : {A : Type 0} (v : A) (i n : ℕ) (x : List A) {s : List A} → i ≤ n → n ≤ i → s ≡ fill i (λ k. v) x → s ≡ over (replicate n v) x
-cleared v i n x l m e = fill-end _ i n x l m e ∙ fill-over _ n x ∙ ap (λ (l : List _). over l x) (build-same n v)
 
 -- a frame copied in
 pub copied : {A : Type 0} (d : A) (a i : ℕ) (xs room : List A) {s : List A} → i ≤ length xs → length xs ≤ i → s ≡ put a (build i (λ k. getD xs k d)) room → s ≡ put a xs room

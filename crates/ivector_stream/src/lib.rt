@@ -14,13 +14,13 @@ ghost use mathlib.Core.Bool.{true, not, _||_};
 ghost use mathlib.Core.Logic.{_⊎_};
 ghost use mathlib.Core.List.{foldl};
 ghost use Prim.Native.Nat.{_+_, _-_, _<_, _≤_, min};
-ghost use lib.ListN.{length, take, replicate};
+ghost use lib.ListN.{length, take};
 ghost use lib.Dec.{leb, ltb};
 ghost use lib.Ieee.Scale.{finite};
 ghost use Rattle.loops.specs.Lists.{if_then_else_, build, anyOf, over};
 ghost use Rattle.loops.specs.Refusal.{firstOf, taken};
-ghost use Rattle.loops.specs.Ring.{rowsIn, put, place};
-ghost use Rattle.floats.specs.Operators.{_+₆₄_, zero₆₄, at};
+ghost use Rattle.loops.specs.Ring.{put};
+ghost use Rattle.floats.specs.Operators.{_+₆₄_, at};
 ghost use Rattle.definition.specs.Kaldi.{triangle};
 ghost use Rattle.definition.specs.Model.{Tables, tablesFrom, tableLengthsOf};
 ghost use Rattle.definition.specs.Statistics.{newStats};
@@ -110,16 +110,6 @@ fn new_refusal(info: IvectorInfo, tables: TableLengths, lengths: RoomLengths) ->
     if limits::rooms_fit(d, lengths) { 0 } else { 8 }
 }
 
-// Zeros in a room's first n places.
-fn clear(room: &mut [f64], n: usize)
-    requires { ⌜ n ≤ length (now room) ⌝ }
-    ensures { λ _. ⌜ now (room .exit) ≡ over (replicate n zero₆₄) (now (room .entry)) ⌝ }
-{
-    for i in 0..n {
-        room[i] = 0.0;
-    }
-}
-
 // The statistics before any frame, and the prior as the current vector.
 fn fresh_estimate(
     dim: usize,
@@ -203,8 +193,8 @@ pub fn new(
         return NewStream::Refused(refusal);
     }
     let d = info.dims;
-    clear(rows, d.base_dim);
-    clear(cmvn_stats, d.base_dim + 1);
+    basics::clear_front(rows, d.base_dim);
+    basics::clear_front(cmvn_stats, d.base_dim + 1);
     fresh_estimate(d.ivector_dim, info.prior_offset, linear, quadratic, current);
     let stream = IvectorStream {
         info,
@@ -284,14 +274,6 @@ fn push_refusal(
     0
 }
 
-// Where row t of a ring of so many numbers begins.
-fn row_place(numbers: usize, dim: usize, t: usize) -> usize
-    requires { ⌜ (0 < dim) × (0 < rowsIn numbers dim) ⌝ }
-    ensures { λ r. ⌜ r ≡ place numbers dim t ⌝ }
-{
-    t % (numbers / dim) * dim
-}
-
 // Where the row after the one that begins `here` does: a row further, or at the ring's beginning where no whole row is left.
 fn row_after(numbers: usize, dim: usize, here: usize) -> usize
     requires { ⌜ (dim ≤ 64) × (here ≤ numbers) ⌝ }
@@ -343,9 +325,9 @@ pub fn push_frame(
     }
     let i = s.info;
     let d = i.dims;
-    let a = row_place(frames.len(), d.base_dim, s.accepted);
+    let a = basics::row_place(frames.len(), d.base_dim, s.accepted);
     put_frame(frames, a, frame);
-    let last = row_place(rows.len(), d.base_dim, s.accepted);
+    let last = basics::row_place(rows.len(), d.base_dim, s.accepted);
     let next = row_after(rows.len(), d.base_dim, last);
     add_frame(rows, last, next, frame);
     s.accepted += 1;
@@ -392,7 +374,7 @@ fn any_below(frames: &[usize], left: usize, mark: usize) -> bool
     ensures { λ r. ⌜ r ≡ anyOf (λ f. ltb (f - left) mark) (now (frames .entry)) ⌝ }
 {
     for i in 0..frames.len() {
-        let first = limits::less(frames[i], left);
+        let first = basics::less(frames[i], left);
         if first < mark {
             return true;
         }
@@ -434,8 +416,8 @@ fn change_refusal(
     if any_below(delta_frames, o.left_context, s.mark) {
         return 18;
     }
-    let room = limits::smaller(own.waiting_frames, own.waiting_weights);
-    let free = limits::less(room, s.waiting);
+    let room = basics::smaller(own.waiting_frames, own.waiting_weights);
+    let free = basics::less(room, s.waiting);
     if free < delta_frames.len() {
         return 19;
     }
@@ -492,7 +474,7 @@ fn lowest(low: usize, waiting_frames: &[usize], n: usize) -> usize
     if n == 0 {
         return low;
     }
-    limits::smaller(low, waiting_frames[0])
+    basics::smaller(low, waiting_frames[0])
 }
 
 // An utterance begins at `frame`: no weight change will reach before it.
@@ -514,10 +496,10 @@ pub fn forget_before(
     }
     let i = s.info;
     let o = i.opts;
-    let reached = limits::smaller(frame, s.num_frames_stats);
+    let reached = basics::smaller(frame, s.num_frames_stats);
     let first = lowest(reached, waiting_frames, s.waiting);
-    let kept = limits::less(first, o.left_context);
-    s.mark = limits::larger(s.mark, kept);
+    let kept = basics::less(first, o.left_context);
+    s.mark = basics::larger(s.mark, kept);
     reply(0, s, 0)
 }
 

@@ -1,5 +1,7 @@
 // The tables that a model keeps, from bytes that were checked: what `DiagGmm::parse`, `IvectorExtractor::parse` and the LDA's part of
 // `IvectorInfo::open` in the Rust make of the files' numbers. A table goes to the front of its room, and the places past it keep their values.
+use basics::add_scaled;
+use basics::clear;
 use kaldi_io::MAX_FEAT;
 use kaldi_io::MAX_IVECTOR;
 use kaldi_io::Matrix;
@@ -9,7 +11,6 @@ use kaldi_io::check_packed_double;
 use kaldi_io::f32_at;
 use kaldi_io::fill_f64s;
 use kaldi_text::fill_row;
-use packed_matrix::clear;
 use packed_matrix::packed_index;
 ghost use mathlib.Core.Path.{_≡_};
 ghost use mathlib.Core.Bool.{false};
@@ -17,8 +18,7 @@ ghost use Prim.Native.Nat.{_+_, _*_, _<_, _≤_};
 ghost use lib.ListN.{length, take, drop};
 ghost use lib.Ieee.{binary32, binary64};
 ghost use Rattle.loops.specs.Lists.{build, over};
-ghost use Rattle.loops.specs.Steps.{fill};
-ghost use Rattle.floats.specs.Operators.{_+₆₄_, _-₆₄_, _*₆₄_, _/₆₄_, zero₆₄, half₆₄, at, sum₆₄};
+ghost use Rattle.floats.specs.Operators.{_-₆₄_, _*₆₄_, _/₆₄_, zero₆₄, half₆₄, at, sum₆₄};
 ghost use Rattle.floats.specs.Ln.{lnOf};
 ghost use Rattle.definition.specs.Options.{maxFeat, maxIvector};
 ghost use Rattle.definition.specs.Reader.{numbers};
@@ -164,16 +164,6 @@ pub fn fill_global(s: &[u8], from: usize, len: usize, out: &mut [f64])
 }
 
 // ---- the extractor
-
-// v times a row, added to another.
-fn add_scaled(v: f64, row: &[f64], out: &mut [f64])
-    requires { ⌜ length (now row) ≡ length (now out) ⌝ }
-    ensures { λ _. ⌜ now (out .exit) ≡ fill (length (now (out .entry))) (λ c. at (now (out .entry)) c +₆₄ v *₆₄ at (now (row .entry)) c) (now (out .entry)) ⌝ }
-{
-    for c in 0..out.len() {
-        out[c] += v * row[c];
-    }
-}
 
 // Row a of Σ⁻¹ M: the rows of M, each times its element of Σ⁻¹, added up from the first to the last.
 fn sigma_inv_m_row(sigma_inv: &[f64], m: &[f64], d: usize, s: usize, a: usize, out: &mut [f64])

@@ -1,4 +1,7 @@
 // Limits of options, dimensions and lent lengths, and what makes a record one that no call has made. Pure tests.
+use basics::larger;
+use basics::less;
+use basics::smaller;
 use definition::Dimensions;
 use definition::EstimateLengths;
 use definition::IvectorInfo;
@@ -9,7 +12,7 @@ use definition::RoomLengths;
 use definition::TableLengths;
 ghost use mathlib.Core.Path.{_≡_};
 ghost use mathlib.Core.Bool.{true, _&&_};
-ghost use Prim.Native.Nat.{_-_, _≤_, min, max};
+ghost use Prim.Native.Nat.{_≤_};
 ghost use lib.Dec.{eqb};
 ghost use lib.Ieee.{le, lt};
 ghost use Rattle.loops.specs.Lists.{pairwise};
@@ -19,25 +22,6 @@ ghost use Rattle.definition.specs.Model.{tablesFit, loadScratch};
 ghost use Rattle.definition.specs.Machine.{framesHeld, rowsHeld, framesReady};
 ghost use Rattle.definition.specs.Stream.{recordSound, infoSound, sameTables, streamScratch, estimateLengths, roomsFit, isBroken, sameRings, sameRooms};
 ghost use Rattle.limits.specs.Steps.{waitingBroken};
-
-// a less b, not below 0.
-pub fn less(a: usize, b: usize) -> usize
-    ensures { λ r. ⌜ r ≡ a - b ⌝ }
-{
-    if b <= a { a - b } else { 0 }
-}
-
-pub fn smaller(a: usize, b: usize) -> usize
-    ensures { λ r. ⌜ r ≡ min a b ⌝ }
-{
-    if a <= b { a } else { b }
-}
-
-pub fn larger(a: usize, b: usize) -> usize
-    ensures { λ r. ⌜ r ≡ max a b ⌝ }
-{
-    if a <= b { b } else { a }
-}
 
 // ---- options and dimensions
 

@@ -1,21 +1,21 @@
 -- The turns of the conjugate gradient, from what its stages leave.
 use mathlib.Core.Path.{_≡_, refl, sym, ap, _∙_}
-use mathlib.Core.Bool.{Bool, true, false, not, _&&_}
+use mathlib.Core.Bool.{Bool, true, false, not}
 use mathlib.Core.List.{List}
 use Prim.Native.Nat.{ℕ, _+_, _≤_, _<_, min}
 use native.Mathlib.Nat.{le-min, min-le-left, min-le-right}
 use native.Mathlib.Omega.{arith}
 use lib.Dec.{eqb, ltb}
-use lib.Ieee.{Float, neg, lt, le}
+use lib.Ieee.{Float, neg}
 use borrow.Author.Tests.{eqb-true, eqb-false, lt-ltb, le-ltb}
 use Rattle.loops.specs.Loop.{Out, on, off, leave, final}
 use Rattle.loops.specs.Lists.{if_then_else_, build}
 use Rattle.loops.proofs.Leave.{leave-none, leave-step, leave-end, leave-left, goes-on, is-last}
 use Rattle.loops.proofs.Choose.{by-test, choose-true, choose-false}
-use Rattle.floats.specs.Operators.{_+₆₄_, _-₆₄_, _*₆₄_, _/₆₄_, f64, at}
-use Rattle.definition.specs.Solve.{dot, spMatVec, factor, solvedOr, Cgd, begun, turn, linearCgd}
+use Rattle.floats.specs.Operators.{_+₆₄_, _-₆₄_, _*₆₄_, _/₆₄_, at}
+use Rattle.definition.specs.Solve.{dot, spMatVec, factor, solvedOr, Cgd, begun, residual, residualLast, residualWorse, turn, linearCgd}
 use Rattle.linear.specs.declared.CgdState.{CgdState}
-use Rattle.linear.specs.Steps.{started, stepped, recomputed, isFar, isLast, isWorse, cgdOf, ended, residual}
+use Rattle.linear.specs.Steps.{started, stepped, recomputed, isFar, isLast, isWorse, cgdOf, ended}
 
 -- ---- whether a turn is left, of at most n and at most m
 
@@ -67,7 +67,7 @@ module _ (a : List Float) (n : ℕ) (b x r p : List Float) (s : CgdState) where
       let r-next = if far then dot n r r else dot n moved moved in
       let r-recompute = if far then r-next else s .«r_recompute» in
       let q = build n (λ i. r-next /₆₄ s .«r_cur» *₆₄ at p i -₆₄ at r i) in
-      if le r-next (f64 0x0010_0000_0000_0000) then off (record { x = x; r = r; p = p; r-cur = r-next; r-recompute = r-recompute })
+      if residualLast r-next then off (record { x = x; r = r; p = p; r-cur = r-next; r-recompute = r-recompute })
       else on (record { x = x; r = r; p = q; r-cur = r-next; r-recompute = r-recompute })
 
   abbrev turnMoved : List Float → List Float → Out Cgd
@@ -142,7 +142,7 @@ module _ (a : List Float) (n : ℕ) (b x : List Float) (max-iters : ℕ) (first 
     (e3 : d ≡ dot n b b) (e4 : w ≡ isWorse last (first .«r_cur») d) where
   abbrev judged : Float → Cgd → List Float
   judged v c =
-      if lt v (c .r-cur) && lt (v +₆₄ f64 0x3ddb_7cdf_d9d7_bdbb *₆₄ dot n b b) (c .r-cur) then solvedOr x n b (factor a n) else c .x
+      if residualWorse (c .r-cur) v (dot n b b) then solvedOr x n b (factor a n) else c .x
 
   judged-is : judged (first .«r_cur») (cgdOf x′ r′ p′ last) ≡ linearCgd a n b x max-iters
   unfolding linearCgd

@@ -1,5 +1,7 @@
 // The solver behind `get_ivector`: A x = b by the conjugate gradient, or by Cholesky's factor where that fails. A is packed.
-use packed_matrix::clear;
+use basics::add_scaled;
+use basics::clear;
+use basics::difference;
 use packed_matrix::dot;
 use packed_matrix::packed_index;
 use packed_matrix::sp_mat_vec;
@@ -11,10 +13,10 @@ ghost use lib.ListN.{length};
 ghost use Rattle.loops.specs.Loop.{leave, final};
 ghost use Rattle.loops.specs.Steps.{done};
 ghost use Rattle.loops.specs.Lists.{build, if_then_else_};
-ghost use Rattle.floats.specs.Operators.{_+₆₄_, _-₆₄_, _*₆₄_, at};
+ghost use Rattle.floats.specs.Operators.{_-₆₄_, _*₆₄_, at};
 ghost use Rattle.definition.specs.Kaldi.{triangle};
-ghost use Rattle.definition.specs.Solve.{dot as dotOf, factor as factorOf, forward as forwardOf, backward as backwardOf, solvedOr, begun, turn, linearCgd};
-ghost use Rattle.linear.specs.Steps.{started, stepped as steppedOf, recomputed as recomputedOf, isFar, isLast, isWorse, cgdOf, ended, isOn, residual};
+ghost use Rattle.definition.specs.Solve.{dot as dotOf, factor as factorOf, forward as forwardOf, backward as backwardOf, solvedOr, begun, residual, turn, linearCgd};
+ghost use Rattle.linear.specs.Steps.{started, stepped as steppedOf, recomputed as recomputedOf, isFar, isLast, isWorse, cgdOf, ended, isOn};
 
 // The lower factor L of A = L Lᵗ, by rows of n, or false at the first pivot that is at most 0.
 fn factor(a: &[f64], n: usize, l: &mut [f64]) -> bool
@@ -98,26 +100,6 @@ pub fn cholesky_solve(
         return true;
     }
     false
-}
-
-// x + alpha p
-fn axpy(alpha: f64, p: &[f64], n: usize, x: &mut [f64])
-    requires { ⌜ (n ≤ length (now p)) × (length (now x) ≡ n) ⌝ }
-    ensures { λ _. ⌜ now (x .exit) ≡ build n (λ i. at (now (x .entry)) i +₆₄ alpha *₆₄ at (now (p .entry)) i) ⌝ }
-{
-    for i in 0..n {
-        x[i] += alpha * p[i];
-    }
-}
-
-// u - v
-fn difference(u: &[f64], v: &[f64], n: usize, d: &mut [f64])
-    requires { ⌜ (n ≤ length (now u)) × (n ≤ length (now v)) × (length (now d) ≡ n) ⌝ }
-    ensures { λ _. ⌜ now (d .exit) ≡ build n (λ i. at (now (u .entry)) i -₆₄ at (now (v .entry)) i) ⌝ }
-{
-    for i in 0..n {
-        d[i] = u[i] - v[i];
-    }
 }
 
 // -p
@@ -273,8 +255,8 @@ fn cgd_turn(
 {
     sp_mat_vec(a, n, p, ap);
     let alpha = -dot(p, r, n) / dot(p, ap, n);
-    axpy(alpha, p, n, x);
-    axpy(alpha, ap, n, r);
+    add_scaled(alpha, p, x);
+    add_scaled(alpha, ap, r);
     let moved = s.stepped(dot(r, r, n));
     let t = recompute(a, n, b, x, r, ap, moved);
     if t.is_last() {

@@ -1,9 +1,9 @@
 // A symmetric matrix as a model has it, packed: the rows of its lower triangle one after the other. Its products, and the inner product.
 ghost use mathlib.Core.Path.{_≡_};
 ghost use Prim.Native.Nat.{_+_, _*_, _<_, _≤_};
-ghost use lib.ListN.{length, replicate};
+ghost use lib.ListN.{length};
 ghost use Rattle.loops.specs.Steps.{fill};
-ghost use Rattle.floats.specs.Operators.{zero₆₄, at};
+ghost use Rattle.floats.specs.Operators.{at};
 ghost use Rattle.definition.specs.Kaldi.{triangle};
 ghost use Rattle.definition.specs.Model.{packed};
 ghost use Rattle.definition.specs.Solve.{dot as dotOf, spMatVec};
@@ -155,13 +155,4 @@ pub fn dot(a: &[f64], b: &[f64], n: usize) -> f64
         s += a[i] * b[i];
     }
     s
-}
-
-pub fn clear(x: &mut [f64], n: usize)
-    requires { ⌜ length (now x) ≡ n ⌝ }
-    ensures { λ _. ⌜ now (x .exit) ≡ replicate n zero₆₄ ⌝ }
-{
-    for i in 0..n {
-        x[i] = 0.0;
-    }
 }

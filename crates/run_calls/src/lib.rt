@@ -22,16 +22,16 @@ ghost use Rattle.run_calls.specs.Turns.{ringStepOf, Turned};
 fn sample_part(samples: &[f32], a: usize, b: usize) -> &[f32]
     ensures { λ r. ⌜ now r ≡ part a b (now (samples .entry)) ⌝ }
 {
-    let from = limits::smaller(a, samples.len());
-    let to = limits::larger(from, limits::smaller(b, samples.len()));
+    let from = basics::smaller(a, samples.len());
+    let to = basics::larger(from, basics::smaller(b, samples.len()));
     &samples[from..to]
 }
 
 fn frame_part(lists: &[usize], a: usize, b: usize) -> &[usize]
     ensures { λ r. ⌜ now r ≡ part a b (now (lists .entry)) ⌝ }
 {
-    let from = limits::smaller(a, lists.len());
-    let to = limits::larger(from, limits::smaller(b, lists.len()));
+    let from = basics::smaller(a, lists.len());
+    let to = basics::larger(from, basics::smaller(b, lists.len()));
     &lists[from..to]
 }
 
@@ -152,8 +152,8 @@ fn turn(
         );
         return put_answer(answers, first, r);
     }
-    let from = limits::smaller(b, outs.len());
-    let to = limits::larger(from, limits::smaller(c, outs.len()));
+    let from = basics::smaller(b, outs.len());
+    let to = basics::larger(from, basics::smaller(c, outs.len()));
     let r = ivector_fetch::get_frame(
         s,
         a,

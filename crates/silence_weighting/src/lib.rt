@@ -1,6 +1,8 @@
 // `SilenceWeighting`: frames that the decoder's best path calls silence enter the statistics at a small weight, and the
 // changes of weight are given by input frame. The table lies in three lent rooms with a place for each decoder frame:
 // `known`, `is_silence` and `current_weight`. Its record keeps how many of the places are in use.
+use basics::less;
+use basics::smaller;
 use definition::DecoderFrame;
 use definition::InputFrame;
 use definition::NewTable;
@@ -18,19 +20,6 @@ ghost use Rattle.loops.specs.Ring.{put};
 ghost use Rattle.definition.specs.Silence.{decoder, TableRooms, tableRooms, Table, infoAt, tableIn, segments, samePhone, traced, before, carried, weighted, decoderFrames, inputFrame, deltaWeights};
 ghost use Rattle.definition.specs.Silence.{settingsRefusal, newTable, active, places, tableBroken, tracebackTests, computeCurrentTraceback, getDeltaWeights, silenceAnswer, tableCall, tableDone};
 ghost use Rattle.silence_weighting.specs.Steps.{flagAt, weightAt, number, given};
-
-// a less b, not below 0.
-fn less(a: usize, b: usize) -> usize
-    ensures { λ r. ⌜ r ≡ a - b ⌝ }
-{
-    if b <= a { a - b } else { 0 }
-}
-
-fn smaller(a: usize, b: usize) -> usize
-    ensures { λ r. ⌜ r ≡ min a b ⌝ }
-{
-    if a <= b { a } else { b }
-}
 
 // The longer of two tables.
 fn longer(a: DecoderFrame, b: DecoderFrame) -> DecoderFrame

@@ -21,20 +21,20 @@ abbrev μ-loop : tie.MeasureT-loop
 loop-holds : tie.Need-loop-holds Inv-loop μ-loop
 loop-holds c = search needs
 
-mul-max-usize : tie.Need-mul-max-usize Inv-loop μ-loop
-mul-max-usize c = search needs
+mul-larger : tie.Need-mul-larger Inv-loop μ-loop
+mul-larger c = search needs
 
-shared-slice-read-max-usize : tie.Need-shared-slice-read-max-usize Inv-loop μ-loop
-shared-slice-read-max-usize c = search needs
+shared-slice-read-larger : tie.Need-shared-slice-read-larger Inv-loop μ-loop
+shared-slice-read-larger c = search needs
 
-add-max-usize : tie.Need-add-max-usize Inv-loop μ-loop
-add-max-usize c =
+add-larger : tie.Need-add-larger Inv-loop μ-loop
+add-larger c =
     let args = c .before .before .before .before .args in
     let loop = c .before .before .loop in
     omega (arith, leb-false 1000000000 (getD (args .delta-frames .now) (loop .i) 0) (none-at (leb 1000000000) 0 (args .delta-frames .now) (loop .i) (c .before .before .before .before .pre) (c .before .loop-test .taken)))
 
-max-usize-requires : tie.Need-max-usize-requires Inv-loop μ-loop
-max-usize-requires c κs = search needs
+larger-requires : tie.Need-larger-requires Inv-loop μ-loop
+larger-requires c κs = search needs
 
 add-i : tie.Need-add-i Inv-loop μ-loop
 add-i c = search needs
@@ -43,7 +43,7 @@ loop-less : tie.Need-loop-less Inv-loop μ-loop
 loop-less c = search needs
 
 loop-again : tie.Need-loop-again Inv-loop μ-loop
-loop-again c = (omega arith, fold-turn _ 0 _ _ (c .before .before .loop-test .taken) (c .max-usize .ensures) (c .before .before .before .loop .inv .1))
+loop-again c = (omega arith, fold-turn _ 0 _ _ (c .before .before .loop-test .taken) (c .larger .ensures) (c .before .before .before .loop .inv .1))
 
 returns : tie.Need-returns Inv-loop μ-loop
 returns c = fold-end _ _ _ (c .loop-test .left) (c .before .loop .inv .1)
@@ -55,10 +55,10 @@ past-highest-of-spec =
     Inv-loop
     μ-loop
     loop-holds
-    mul-max-usize
-    shared-slice-read-max-usize
-    add-max-usize
-    max-usize-requires
+    mul-larger
+    shared-slice-read-larger
+    add-larger
+    larger-requires
     add-i
     loop-less
     loop-again

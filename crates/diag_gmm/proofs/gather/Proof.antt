@@ -6,7 +6,8 @@ use borrow.Author.Needs.{needs}
 use lib.ListN.{length}
 use lib.Ieee.{lt}
 use Rattle.loops.specs.Lists.{those}
-use Rattle.diag_gmm.specs.Steps.{held, every, ranked}
+use Rattle.definition.specs.Posteriors.{every, ranked}
+use Rattle.diag_gmm.specs.Steps.{held}
 use Rattle.diag_gmm.proofs.Rooms.{held-none, length-held}
 use Rattle.diag_gmm.proofs.Gathering.{gatherFrom, gather-none, gather-turn, gather-end}
 use Rattle.diag_gmm.proofs.gather.Statement.{statement}

@@ -9,7 +9,7 @@ use lib.ListN.{length, drop}
 use lib.Ieee.{nan, isNan, div, neg, ofBits}
 use Rattle.loops.proofs.Folds.{fold-turn, fold-end}
 use Rattle.floats.specs.Extremes.{larger}
-use Rattle.diag_gmm.specs.Steps.{maxLike}
+use Rattle.definition.specs.Posteriors.{maxLike}
 use Rattle.diag_gmm.proofs.Comparing.{larger-second, larger-first}
 use Rattle.diag_gmm.proofs.largest.Statement.{statement}
 use Rattle.diag_gmm.proofs.largest.Tie as tie

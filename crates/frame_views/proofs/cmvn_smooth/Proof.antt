@@ -24,9 +24,6 @@ mul-scale c = search needs
 shared-slice-read-scale : tie.Need-shared-slice-read-scale
 shared-slice-read-scale c = search needs
 
-add-add-scaled : tie.Need-add-add-scaled
-add-add-scaled c = search needs
-
 add-scaled-requires : tie.Need-add-scaled-requires
 add-scaled-requires c κs = search needs
 
@@ -52,7 +49,6 @@ cmvn-smooth-spec =
     min-f64-requires
     mul-scale
     shared-slice-read-scale
-    add-add-scaled
     add-scaled-requires
     same-length
     returns

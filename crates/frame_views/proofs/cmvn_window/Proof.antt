@@ -9,11 +9,11 @@ frame-requires c κs = search needs
 shared-slice-read-if1 : tie.Need-shared-slice-read-if1
 shared-slice-read-if1 c = search needs
 
-add-saturating-sub : tie.Need-add-saturating-sub
-add-saturating-sub c = search needs
+add-less : tie.Need-add-less
+add-less c = search needs
 
-saturating-sub-requires : tie.Need-saturating-sub-requires
-saturating-sub-requires c κs = search needs
+less-requires : tie.Need-less-requires
+less-requires c κs = search needs
 
 add-prefix : tie.Need-add-prefix
 add-prefix c = search needs
@@ -24,8 +24,8 @@ prefix-requires c κs = search needs
 prefix-requires-2 : tie.Need-prefix-requires-2
 prefix-requires-2 c κs = search needs
 
-row-less-requires : tie.Need-row-less-requires
-row-less-requires c κs = search needs
+difference-requires : tie.Need-difference-requires
+difference-requires c κs = search needs
 
 add-nearest-u64-to-f64 : tie.Need-add-nearest-u64-to-f64
 add-nearest-u64-to-f64 c = search needs
@@ -49,7 +49,7 @@ returns : tie.Need-returns
 returns c =
     let pre = c .before .before .before .before .before .before .before .before .before .before .before .before .before .before .before .pre in
     window-true _ _ _ _ _ _ _ (pre .0) (c .before .before .before .before .before .before .before .before .before .before .before .frame .ensures .0) (pre .3)
-    (c .before .before .before .before .before .before .before .before .if1 .taken) (c .before .before .before .before .before .before .before .saturating-sub .ensures) (c .before .before .before .before .before .before .prefix .ensures .0) (c .before .before .before .before .before .prefix2 .ensures .0) (c .before .before .before .row-less .ensures) (c .nearest-u64-to-f64 .ensures)
+    (c .before .before .before .before .before .before .before .before .if1 .taken) (c .before .before .before .before .before .before .before .less .ensures) (c .before .before .before .before .before .before .prefix .ensures .0) (c .before .before .before .before .before .prefix2 .ensures .0) (c .before .before .before .difference .ensures) (c .nearest-u64-to-f64 .ensures)
 
 returns-2 : tie.Need-returns-2
 returns-2 c = window-false _ _ _ _ _ _ _ (c .before .before .before .before .before .before .before .pre .0) (c .before .before .before .frame .ensures .0) (c .if1 .left)
@@ -60,12 +60,12 @@ cmvn-window-spec =
     (tie.spec
     frame-requires
     shared-slice-read-if1
-    add-saturating-sub
-    saturating-sub-requires
+    add-less
+    less-requires
     add-prefix
     prefix-requires
     prefix-requires-2
-    row-less-requires
+    difference-requires
     add-nearest-u64-to-f64
     sub-nearest-u64-to-f64
     nearest-u64-to-f64-requires

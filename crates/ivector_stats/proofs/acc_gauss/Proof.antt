@@ -1,6 +1,7 @@
 use borrow.Author.Needs.{needs}
-use mathlib.Core.Path.{refl}
+use mathlib.Core.Path.{refl, sym}
 use Prim.Native.Nat.{_-_, _*_}
+use native.Mathlib.Nat.{le-of-eq}
 use native.Mathlib.Omega.{arith}
 use lib.ListN.{length}
 use Rattle.loops.proofs.Parts.{length-lent}
@@ -65,27 +66,27 @@ add-to c =
     let p = c .before .before .before .before .before .before .before .before .before .before .before .before .before .before .before .before .pre in
     omega (arith, p .2, good)
 
-mul-add-weighted : tie.Need-mul-add-weighted
-mul-add-weighted c =
+mul-add-scaled : tie.Need-mul-add-scaled
+mul-add-scaled c =
     let good = c .before .before .before .before .before .before .before .before .before .before .before .before .before .before .before .before .good in
     let p = c .before .before .before .before .before .before .before .before .before .before .before .before .before .before .before .before .pre in
     omega (arith, p .2, good)
 
-sub-add-weighted : tie.Need-sub-add-weighted
-sub-add-weighted c = search needs
+sub-add-scaled : tie.Need-sub-add-scaled
+sub-add-scaled c = search needs
 
-part-add-weighted-start : tie.Need-part-add-weighted-start
-part-add-weighted-start c = search needs
+part-add-scaled-start : tie.Need-part-add-scaled-start
+part-add-scaled-start c = search needs
 
-part-add-weighted-end : tie.Need-part-add-weighted-end
-part-add-weighted-end c = c .before .before .before .before .before .before .before .before .before .before .before .before .before .before .before .before .pre .2
+part-add-scaled-end : tie.Need-part-add-scaled-end
+part-add-scaled-end c = c .before .before .before .before .before .before .before .before .before .before .before .before .before .before .before .before .pre .2
 
-add-weighted-requires : tie.Need-add-weighted-requires
-add-weighted-requires c κs =
+add-scaled-requires : tie.Need-add-scaled-requires
+add-scaled-requires c κs =
     let a = c .before .before .before .before .before .before .before .before .before .before .before .before .before .before .before .before .before .before .args in
     let p = c .before .before .before .before .before .before .before .before .before .before .before .before .before .before .before .before .before .before .pre in
     let n = length (a .quadratic .now) in
-    length-lent (a .g * n) n _ (a .u .now) refl (p .2)
+    le-of-eq (sym (length-lent (a .g * n) n _ (a .u .now) refl (p .2)))
 
 same-length : tie.Need-same-length
 same-length c = search needs
@@ -103,7 +104,7 @@ returns c =
     let a = c .before .before .before .before .before .before .before .before .before .before .before .before .before .before .before .before .before .before .before .before .before .args in
     let p = c .before .before .before .before .before .before .before .before .before .before .before .before .before .before .before .before .before .before .before .before .before .pre in
     let n = length (a .quadratic .now) in
-    (gauss-linear (a .d) (a .s) (a .g) (a .sigma-inv-m .now) (a .x .now) (a .linear .now) (p .3) (weighted-rows .ensures) (add .ensures), gauss-quadratic (a .g) n (a .w) (a .u .now) (a .quadratic .now) (c .before .before .add-weighted .ensures))
+    (gauss-linear (a .d) (a .s) (a .g) (a .sigma-inv-m .now) (a .x .now) (a .linear .now) (p .3) (weighted-rows .ensures) (add .ensures), gauss-quadratic (a .g) n (a .w) (a .u .now) (a .quadratic .now) (c .before .before .add-scaled .ensures))
 
 pub acc-gauss-spec : {M : Type 1} → statement M
 acc-gauss-spec =
@@ -120,11 +121,11 @@ acc-gauss-spec =
     add-requires
     mul-from
     add-to
-    mul-add-weighted
-    sub-add-weighted
-    part-add-weighted-start
-    part-add-weighted-end
-    add-weighted-requires
+    mul-add-scaled
+    sub-add-scaled
+    part-add-scaled-start
+    part-add-scaled-end
+    add-scaled-requires
     same-length
     same-length-2
     same-length-3

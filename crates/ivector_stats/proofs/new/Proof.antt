@@ -1,5 +1,5 @@
 use borrow.Author.Needs.{needs}
-use mathlib.Core.Path.{_∙_}
+use mathlib.Core.Path.{refl, _∙_}
 use native.Mathlib.Omega.{arith}
 use Rattle.ivector_stats.proofs.Fresh.{fresh-linear, fresh-quadratic}
 use Rattle.ivector_stats.proofs.new.Statement.{statement}
@@ -38,7 +38,7 @@ returns c =
     let clear = c .before .before .before .before .before .before .before .before .before .before .before .clear in
     let pre = c .before .before .before .before .before .before .before .before .before .before .before .before .before .before .before .pre in
     let clear2 = c .before .before .before .before .before .before .clear2 in
-    (fresh-linear (args .dim) (args .prior-offset) (clear .ensures) (pre .0) (pre .2), fresh-quadratic (args .dim) (args .prior-offset) (clear2 .ensures) (pre .3) (c .before .before .add-diagonal .ensures))
+    (fresh-linear (args .dim) (args .prior-offset) (clear .ensures) (pre .0) refl, fresh-quadratic (args .dim) (args .prior-offset) (clear2 .ensures) (pre .3) (c .before .before .add-diagonal .ensures))
 
 pub new-spec : {M : Type 1} → statement M
 new-spec =

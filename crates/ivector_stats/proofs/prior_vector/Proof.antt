@@ -1,4 +1,5 @@
 use borrow.Author.Needs.{needs}
+use mathlib.Core.Path.{refl}
 use native.Mathlib.Omega.{arith}
 use Rattle.ivector_stats.proofs.Fresh.{fresh-vector}
 use Rattle.ivector_stats.proofs.prior_vector.Statement.{statement}
@@ -19,7 +20,7 @@ returns : tie.Need-returns
 returns c =
     let args = c .before .before .before .before .before .args in
     let pre = c .before .before .before .before .before .pre in
-    fresh-vector (args .dim) (args .prior-offset) (c .before .before .clear .ensures) (pre .1)
+    fresh-vector (args .dim) (args .prior-offset) (c .before .before .clear .ensures) refl
 
 pub prior-vector-spec : {M : Type 1} → statement M
 prior-vector-spec =

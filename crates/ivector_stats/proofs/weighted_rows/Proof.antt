@@ -1,9 +1,12 @@
+-- `ivector_stats::weighted_rows` meets its contract. The loop's invariant: each place holds the sum over the first a rows (`rows-none`, `rows-turn` in
+-- batch_sums/proofs/Rows.antt); a row's end lies in the table (`row-in` in loops/proofs/Cells.antt).
 use borrow.Author.Needs.{needs}
-use mathlib.Core.Path.{_≡_, refl, _∙_}
-use Prim.Native.Nat.{_+_, _-_, _*_, _≤_}
+use mathlib.Core.Path.{_≡_, refl, sym, _∙_}
+use Prim.Native.Nat.{ℕ, _+_, _-_, _*_, _≤_}
+use native.Mathlib.Nat.{le-of-eq}
 use native.Mathlib.Omega.{arith}
 use lib.ListN.{length}
-use lib.Ieee.{nan}
+use lib.Ieee.{Float, nan}
 use Rattle.loops.specs.Lists.{build}
 use Rattle.loops.proofs.Cells.{row-in}
 use Rattle.loops.proofs.Columns.{columns-end}
@@ -20,103 +23,56 @@ Inv-loop rows d s x out₀ a₀ out a =
 abbrev μ-loop : tie.MeasureT-loop
 μ-loop rows d s x out₀ a₀ out a = d - a
 
-clear-requires : tie.Need-clear-requires Inv-loop μ-loop
-clear-requires c κs = search needs
-
 loop-holds : tie.Need-loop-holds Inv-loop μ-loop
 loop-holds c =
-    let args = c .before .before .before .before .before .before .before .args in
-    let pre = c .before .before .before .before .before .before .before .pre in
-    (omega arith, refl, rows-none (args .d) (args .s) (args .rows .now) (at (args .x .now)) (pre .2) (c .before .before .clear .ensures))
+    let start = c .before .before .before .before .before .before .before in
+    (omega arith, refl, rows-none (start .args .d) (start .args .s) (start .args .rows .now) (at (start .args .x .now)) (c .before .before .clear .ensures))
+
+-- row a lies in the table
+ends : (c : tie.In-loop Inv-loop μ-loop) → let start = c .before .before .before .before .before .before .before .before .before in
+    c .before .loop .a * start .args .s + start .args .s ≤ length (start .args .rows .now)
+ends c =
+    let start = c .before .before .before .before .before .before .before .before .before in
+    row-in (c .before .loop .a) (start .args .d) (start .args .s) _ (start .pre .0) (c .loop-test .taken)
 
 mul-start : tie.Need-mul-start Inv-loop μ-loop
-mul-start c =
-    let args = c .before .before .before .before .before .before .before .before .before .args in
-    let pre = c .before .before .before .before .before .before .before .before .before .pre in
-    omega (arith, row-in (c .before .loop .a) (args .d) (args .s) _ (pre .0) (c .loop-test .taken))
+mul-start c = omega (arith, ends c)
 
 add-end : tie.Need-add-end Inv-loop μ-loop
-add-end c =
-    let args = c .before .before .before .before .before .before .before .before .before .args in
-    let pre = c .before .before .before .before .before .before .before .before .before .pre in
-    omega (arith, row-in (c .before .loop .a) (args .d) (args .s) _ (pre .0) (c .loop-test .taken))
-
-mul-add-scaled : tie.Need-mul-add-scaled Inv-loop μ-loop
-mul-add-scaled c =
-    let args = c .before .before .before .before .before .before .before .before .before .args in
-    let pre = c .before .before .before .before .before .before .before .before .before .pre in
-    let good = c .before .before .before .before .before .before .before .before .before .good in
-    omega (arith, row-in (c .before .loop .a) (args .d) (args .s) _ (pre .0) (c .loop-test .taken), good)
-
-sub-add-scaled : tie.Need-sub-add-scaled Inv-loop μ-loop
-sub-add-scaled c = search needs
-
-part-add-scaled-start : tie.Need-part-add-scaled-start Inv-loop μ-loop
-part-add-scaled-start c = search needs
-
-part-add-scaled-end : tie.Need-part-add-scaled-end Inv-loop μ-loop
-part-add-scaled-end c =
-    let args = c .before .before .before .before .before .before .before .before .before .args in
-    let pre = c .before .before .before .before .before .before .before .before .before .pre in
-    row-in (c .before .loop .a) (args .d) (args .s) _ (pre .0) (c .loop-test .taken)
+add-end c = omega (arith, ends c)
 
 mul-add-scaled-2 : tie.Need-mul-add-scaled-2 Inv-loop μ-loop
-mul-add-scaled-2 c = search needs
+mul-add-scaled-2 c = omega (arith, ends (c .before))
 
-shared-slice-read-add-scaled : tie.Need-shared-slice-read-add-scaled Inv-loop μ-loop
-shared-slice-read-add-scaled c = search needs
+part-add-scaled-end : tie.Need-part-add-scaled-end Inv-loop μ-loop
+part-add-scaled-end c = ends (c .before)
 
 add-scaled-requires : tie.Need-add-scaled-requires Inv-loop μ-loop
 add-scaled-requires c κs =
-    let loop = c .before .before .before .before .loop in
-    let args = c .before .before .before .before .before .before .before .before .before .before .before .before .args in
-    let pre = c .before .before .before .before .before .before .before .before .before .before .before .before .pre in
-    let clear = c .before .before .before .before .before .before .before .clear in
-    length-lent (loop .a * args .s) (args .s) _ (args .rows .now) refl (row-in (loop .a) (args .d) (args .s) _ (pre .0) (c .before .before .before .loop-test .taken)) ∙ omega (arith, loop .inv .1, clear .kept .0, pre .2)
-
-add-a : tie.Need-add-a Inv-loop μ-loop
-add-a c = search needs
-
-loop-less : tie.Need-loop-less Inv-loop μ-loop
-loop-less c = search needs
+    let at-loop = c .before .before .before .before in
+    let at-clear = at-loop .before .before .before in
+    let start = at-clear .before .before .before .before .before in
+    let part = length-lent (at-loop .loop .a * start .args .s) (start .args .s) _ (start .args .rows .now) refl (ends (c .before .before .before)) in
+    le-of-eq (omega (arith, at-loop .loop .inv .1, at-clear .clear .kept .0, start .pre .2) ∙ sym part)
 
 loop-again : tie.Need-loop-again Inv-loop μ-loop
 loop-again c =
-    let loop-test = c .before .before .before .before .before .before .loop-test in
     let add-scaled = c .before .before .add-scaled in
-    let loop = c .before .before .before .before .before .before .before .loop in
-    let args = c .before .before .before .before .before .before .before .before .before .before .before .before .before .before .before .args in
-    let pre = c .before .before .before .before .before .before .before .before .before .before .before .before .before .before .before .pre in
-    (omega (arith, loop-test .taken), add-scaled .kept .1 .1 .0 ∙ loop .inv .1, rows-turn (args .d) (args .s) (args .rows .now) (at (args .x .now)) (loop .a) (row-in (loop .a) (args .d) (args .s) _ (pre .0) (loop-test .taken)) (loop .inv .2) (add-scaled .ensures))
-
-same-length : tie.Need-same-length Inv-loop μ-loop
-same-length c = search needs
+    let in-loop = c .before .before .before .before .before .before in
+    let loop = in-loop .before .loop in
+    let start = in-loop .before .before .before .before .before .before .before .before .before in
+    let turn = rows-turn (start .args .d) (start .args .s) (start .args .rows .now) (at (start .args .x .now)) (loop .a) (ends in-loop) (loop .inv .2) (add-scaled .ensures) in
+    (omega (arith, in-loop .loop-test .taken), add-scaled .kept .1 .1 .0 ∙ loop .inv .1, turn)
 
 returns : tie.Need-returns Inv-loop μ-loop
 returns c =
-    let args = c .before .before .before .before .before .before .before .before .before .args in
     let loop = c .before .loop in
-    columns-end nan (args .s) (λ r a v. v +₆₄ at (args .rows .now) (a * args .s + r) *₆₄ at (args .x .now) a) (λ r. zero₆₄) (loop .a) _ (loop .inv .0) (c .loop-test .left) (loop .inv .2)
+    let start = c .before .before .before .before .before .before .before .before .before in
+    let column : ℕ → ℕ → Float → Float = λ r a v. v +₆₄ at (start .args .rows .now) (a * start .args .s + r) *₆₄ at (start .args .x .now) a in
+    columns-end nan (start .args .s) column (λ r. zero₆₄) (loop .a) _ (loop .inv .0) (c .loop-test .left) (loop .inv .2)
 
 pub weighted-rows-spec : {M : Type 1} → statement M
 weighted-rows-spec =
     tie.close
-    (tie.spec
-    Inv-loop
-    μ-loop
-    clear-requires
-    loop-holds
-    mul-start
-    add-end
-    mul-add-scaled
-    sub-add-scaled
-    part-add-scaled-start
-    part-add-scaled-end
-    mul-add-scaled-2
-    shared-slice-read-add-scaled
-    add-scaled-requires
-    add-a
-    loop-less
-    loop-again
-    same-length
-    returns)
+    (tie.spec Inv-loop μ-loop (λ c κs. search needs) loop-holds mul-start add-end (λ c. search needs) (λ c. search needs) mul-add-scaled-2 (λ c. search needs) (λ c. search needs) part-add-scaled-end
+    add-scaled-requires (λ c. search needs) (λ c. search needs) loop-again (λ c. search needs) returns)

@@ -15,17 +15,17 @@ new-refusal-requires c κs = search needs
 returns : tie.Need-returns
 returns c = (new-refused _ _ _ (c .before .new-refusal .ensures) (c .if1 .taken), untouched _ _ _ (c .before .new-refusal .ensures) (c .if1 .taken))
 
-clear-requires : tie.Need-clear-requires
-clear-requires c κs = new-taken _ _ _ (c .before .before .before .new-refusal .ensures) (c .before .before .if1 .left) .row-long
+clear-front-requires : tie.Need-clear-front-requires
+clear-front-requires c κs = new-taken _ _ _ (c .before .before .before .new-refusal .ensures) (c .before .before .if1 .left) .row-long
 
-add-clear : tie.Need-add-clear
-add-clear c =
+add-clear-front : tie.Need-add-clear-front
+add-clear-front c =
     let at-if1 = c .before .before .before .before .before .before .before in
     let at-new-refusal = at-if1 .before in
     omega (arith, new-taken _ _ _ (at-new-refusal .new-refusal .ensures) (at-if1 .if1 .left) .dims-are)
 
-clear-requires-2 : tie.Need-clear-requires-2
-clear-requires-2 c κs =
+clear-front-requires-2 : tie.Need-clear-front-requires-2
+clear-front-requires-2 c κs =
     let at-if1 = c .before .before .before .before .before .before .before in
     let at-new-refusal = at-if1 .before in
     new-taken _ _ _ (at-new-refusal .new-refusal .ensures) (at-if1 .if1 .left) .rooms-are .cmvn-fits
@@ -42,13 +42,13 @@ reply-requires c κs = λ h. (omega arith, omega arith)
 
 same-length : tie.Need-same-length
 same-length c =
-    let at-clear = c .before .before .before .before .before .before .before .before .before .before .before .before .before .before .before .before .before .before in
-    at-clear .clear .kept .0
+    let at-clear-front = c .before .before .before .before .before .before .before .before .before .before .before .before .before .before .before .before .before .before in
+    at-clear-front .clear-front .kept .0
 
 same-length-2 : tie.Need-same-length-2
 same-length-2 c =
-    let at-clear2 = c .before .before .before .before .before .before .before .before .before .before .before .before .before in
-    at-clear2 .clear2 .kept .0
+    let at-clear-front2 = c .before .before .before .before .before .before .before .before .before .before .before .before .before in
+    at-clear-front2 .clear-front2 .kept .0
 
 same-length-3 : tie.Need-same-length-3
 same-length-3 c =
@@ -69,13 +69,13 @@ returns-2 : tie.Need-returns-2
 unfolding freshStream freshRooms
 returns-2 c =
     let at-fresh-estimate = c .before .before .before .before .before .before .before in
-    let at-clear2 = at-fresh-estimate .before .before .before .before .before .before in
-    let at-clear = at-clear2 .before .before .before .before .before in
-    let at-if1 = at-clear .before .before .before in
+    let at-clear-front2 = at-fresh-estimate .before .before .before .before .before .before in
+    let at-clear-front = at-clear-front2 .before .before .before .before .before in
+    let at-if1 = at-clear-front .before .before .before in
     let at-new-refusal = at-if1 .before in
     let e = sym (at-if1 .if1 .left) ∙ at-new-refusal .new-refusal .ensures in
-    let rings = rings-are refl (at-clear .clear .ensures) refl refl in
-    let estimate = estimate-is (at-clear2 .clear2 .ensures) (at-fresh-estimate .fresh-estimate .ensures .0) (at-fresh-estimate .fresh-estimate .ensures .1) (at-fresh-estimate .fresh-estimate .ensures .2) in
+    let rings = rings-are refl (at-clear-front .clear-front .ensures) refl refl in
+    let estimate = estimate-is (at-clear-front2 .clear-front2 .ensures) (at-fresh-estimate .fresh-estimate .ensures .0) (at-fresh-estimate .fresh-estimate .ensures .1) (at-fresh-estimate .fresh-estimate .ensures .2) in
     (new-done _ _ _ e (c .reply .ensures), written _ _ _ e (rooms-are rings estimate))
 
 pub new-spec : {M : Type 1} → statement M
@@ -84,9 +84,9 @@ new-spec =
     (tie.spec
     new-refusal-requires
     returns
-    clear-requires
-    add-clear
-    clear-requires-2
+    clear-front-requires
+    add-clear-front
+    clear-front-requires-2
     fresh-estimate-requires
     reply-requires
     same-length

@@ -1,6 +1,7 @@
 use borrow.Author.Needs.{needs}
-use mathlib.Core.Path.{_≡_, refl, _∙_}
+use mathlib.Core.Path.{_≡_, refl, sym, _∙_}
 use Prim.Native.Nat.{_+_, _-_, _*_, _≤_}
+use native.Mathlib.Nat.{le-of-eq}
 use native.Mathlib.Omega.{arith}
 use lib.ListN.{length}
 use Rattle.loops.specs.Lists.{build}
@@ -96,7 +97,7 @@ add-scaled-requires c κs =
     let pre = c .before .before .before .before .before .before .before .before .before .before .before .before .pre in
     let loop-test = c .before .before .before .loop-test in
     let clear = c .before .before .before .before .before .before .before .clear in
-    length-lent ((loop .b) * (args .s)) ((args .p) + 1) _ (args .sigma-inv-m .now) (omega arith) (omega (arith, row-in (loop .b) (args .d) (args .s) (length (args .sigma-inv-m .now)) (pre .2) (loop-test .taken), (pre .0))) ∙ omega (arith, (loop .inv .1), (clear .kept .0), (pre .3))
+    le-of-eq (sym (length-lent ((loop .b) * (args .s)) ((args .p) + 1) _ (args .sigma-inv-m .now) (omega arith) (omega (arith, row-in (loop .b) (args .d) (args .s) (length (args .sigma-inv-m .now)) (pre .2) (loop-test .taken), (pre .0))) ∙ omega (arith, (loop .inv .1), (clear .kept .0), (pre .3))))
 
 add-b : tie.Need-add-b Inv-loop μ-loop
 add-b c = search needs

@@ -1,6 +1,7 @@
 use borrow.Author.Needs.{needs}
-use mathlib.Core.Path.{_≡_, refl, ap, _∙_}
+use mathlib.Core.Path.{_≡_, refl, sym, ap, _∙_}
 use Prim.Native.Nat.{_+_, _-_, _*_, _≤_}
+use native.Mathlib.Nat.{le-of-eq}
 use native.Mathlib.Omega.{arith}
 use lib.ListN.{length}
 use Rattle.loops.specs.Lists.{build}
@@ -88,7 +89,7 @@ add-scaled-requires c κs =
     let pre = c .before .before .before .before .before .before .before .before .before .before .before .before .before .pre in
     let loop-test = c .before .before .before .before .loop-test in
     let clear = c .before .before .before .before .before .before .before .before .clear in
-    length-lent ((loop .b) * (args .s)) (args .s) _ (args .m .now) refl (row-in (loop .b) (args .d) (args .s) (length (args .m .now)) (pre .3) (loop-test .taken)) ∙ omega (arith, (loop .inv .1), (clear .kept .0), (pre .4))
+    le-of-eq (sym (length-lent ((loop .b) * (args .s)) (args .s) _ (args .m .now) refl (row-in (loop .b) (args .d) (args .s) (length (args .m .now)) (pre .3) (loop-test .taken)) ∙ omega (arith, (loop .inv .1), (clear .kept .0), (pre .4))))
 
 add-b : tie.Need-add-b Inv-loop μ-loop
 add-b c = search needs

@@ -49,8 +49,18 @@ mul-s c = omega arith
 shared-slice-read-s : tie.Need-shared-slice-read-s Inv-loop2 μ-loop2 Inv-loop μ-loop
 shared-slice-read-s c = omega arith
 
+-- ---- places in the code, each from the next that is named
+
+abbrev before-clear : tie.After-clear Inv-loop2 μ-loop2 Inv-loop μ-loop → tie.Start Inv-loop2 μ-loop2 Inv-loop μ-loop
+before-clear c = c .before .before .before .before .before
+
+abbrev before-loop : tie.At-loop Inv-loop2 μ-loop2 Inv-loop μ-loop → tie.After-clear Inv-loop2 μ-loop2 Inv-loop μ-loop
+before-loop c = c .before .before .before
+
 loop2-holds : tie.Need-loop2-holds Inv-loop2 μ-loop2 Inv-loop μ-loop
-loop2-holds c = (search loops, search loops, row-in _ _ _ _ ((c .before .before .before .before .before .before .before .before .before .before .pre) .0) (omega arith), less-none _ _ _)
+loop2-holds c =
+    let start = before-clear (before-loop (c .before .before)) in
+    (search loops, search loops, row-in _ _ _ _ (start .pre .0) (omega arith), less-none _ _ _)
 
 add-j : tie.Need-add-j Inv-loop2 μ-loop2 Inv-loop μ-loop
 add-j c = omega arith
@@ -59,16 +69,28 @@ add-j-2 : tie.Need-add-j-2 Inv-loop2 μ-loop2 Inv-loop μ-loop
 add-j-2 c = omega arith
 
 mul-s-2 : tie.Need-mul-s-2 Inv-loop2 μ-loop2 Inv-loop μ-loop
-mul-s-2 c = omega (arith, row-in ((c .before .before .before .before .before .before .before .before .before .before .before .before .args) .n - 1 - (c .before .before .before .before .loop) .t + 1 + (c .before .loop2) .k) _ _ _ ((c .before .before .before .before .before .before .before .before .before .before .before .before .pre) .0) (omega arith))
+mul-s-2 c =
+    let at-loop = c .before .before .before .before in
+    let start = before-clear (before-loop at-loop) in
+    omega (arith, row-in (start .args .n - 1 - (at-loop .loop) .t + 1 + (c .before .loop2) .k) _ _ _ (start .pre .0) (omega arith))
 
 add-s : tie.Need-add-s Inv-loop2 μ-loop2 Inv-loop μ-loop
-add-s c = omega (arith, row-in ((c .before .before .before .before .before .before .before .before .before .before .before .before .args) .n - 1 - (c .before .before .before .before .loop) .t + 1 + (c .before .loop2) .k) _ _ _ ((c .before .before .before .before .before .before .before .before .before .before .before .before .pre) .0) (omega arith))
+add-s c =
+    let at-loop = c .before .before .before .before in
+    let start = before-clear (before-loop at-loop) in
+    omega (arith, row-in (start .args .n - 1 - (at-loop .loop) .t + 1 + (c .before .loop2) .k) _ _ _ (start .pre .0) (omega arith))
 
 mul-s-3 : tie.Need-mul-s-3 Inv-loop2 μ-loop2 Inv-loop μ-loop
-mul-s-3 c = omega (arith, row-in ((c .before .before .before .before .before .before .before .before .before .before .before .before .args) .n - 1 - (c .before .before .before .before .loop) .t + 1 + (c .before .loop2) .k) _ _ _ ((c .before .before .before .before .before .before .before .before .before .before .before .before .pre) .0) (omega arith))
+mul-s-3 c =
+    let at-loop = c .before .before .before .before in
+    let start = before-clear (before-loop at-loop) in
+    omega (arith, row-in (start .args .n - 1 - (at-loop .loop) .t + 1 + (c .before .loop2) .k) _ _ _ (start .pre .0) (omega arith))
 
 shared-slice-read-s-2 : tie.Need-shared-slice-read-s-2 Inv-loop2 μ-loop2 Inv-loop μ-loop
-shared-slice-read-s-2 c = omega (arith, row-in ((c .before .before .before .before .before .before .before .before .before .before .before .before .before .args) .n - 1 - (c .before .before .before .before .before .loop) .t + 1 + (c .before .before .loop2) .k) _ _ _ ((c .before .before .before .before .before .before .before .before .before .before .before .before .before .pre) .0) (omega arith))
+shared-slice-read-s-2 c =
+    let at-loop = c .before .before .before .before .before in
+    let start = before-clear (before-loop at-loop) in
+    omega (arith, row-in (start .args .n - 1 - (at-loop .loop) .t + 1 + (c .before .before .loop2) .k) _ _ _ (start .pre .0) (omega arith))
 
 mul-s-4 : tie.Need-mul-s-4 Inv-loop2 μ-loop2 Inv-loop μ-loop
 mul-s-4 c = omega arith
@@ -110,16 +132,21 @@ loop-less : tie.Need-loop-less Inv-loop2 μ-loop2 Inv-loop μ-loop
 loop-less c = omega arith
 
 loop-again : tie.Need-loop-again Inv-loop2 μ-loop2 Inv-loop μ-loop
-loop-again c = let g = (c .before .before .loop2) in
-    let i = (c .before .before .before .before .before .before .before .before .before .before .before .before .before .args) .n - 1 - (c .before .before .before .before .before .loop) .t in
-    (search loops, search loops, iter-step _ _ _ ((c .before .before .before .before .before .loop) .inv .2) (ap (λ (s : Float). set ((c .before .before .before .before .before .loop) .x) i (s /₆₄ at ((c .before .before .before .before .before .before .before .before .before .before .before .before .before .args) .l .now) (i * (c .before .before .before .before .before .before .before .before .before .before .before .before .before .args) .n + i))) (less-end _ _ _ _ _ (g .inv .0) ((c .before .loop2-test) .left) (g .inv .3))))
+loop-again c =
+    let at-loop = c .before .before .before .before .before in
+    let start = before-clear (before-loop at-loop) in
+    let g = c .before .before .loop2 in
+    let i = (start .args) .n - 1 - (at-loop .loop) .t in
+    (search loops, search loops, iter-step _ _ _ (at-loop .loop .inv .2) (ap (λ (s : Float). set (at-loop .loop .x) i (s /₆₄ at (start .args .l .now) (i * (start .args) .n + i))) (less-end _ _ _ _ _ (g .inv .0) (c .before .loop2-test .left) (g .inv .3))))
 
 same-length : tie.Need-same-length Inv-loop2 μ-loop2 Inv-loop μ-loop
 same-length c = search (loops, lessens)
 
 returns : tie.Need-returns Inv-loop2 μ-loop2 Inv-loop μ-loop
 unfolding backward
-returns c = iter-then _ _ _ _ ((c .before .loop) .inv .0) ((c .loop-test) .left) ((c .before .loop) .inv .2) ((c .before .before .before .before .clear) .ensures)
+returns c =
+    let at-clear = before-loop (c .before) in
+    iter-then _ _ _ _ (c .before .loop .inv .0) (c .loop-test .left) (c .before .loop .inv .2) (at-clear .clear .ensures)
 
 pub backward-spec : {M : Type 1} → statement M
 backward-spec =

@@ -1,6 +1,7 @@
 use borrow.Author.Needs.{needs}
 use mathlib.Core.Path.{_∙_}
 use native.Mathlib.Omega.{arith}
+use Rattle.basics.proofs.Rows.{whole}
 use Rattle.linear.proofs.Turns.{turn-last, turn-on}
 use Rattle.linear.proofs.cgd_turn.Statement.{statement}
 use Rattle.linear.proofs.cgd_turn.Tie as tie
@@ -14,11 +15,11 @@ dot-requires c κs = search needs
 dot-requires-2 : tie.Need-dot-requires-2
 dot-requires-2 c κs = search needs
 
-axpy-requires : tie.Need-axpy-requires
-axpy-requires c κs = search needs
+add-scaled-requires : tie.Need-add-scaled-requires
+add-scaled-requires c κs = search needs
 
-axpy-requires-2 : tie.Need-axpy-requires-2
-axpy-requires-2 c κs = search needs
+add-scaled-requires-2 : tie.Need-add-scaled-requires-2
+add-scaled-requires-2 c κs = search needs
 
 dot-requires-3 : tie.Need-dot-requires-3
 dot-requires-3 c κs = search needs
@@ -26,8 +27,39 @@ dot-requires-3 c κs = search needs
 stepped-requires : tie.Need-stepped-requires
 stepped-requires c κs = search needs
 
+-- ---- places in the code, each from the next that is named
+
+abbrev before-sp-mat-vec : tie.After-sp-mat-vec → tie.Start
+before-sp-mat-vec c = c .before .before .before .before .before .before .before .before .before
+
+abbrev before-dot : tie.After-dot → tie.After-sp-mat-vec
+before-dot c = c .before .before .before .before .before
+
+abbrev before-dot2 : tie.After-dot2 → tie.After-dot
+before-dot2 c = c .before .before .before
+
+abbrev before-add-scaled : tie.After-add-scaled → tie.After-dot2
+before-add-scaled c = c .before .before .before
+
+abbrev before-add-scaled2 : tie.After-add-scaled2 → tie.After-add-scaled
+before-add-scaled2 c = c .before .before .before .before .before
+
+abbrev before-dot3 : tie.After-dot3 → tie.After-add-scaled2
+before-dot3 c = c .before .before .before .before
+
+abbrev before-recompute : tie.After-recompute → tie.After-stepped
+before-recompute c = c .before .before .before .before
+
+abbrev before-is-last : tie.After-is-last → tie.After-recompute
+before-is-last c = c .before .before .before .before .before
+
 recompute-requires : tie.Need-recompute-requires
-recompute-requires c κs = omega (arith, (c .before .before .before .before .before .before .before .before .before .before .before .before .before .before .before .before .before .before .before .before .before .before .before .before .before .before .before .before .before .before .before .before .before .pre), (c .before .before .before .before .before .before .before .before .before .before .before .before .before .axpy) .kept, (c .before .before .before .before .before .before .before .before .axpy2) .kept, (c .before .before .before .before .before .before .before .before .before .before .before .before .before .before .before .before .before .before .before .before .before .before .before .before .sp-mat-vec) .kept)
+recompute-requires c κs =
+    let at-add-scaled2 = before-dot3 (c .before .before .before .before) in
+    let at-add-scaled = before-add-scaled2 at-add-scaled2 in
+    let at-sp-mat-vec = before-dot (before-dot2 (before-add-scaled at-add-scaled)) in
+    let start = before-sp-mat-vec at-sp-mat-vec in
+    omega (arith, (start .pre), (at-add-scaled .add-scaled) .kept, (at-add-scaled2 .add-scaled2) .kept, (at-sp-mat-vec .sp-mat-vec) .kept)
 
 is-last-requires : tie.Need-is-last-requires
 is-last-requires c κs = search needs
@@ -42,16 +74,38 @@ same-length-3 : tie.Need-same-length-3
 same-length-3 c = search needs
 
 same-length-4 : tie.Need-same-length-4
-same-length-4 c = (c .before .before .before .before .before .before .recompute) .kept .1 .1 .1 .1 .1 .0 ∙ (c .before .before .before .before .before .before .before .before .before .before .before .before .before .before .before .before .before .before .before .before .before .before .before .before .before .before .before .before .before .before .before .sp-mat-vec) .kept .1 .1 .1 .0
+same-length-4 c =
+    let at-recompute = before-is-last (c .before) in
+    let at-sp-mat-vec = before-dot (before-dot2 (before-add-scaled (before-add-scaled2 (before-dot3 ((before-recompute at-recompute) .before))))) in
+    (at-recompute .recompute) .kept .1 .1 .1 .1 .1 .0 ∙ (at-sp-mat-vec .sp-mat-vec) .kept .1 .1 .1 .0
 
 returns : tie.Need-returns
-returns c = turn-last _ _ _ _ _ _ _ ((c .before .before .before .before .before .before .before .before .before .before .before .before .before .before .before .before .before .before .before .before .before .before .before .before .before .before .before .before .before .before .before .sp-mat-vec) .ensures) ((c .before .before .before .before .before .before .before .before .before .before .before .before .before .before .before .before .before .before .before .before .before .before .before .before .before .before .dot) .ensures) ((c .before .before .before .before .before .before .before .before .before .before .before .before .before .before .before .before .before .before .before .before .before .before .before .dot2) .ensures) ((c .before .before .before .before .before .before .before .before .before .before .before .before .before .before .before .before .before .before .before .before .axpy) .ensures) ((c .before .before .before .before .before .before .before .before .before .before .before .before .before .before .before .axpy2) .ensures) ((c .before .before .before .before .before .before .before .before .before .before .before .dot3) .ensures) ((c .before .before .before .before .before .before .before .before .before .before .stepped) .ensures) ((c .before .before .before .before .before .before .recompute) .ensures .0) ((c .before .before .before .before .before .before .recompute) .ensures .1) ((c .before .is-last) .ensures) ((c .if1) .taken)
+returns c =
+    let at-recompute = before-is-last (c .before) in
+    let at-stepped = before-recompute at-recompute in
+    let at-dot3 = at-stepped .before in
+    let at-add-scaled2 = before-dot3 at-dot3 in
+    let at-add-scaled = before-add-scaled2 at-add-scaled2 in
+    let at-dot2 = before-add-scaled at-add-scaled in
+    let at-dot = before-dot2 at-dot2 in
+    let at-sp-mat-vec = before-dot at-dot in
+    let start = before-sp-mat-vec at-sp-mat-vec in
+    turn-last _ _ _ _ _ _ _ (at-sp-mat-vec .sp-mat-vec .ensures) (at-dot .dot .ensures) (at-dot2 .dot2 .ensures)
+    (whole _ _ (start .args .x .now) (start .pre .3) (at-add-scaled .add-scaled .ensures)) (whole _ _ (start .args .r .now) (start .pre .4) (at-add-scaled2 .add-scaled2 .ensures))
+    (at-dot3 .dot3 .ensures) (at-stepped .stepped .ensures) (at-recompute .recompute .ensures .0) (at-recompute .recompute .ensures .1)
+    (c .before .is-last .ensures) (c .if1 .taken)
 
 turned-requires : tie.Need-turned-requires
-turned-requires c κs = omega (arith, (c .before .before .before .before .before .before .before .before .before .before .before .before .before .before .before .before .before .before .before .before .before .before .before .before .before .before .before .before .before .before .before .before .before .before .before .before .before .before .before .before .before .before .before .before .pre), (c .before .before .before .before .before .before .before .before .before .before .before .before .before .before .before .before .before .before .before .axpy2) .kept, (c .before .before .before .before .before .before .before .before .before .before .recompute) .kept)
+turned-requires c κs =
+    let at-recompute = before-is-last (c .before .before .before .before .before) in
+    let at-add-scaled2 = before-dot3 ((before-recompute at-recompute) .before) in
+    let start = before-sp-mat-vec (before-dot (before-dot2 (before-add-scaled (before-add-scaled2 at-add-scaled2)))) in
+    omega (arith, (start .pre), (at-add-scaled2 .add-scaled2) .kept, (at-recompute .recompute) .kept)
 
 same-length-5 : tie.Need-same-length-5
-same-length-5 c = (c .before .before .before .before .before .before .before .before .before .before .before .before .before .before .before .before .before .before .before .before .before .before .before .before .before .before .before .axpy) .kept .1 .1 .1 .0
+same-length-5 c =
+    let at-add-scaled = before-add-scaled2 (before-dot3 ((before-recompute (before-is-last (c .before .before .before .before .before .before .before .before))) .before)) in
+    (at-add-scaled .add-scaled) .kept .1 .1 .0
 
 same-length-6 : tie.Need-same-length-6
 same-length-6 c = search needs
@@ -60,10 +114,28 @@ same-length-7 : tie.Need-same-length-7
 same-length-7 c = search needs
 
 same-length-8 : tie.Need-same-length-8
-same-length-8 c = (c .before .before .before .before .before .before .before .before .before .before .before .before .before .recompute) .kept .1 .1 .1 .1 .1 .0 ∙ (c .before .before .before .before .before .before .before .before .before .before .before .before .before .before .before .before .before .before .before .before .before .before .before .before .before .before .before .before .before .before .before .before .before .before .before .before .before .before .sp-mat-vec) .kept .1 .1 .1 .0
+same-length-8 c =
+    let at-recompute = before-is-last (c .before .before .before .before .before .before .before .before) in
+    let at-sp-mat-vec = before-dot (before-dot2 (before-add-scaled (before-add-scaled2 (before-dot3 ((before-recompute at-recompute) .before))))) in
+    (at-recompute .recompute) .kept .1 .1 .1 .1 .1 .0 ∙ (at-sp-mat-vec .sp-mat-vec) .kept .1 .1 .1 .0
 
 returns-2 : tie.Need-returns-2
-returns-2 c = turn-on _ _ _ _ _ _ _ ((c .before .before .before .before .before .before .before .before .before .before .before .before .before .before .before .before .before .before .before .before .before .before .before .before .before .before .before .before .before .before .before .before .before .before .before .before .before .before .sp-mat-vec) .ensures) ((c .before .before .before .before .before .before .before .before .before .before .before .before .before .before .before .before .before .before .before .before .before .before .before .before .before .before .before .before .before .before .before .before .before .dot) .ensures) ((c .before .before .before .before .before .before .before .before .before .before .before .before .before .before .before .before .before .before .before .before .before .before .before .before .before .before .before .before .before .before .dot2) .ensures) ((c .before .before .before .before .before .before .before .before .before .before .before .before .before .before .before .before .before .before .before .before .before .before .before .before .before .before .before .axpy) .ensures) ((c .before .before .before .before .before .before .before .before .before .before .before .before .before .before .before .before .before .before .before .before .before .before .axpy2) .ensures) ((c .before .before .before .before .before .before .before .before .before .before .before .before .before .before .before .before .before .before .dot3) .ensures) ((c .before .before .before .before .before .before .before .before .before .before .before .before .before .before .before .before .before .stepped) .ensures) ((c .before .before .before .before .before .before .before .before .before .before .before .before .before .recompute) .ensures .0) ((c .before .before .before .before .before .before .before .before .before .before .before .before .before .recompute) .ensures .1) ((c .before .before .before .before .before .before .before .before .is-last) .ensures) ((c .before .before .before .before .before .before .before .if1) .left) ((c .before .before .turned) .ensures)
+returns-2 c =
+    let at-if1 = c .before .before .before .before .before .before .before in
+    let at-is-last = at-if1 .before in
+    let at-recompute = before-is-last at-is-last in
+    let at-stepped = before-recompute at-recompute in
+    let at-dot3 = at-stepped .before in
+    let at-add-scaled2 = before-dot3 at-dot3 in
+    let at-add-scaled = before-add-scaled2 at-add-scaled2 in
+    let at-dot2 = before-add-scaled at-add-scaled in
+    let at-dot = before-dot2 at-dot2 in
+    let at-sp-mat-vec = before-dot at-dot in
+    let start = before-sp-mat-vec at-sp-mat-vec in
+    turn-on _ _ _ _ _ _ _ (at-sp-mat-vec .sp-mat-vec .ensures) (at-dot .dot .ensures) (at-dot2 .dot2 .ensures)
+    (whole _ _ (start .args .x .now) (start .pre .3) (at-add-scaled .add-scaled .ensures)) (whole _ _ (start .args .r .now) (start .pre .4) (at-add-scaled2 .add-scaled2 .ensures))
+    (at-dot3 .dot3 .ensures) (at-stepped .stepped .ensures) (at-recompute .recompute .ensures .0) (at-recompute .recompute .ensures .1)
+    (at-is-last .is-last .ensures) (at-if1 .if1 .left) (c .before .before .turned .ensures)
 
 pub cgd-turn-spec : {M : Type 1} → statement M
 cgd-turn-spec =
@@ -72,8 +144,8 @@ cgd-turn-spec =
     sp-mat-vec-requires
     dot-requires
     dot-requires-2
-    axpy-requires
-    axpy-requires-2
+    add-scaled-requires
+    add-scaled-requires-2
     dot-requires-3
     stepped-requires
     recompute-requires

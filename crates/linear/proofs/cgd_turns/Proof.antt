@@ -18,27 +18,59 @@ Inv-loop a n b x₀ r₀ p₀ ap₀ max-iters t₀ x r p ap t =
 abbrev μ-loop : tie.MeasureT-loop
 μ-loop a n b x₀ r₀ p₀ ap₀ max-iters t₀ x r p ap t = min (n + 5) max-iters - t .k
 
+-- ---- places in the code, each from the next that is named
+
+abbrev before-loop : tie.At-loop Inv-loop μ-loop → tie.Start Inv-loop μ-loop
+before-loop c = c .before .before .before .before .before .before .before
+
+abbrev before-cgd-turn : tie.After-cgd-turn Inv-loop μ-loop → tie.Then1 Inv-loop μ-loop
+before-cgd-turn c = c .before .before .before .before .before
+
+abbrev before-if2 : tie.Else2 Inv-loop μ-loop → tie.After-cgd-turn Inv-loop μ-loop
+before-if2 c = c .before .before .before .before .before .before .before .before .before .before
+
 loop-holds : tie.Need-loop-holds Inv-loop μ-loop
-loop-holds c = (omega (arith, (c .before .before .before .before .before .before .pre) .0), (c .before .before .before .before .before .before .pre) .4, (c .before .before .before .before .before .before .pre) .5, (c .before .before .before .before .before .before .pre) .6, (c .before .before .before .before .before .before .pre) .7, no-turn _ _ _ ((c .before .before .before .before .before .before .pre) .0))
+loop-holds c =
+    let start = c .before .before .before .before .before .before in
+    (omega (arith, (start .pre) .0), (start .pre) .4, (start .pre) .5, (start .pre) .6, (start .pre) .7, no-turn _ _ _ (start .pre .0))
 
 goes-on-requires : tie.Need-goes-on-requires Inv-loop μ-loop
-goes-on-requires c κs = ((c .before .before .before .before .before .before .before .pre) .1, (c .loop) .inv .0)
+goes-on-requires c κs =
+    let start = before-loop c in
+    (start .pre .1, (c .loop) .inv .0)
 
 cgd-turn-requires : tie.Need-cgd-turn-requires Inv-loop μ-loop
-cgd-turn-requires c κs = let g : (c .before .before .before .before .before .before .loop) .t .k < min ((c .before .before .before .before .before .before .before .before .before .before .before .before .before .args) .n + 5) ((c .before .before .before .before .before .before .before .before .before .before .before .before .before .args) .max-iters) = ltb-true _ _ (sym ((c .before .before .before .before .before .goes-on) .ensures) ∙ (c .before .before .before .before .if1) .taken) in
-    (omega (arith, min-le-left ((c .before .before .before .before .before .before .before .before .before .before .before .before .before .args) .n + 5) ((c .before .before .before .before .before .before .before .before .before .before .before .before .before .args) .max-iters), (c .before .before .before .before .before .before .before .before .before .before .before .before .before .pre) .1), (c .before .before .before .before .before .before .before .before .before .before .before .before .before .pre) .2, (c .before .before .before .before .before .before .before .before .before .before .before .before .before .pre) .3, (c .before .before .before .before .before .before .loop) .inv .1, (c .before .before .before .before .before .before .loop) .inv .2, (c .before .before .before .before .before .before .loop) .inv .3, (c .before .before .before .before .before .before .loop) .inv .4)
+cgd-turn-requires c κs =
+    let at-if1 = c .before .before .before .before in
+    let at-goes-on = at-if1 .before in
+    let at-loop = at-goes-on .before in
+    let start = before-loop at-loop in
+    let g : (at-loop .loop) .t .k < min (start .args .n + 5) (start .args .max-iters) = ltb-true _ _ (sym (at-goes-on .goes-on .ensures) ∙ (at-if1 .if1) .taken) in
+    (omega (arith, min-le-left (start .args .n + 5) (start .args .max-iters), (start .pre) .1), (start .pre) .2, (start .pre) .3, (at-loop .loop) .inv .1, (at-loop .loop) .inv .2, (at-loop .loop) .inv .3, (at-loop .loop) .inv .4)
 
 is-last-requires : tie.Need-is-last-requires Inv-loop μ-loop
 is-last-requires c κs = search needs
 
 loop-less : tie.Need-loop-less Inv-loop μ-loop
-loop-less c = let g : (c .before .before .before .before .before .before .before .before .before .before .before .before .before .before .before .before .before .loop) .t .k < min ((c .before .before .before .before .before .before .before .before .before .before .before .before .before .before .before .before .before .before .before .before .before .before .before .before .args) .n + 5) ((c .before .before .before .before .before .before .before .before .before .before .before .before .before .before .before .before .before .before .before .before .before .before .before .before .args) .max-iters) = ltb-true _ _ (sym ((c .before .before .before .before .before .before .before .before .before .before .before .before .before .before .before .before .goes-on) .ensures) ∙ (c .before .before .before .before .before .before .before .before .before .before .before .before .before .before .before .if1) .taken) in
-    omega (arith, (c .before .before .before .before .before .before .before .before .before .before .cgd-turn) .ensures .1)
+loop-less c =
+    let at-cgd-turn = before-if2 c in
+    let at-if1 = before-cgd-turn at-cgd-turn in
+    let at-goes-on = at-if1 .before in
+    let at-loop = at-goes-on .before in
+    let start = before-loop at-loop in
+    let g : (at-loop .loop) .t .k < min (start .args .n + 5) (start .args .max-iters) = ltb-true _ _ (sym (at-goes-on .goes-on .ensures) ∙ (at-if1 .if1) .taken) in
+    omega (arith, (at-cgd-turn .cgd-turn) .ensures .1)
 
 loop-again : tie.Need-loop-again Inv-loop μ-loop
-loop-again c = let g : (c .before .before .before .before .before .before .before .before .before .before .before .before .before .before .before .before .before .loop) .t .k < min ((c .before .before .before .before .before .before .before .before .before .before .before .before .before .before .before .before .before .before .before .before .before .before .before .before .args) .n + 5) ((c .before .before .before .before .before .before .before .before .before .before .before .before .before .before .before .before .before .before .before .before .before .before .before .before .args) .max-iters) = ltb-true _ _ (sym ((c .before .before .before .before .before .before .before .before .before .before .before .before .before .before .before .before .goes-on) .ensures) ∙ (c .before .before .before .before .before .before .before .before .before .before .before .before .before .before .before .if1) .taken) in
-    let i = (c .before .before .before .before .before .before .before .before .before .before .before .before .before .before .before .before .before .loop) .inv in
-    (omega (arith, (c .before .before .before .before .before .before .before .before .before .before .cgd-turn) .ensures .1), (c .before .before .before .before .before .before .before .before .before .before .cgd-turn) .kept .1 .1 .1 .0 ∙ i .1, (c .before .before .before .before .before .before .before .before .before .before .cgd-turn) .kept .1 .1 .1 .1 .0 ∙ i .2, (c .before .before .before .before .before .before .before .before .before .before .cgd-turn) .kept .1 .1 .1 .1 .1 .0 ∙ i .3, (c .before .before .before .before .before .before .before .before .before .before .cgd-turn) .kept .1 .1 .1 .1 .1 .1 .0 ∙ i .4, next-turn _ _ _ _ _ (i .5) _ ((c .before .before .before .before .before .before .before .before .before .before .cgd-turn) .ensures .0) ((c .before .is-last) .ensures) ((c .before .before .before .before .before .before .before .before .before .before .cgd-turn) .ensures .1) ((c .if2) .left))
+loop-again c =
+    let at-cgd-turn = before-if2 c in
+    let at-if1 = before-cgd-turn at-cgd-turn in
+    let at-goes-on = at-if1 .before in
+    let at-loop = at-goes-on .before in
+    let start = before-loop at-loop in
+    let g : (at-loop .loop) .t .k < min (start .args .n + 5) (start .args .max-iters) = ltb-true _ _ (sym (at-goes-on .goes-on .ensures) ∙ (at-if1 .if1) .taken) in
+    let i = at-loop .loop .inv in
+    (omega (arith, (at-cgd-turn .cgd-turn) .ensures .1), (at-cgd-turn .cgd-turn) .kept .1 .1 .1 .0 ∙ i .1, (at-cgd-turn .cgd-turn) .kept .1 .1 .1 .1 .0 ∙ i .2, (at-cgd-turn .cgd-turn) .kept .1 .1 .1 .1 .1 .0 ∙ i .3, (at-cgd-turn .cgd-turn) .kept .1 .1 .1 .1 .1 .1 .0 ∙ i .4, next-turn _ _ _ _ _ (i .5) _ (at-cgd-turn .cgd-turn .ensures .0) (c .before .is-last .ensures) (at-cgd-turn .cgd-turn .ensures .1) (c .if2 .left))
 
 same-length : tie.Need-same-length Inv-loop μ-loop
 same-length c = search needs
@@ -53,8 +85,11 @@ same-length-4 : tie.Need-same-length-4 Inv-loop μ-loop
 same-length-4 c = search needs
 
 returns : tie.Need-returns Inv-loop μ-loop
-returns c = let g : min ((c .before .before .before .before .before .before .before .before .before .args) .n + 5) ((c .before .before .before .before .before .before .before .before .before .args) .max-iters) ≤ (c .before .before .loop) .t .k = ltb-false _ _ (sym ((c .before .goes-on) .ensures) ∙ (c .if1) .left) in
-    turns-end _ _ _ _ _ ((c .before .before .loop) .inv .5) _ ((c .before .before .loop) .inv .0) g
+returns c =
+    let at-loop = c .before .before in
+    let start = before-loop at-loop in
+    let g : min (start .args .n + 5) (start .args .max-iters) ≤ (at-loop .loop) .t .k = ltb-false _ _ (sym (c .before .goes-on .ensures) ∙ (c .if1) .left) in
+    turns-end _ _ _ _ _ (at-loop .loop .inv .5) _ (at-loop .loop .inv .0) g
 
 same-length-5 : tie.Need-same-length-5 Inv-loop μ-loop
 same-length-5 c = search needs
@@ -69,8 +104,14 @@ same-length-8 : tie.Need-same-length-8 Inv-loop μ-loop
 same-length-8 c = search needs
 
 returns-2 : tie.Need-returns-2 Inv-loop μ-loop
-returns-2 c = let g : (c .before .before .before .before .before .before .before .before .before .before .before .before .before .before .before .before .before .loop) .t .k < min ((c .before .before .before .before .before .before .before .before .before .before .before .before .before .before .before .before .before .before .before .before .before .before .before .before .args) .n + 5) ((c .before .before .before .before .before .before .before .before .before .before .before .before .before .before .before .before .before .before .before .before .before .before .before .before .args) .max-iters) = ltb-true _ _ (sym ((c .before .before .before .before .before .before .before .before .before .before .before .before .before .before .before .before .goes-on) .ensures) ∙ (c .before .before .before .before .before .before .before .before .before .before .before .before .before .before .before .if1) .taken) in
-    last-turn _ _ _ _ _ ((c .before .before .before .before .before .before .before .before .before .before .before .before .before .before .before .before .before .loop) .inv .5) ((c .before .before .before .before .before .before .before .before .before .before .cgd-turn) .result) ((c .before .before .before .before .before .before .before .before .before .before .cgd-turn) .ensures .0) ((c .before .is-last) .ensures) _ g ((c .if2) .taken)
+returns-2 c =
+    let at-cgd-turn = c .before .before .before .before .before .before .before .before .before .before in
+    let at-if1 = before-cgd-turn at-cgd-turn in
+    let at-goes-on = at-if1 .before in
+    let at-loop = at-goes-on .before in
+    let start = before-loop at-loop in
+    let g : (at-loop .loop) .t .k < min (start .args .n + 5) (start .args .max-iters) = ltb-true _ _ (sym (at-goes-on .goes-on .ensures) ∙ (at-if1 .if1) .taken) in
+    last-turn _ _ _ _ _ (at-loop .loop .inv .5) (at-cgd-turn .cgd-turn .result) (at-cgd-turn .cgd-turn .ensures .0) (c .before .is-last .ensures) _ g (c .if2 .taken)
 
 pub cgd-turns-spec : {M : Type 1} → statement M
 cgd-turns-spec =

@@ -22,7 +22,11 @@ same-length-3 : tie.Need-same-length-3
 same-length-3 c = search needs
 
 returns : tie.Need-returns
-returns c = solve-on _ _ _ _ ((c .before .before .before .before .before .before .before .before .before .before .before .before .before .before .factor) .ensures) ((c .before .before .before .before .before .before .before .before .before .before .before .if1) .taken) ((c .before .before .before .before .before .before .before .before .forward) .ensures) ((c .before .before .backward) .ensures)
+returns c =
+    let at-forward = c .before .before .before .before .before .before .before .before in
+    let at-if1 = at-forward .before .before .before in
+    let at-factor = at-if1 .before .before .before in
+    solve-on _ _ _ _ ((at-factor .factor) .ensures) ((at-if1 .if1) .taken) ((at-forward .forward) .ensures) ((c .before .before .backward) .ensures)
 
 same-length-4 : tie.Need-same-length-4
 same-length-4 c = search needs

@@ -49,7 +49,9 @@ same-length : tie.Need-same-length Inv-loop μ-loop
 same-length c = search fills
 
 returns : tie.Need-returns Inv-loop μ-loop
-returns c = filled _ _ _ _ ((c .before .loop) .inv .0) ((c .loop-test) .left) ((c .before .before .pre) .1) ((c .before .loop) .inv .2) ∙ ap (λ (m : ℕ). build m (at ((c .before .before .args) .x .now))) (sym ((c .before .before .pre) .0)) ∙ build-list nan _
+returns c =
+    let start = c .before .before in
+    filled _ _ _ _ ((c .before .loop) .inv .0) ((c .loop-test) .left) ((start .pre) .1) ((c .before .loop) .inv .2) ∙ ap (λ (m : ℕ). build m (at ((start .args) .x .now))) (sym ((start .pre) .0)) ∙ build-list nan _
 
 pub copy-spec : {M : Type 1} → statement M
 copy-spec =

@@ -20,7 +20,10 @@ same-length-3 : tie.Need-same-length-3
 same-length-3 c = search needs
 
 returns : tie.Need-returns
-returns c = has-none _ _ _ _ ((c .before .before .copy) .ensures) ((c .before .before .before .before .before .before .before .before .before .before .before .cholesky-solve) .ensures .1) (not-true _ ((c .before .before .before .before .if1) .taken))
+returns c =
+    let at-if1 = c .before .before .before .before in
+    let at-cholesky-solve = at-if1 .before .before .before .before .before .before .before in
+    has-none _ _ _ _ ((c .before .before .copy) .ensures) ((at-cholesky-solve .cholesky-solve) .ensures .1) (not-true _ ((at-if1 .if1) .taken))
 
 same-length-4 : tie.Need-same-length-4
 same-length-4 c = search needs
@@ -32,7 +35,9 @@ same-length-6 : tie.Need-same-length-6
 same-length-6 c = search needs
 
 returns-2 : tie.Need-returns-2
-returns-2 c = has-exact _ _ _ _ _ ((c .before .before .before .before .before .before .before .cholesky-solve) .ensures .0) ((c .before .before .before .before .before .before .before .cholesky-solve) .ensures .1) (not-false _ ((c .if1) .left))
+returns-2 c =
+    let at-cholesky-solve = c .before .before .before .before .before .before .before in
+    has-exact _ _ _ _ _ ((at-cholesky-solve .cholesky-solve) .ensures .0) ((at-cholesky-solve .cholesky-solve) .ensures .1) (not-false _ ((c .if1) .left))
 
 pub exact-or-start-spec : {M : Type 1} → statement M
 exact-or-start-spec =

@@ -49,29 +49,55 @@ clear-requires c κs = search (loops, leaves)
 rows-holds : tie.Need-rows-holds Inv-loop2 μ-loop2 Inv-loop μ-loop Inv-rows μ-rows
 rows-holds c = search (loops, leaves)
 
+-- ---- places in the code, each from the next that is named
+
+abbrev before-clear : tie.After-clear Inv-loop2 μ-loop2 Inv-loop μ-loop Inv-rows μ-rows → tie.Start Inv-loop2 μ-loop2 Inv-loop μ-loop Inv-rows μ-rows
+before-clear c = c .before .before .before .before
+
+abbrev before-rows : tie.At-rows Inv-loop2 μ-loop2 Inv-loop μ-loop Inv-rows μ-rows → tie.After-clear Inv-loop2 μ-loop2 Inv-loop μ-loop Inv-rows μ-rows
+before-rows c = c .before .before .before
+
+abbrev before-loop2 : tie.At-loop2 Inv-loop2 μ-loop2 Inv-loop μ-loop Inv-rows μ-rows → tie.In-loop Inv-loop2 μ-loop2 Inv-loop μ-loop Inv-rows μ-rows
+before-loop2 c = c .before .before .before
+
 mul-row : tie.Need-mul-row Inv-loop2 μ-loop2 Inv-loop μ-loop Inv-rows μ-rows
-mul-row c = omega (arith, row-in ((c .before .rows) .i) ((c .before .before .before .before .before .before .before .before .args) .n) ((c .before .before .before .before .before .before .before .before .args) .n) ((c .before .before .before .before .before .before .before .before .args) .n * (c .before .before .before .before .before .before .before .before .args) .n) (omega arith) ((c .rows-test) .taken))
+mul-row c =
+    let start = before-clear (before-rows (c .before)) in
+    omega (arith, row-in (c .before .rows .i) (start .args .n) (start .args .n) (start .args .n * (start .args) .n) (omega arith) (c .rows-test .taken))
 
 add-end : tie.Need-add-end Inv-loop2 μ-loop2 Inv-loop μ-loop Inv-rows μ-rows
 add-end c = omega arith
 
 loop-holds : tie.Need-loop-holds Inv-loop2 μ-loop2 Inv-loop μ-loop Inv-rows μ-rows
-loop-holds c = (search loops, search loops, omega (arith, row-in ((c .before .rows) .i) ((c .before .before .before .before .before .before .before .before .args) .n) ((c .before .before .before .before .before .before .before .before .args) .n) ((c .before .before .before .before .before .before .before .before .args) .n * (c .before .before .before .before .before .before .before .before .args) .n) (omega arith) ((c .rows-test) .taken)), search loops, leave-none _ _)
+loop-holds c =
+    let start = before-clear (before-rows (c .before)) in
+    (search loops, search loops, omega (arith, row-in (c .before .rows .i) (start .args .n) (start .args .n) (start .args .n * (start .args) .n) (omega arith) (c .rows-test .taken)), search loops, leave-none _ _)
 
 mul-other : tie.Need-mul-other Inv-loop2 μ-loop2 Inv-loop μ-loop Inv-rows μ-rows
-mul-other c = omega (arith, row-in ((c .before .loop) .j) ((c .before .before .before .before .before .before .before .before .before .before .args) .n) ((c .before .before .before .before .before .before .before .before .before .before .args) .n) ((c .before .before .before .before .before .before .before .before .before .before .args) .n * (c .before .before .before .before .before .before .before .before .before .before .args) .n) (omega arith) (omega arith))
+mul-other c =
+    let start = before-clear (before-rows (c .before .before .before)) in
+    omega (arith, row-in (c .before .loop .j) (start .args .n) (start .args .n) (start .args .n * (start .args) .n) (omega arith) (omega arith))
 
 packed-index-requires : tie.Need-packed-index-requires Inv-loop2 μ-loop2 Inv-loop μ-loop Inv-rows μ-rows
 packed-index-requires c κs = (omega arith, omega arith)
 
 mul-s : tie.Need-mul-s Inv-loop2 μ-loop2 Inv-loop μ-loop Inv-rows μ-rows
-mul-s c = omega (arith, packed-below ((c .before .before .before .before .rows) .i) ((c .before .before .loop) .j) ((c .before .before .before .before .before .before .before .before .before .before .before .args) .n) ((c .before .before .before .rows-test) .taken) (omega arith), (c .packed-index) .ensures)
+mul-s c =
+    let at-rows = c .before .before .before .before in
+    let start = before-clear (before-rows at-rows) in
+    omega (arith, packed-below (at-rows .rows .i) (c .before .before .loop .j) (start .args .n) (c .before .before .before .rows-test .taken) (omega arith), (c .packed-index) .ensures)
 
 shared-slice-read-s : tie.Need-shared-slice-read-s Inv-loop2 μ-loop2 Inv-loop μ-loop Inv-rows μ-rows
-shared-slice-read-s c = omega (arith, packed-below ((c .before .before .before .before .before .rows) .i) ((c .before .before .before .loop) .j) ((c .before .before .before .before .before .before .before .before .before .before .before .before .args) .n) ((c .before .before .before .before .rows-test) .taken) (omega arith), (c .before .packed-index) .ensures)
+shared-slice-read-s c =
+    let at-rows-test = c .before .before .before .before in
+    let at-rows = at-rows-test .before in
+    let start = before-clear (before-rows at-rows) in
+    omega (arith, packed-below (at-rows .rows .i) (c .before .before .before .loop .j) (start .args .n) (at-rows-test .rows-test .taken) (omega arith), (c .before .packed-index) .ensures)
 
 loop2-holds : tie.Need-loop2-holds Inv-loop2 μ-loop2 Inv-loop μ-loop Inv-rows μ-rows
-loop2-holds c = (search loops, omega (arith, row-in ((c .before .before .before .loop) .j) ((c .before .before .before .before .before .before .before .before .before .before .before .before .args) .n) ((c .before .before .before .before .before .before .before .before .before .before .before .before .args) .n) ((c .before .before .before .before .before .before .before .before .before .before .before .before .args) .n * (c .before .before .before .before .before .before .before .before .before .before .before .before .args) .n) (omega arith) (omega arith)), search loops, ap (at ((c .before .before .before .before .before .before .before .before .before .before .before .before .args) .a .now)) ((c .before .packed-index) .ensures) ∙ less-none _ _ _)
+loop2-holds c =
+    let start = before-clear (before-rows (c .before .before .before .before .before)) in
+    (search loops, omega (arith, row-in (c .before .before .before .loop .j) (start .args .n) (start .args .n) (start .args .n * (start .args) .n) (omega arith) (omega arith)), search loops, ap (at (start .args .a .now)) (c .before .packed-index .ensures) ∙ less-none _ _ _)
 
 add-s : tie.Need-add-s Inv-loop2 μ-loop2 Inv-loop μ-loop Inv-rows μ-rows
 add-s c = omega arith
@@ -137,8 +163,11 @@ loop-less : tie.Need-loop-less Inv-loop2 μ-loop2 Inv-loop μ-loop Inv-rows μ-r
 loop-less c = omega arith
 
 loop-again : tie.Need-loop-again Inv-loop2 μ-loop2 Inv-loop μ-loop Inv-rows μ-rows
-loop-again c = let h = (c .before .before .before .before .before .before .loop) in
-    let whole = less-end _ _ _ _ _ ((c .before .before .loop2) .inv .0) ((c .before .loop2-test) .left) ((c .before .before .loop2) .inv .3) in
+loop-again c =
+    let at-loop2 = c .before .before in
+    let at-loop = (before-loop2 at-loop2) .before in
+    let h = at-loop .loop in
+    let whole = less-end _ _ _ _ _ (at-loop2 .loop2 .inv .0) (c .before .loop2-test .left) (at-loop2 .loop2 .inv .3) in
     let long : length (c .if1 .l) ≡ length (h .l) = ⊎-elim (λ w. rw (w .3) (simp length-set)) (λ w. rw (w .2) (simp length-set)) (c .if1 .came) in (
       search loops,
       search loops,
@@ -162,16 +191,27 @@ same-length c = search (loops, leaves)
 
 returns : tie.Need-returns Inv-loop2 μ-loop2 Inv-loop μ-loop Inv-rows μ-rows
 unfolding factor
-returns c = ap (λ (z : Bool). done z ((c .before .rows) .l)) ((c .before .rows) .inv .2) ∙ leave-end _ _ _ _ ((c .before .rows) .inv .0) ((c .rows-test) .left) ((c .before .rows) .inv .3) ∙ ap (leave ((c .before .before .before .before .before .before .before .before .args) .n) (λ i. leave (i + 1) (cell ((c .before .before .before .before .before .before .before .before .args) .a .now) ((c .before .before .before .before .before .before .before .before .args) .n) i))) ((c .before .before .before .before .clear) .ensures)
+returns c =
+    let at-clear = before-rows (c .before) in
+    let start = before-clear at-clear in
+    ap (λ (z : Bool). done z (c .before .rows .l)) (c .before .rows .inv .2) ∙ leave-end _ _ _ _ (c .before .rows .inv .0) (c .rows-test .left) (c .before .rows .inv .3) ∙ ap (leave (start .args .n) (λ i. leave (i + 1) (cell (start .args .a .now) (start .args .n) i))) (at-clear .clear .ensures)
 
 same-length-2 : tie.Need-same-length-2 Inv-loop2 μ-loop2 Inv-loop μ-loop Inv-rows μ-rows
 same-length-2 c = search (loops, leaves)
 
 returns-2 : tie.Need-returns-2 Inv-loop2 μ-loop2 Inv-loop μ-loop Inv-rows μ-rows
 unfolding factor
-returns-2 c = leave-left _ _ _ _ ((c .before .before .before .before .before .before .before .before .rows-test) .taken) ((c .before .before .before .before .before .before .before .before .before .rows) .inv .3)
-    (leave-left _ _ _ _ ((c .before .before .before .before .before .before .loop-test) .taken) ((c .before .before .before .before .before .before .before .loop) .inv .4) (cell-left _ _ _ _ _ (less-end _ _ _ _ _ ((c .before .before .before .loop2) .inv .0) ((c .before .before .loop2-test) .left) ((c .before .before .before .loop2) .inv .3)) ((c .before .if1) .taken) ((c .if2) .taken)))
-    ∙ ap (leave ((c .before .before .before .before .before .before .before .before .before .before .before .before .before .before .before .before .args) .n) (λ i. leave (i + 1) (cell ((c .before .before .before .before .before .before .before .before .before .before .before .before .before .before .before .before .args) .a .now) ((c .before .before .before .before .before .before .before .before .before .before .before .before .before .before .before .before .args) .n) i))) ((c .before .before .before .before .before .before .before .before .before .before .before .before .clear) .ensures)
+returns-2 c =
+    let at-loop2 = c .before .before .before in
+    let at-loop-test = before-loop2 at-loop2 in
+    let at-loop = at-loop-test .before in
+    let at-rows-test = at-loop .before in
+    let at-rows = at-rows-test .before in
+    let at-clear = before-rows at-rows in
+    let start = before-clear at-clear in
+    leave-left _ _ _ _ (at-rows-test .rows-test .taken) (at-rows .rows .inv .3)
+    (leave-left _ _ _ _ (at-loop-test .loop-test .taken) (at-loop .loop .inv .4) (cell-left _ _ _ _ _ (less-end _ _ _ _ _ (at-loop2 .loop2 .inv .0) (c .before .before .loop2-test .left) (at-loop2 .loop2 .inv .3)) (c .before .if1 .taken) (c .if2 .taken)))
+    ∙ ap (leave (start .args .n) (λ i. leave (i + 1) (cell (start .args .a .now) (start .args .n) i))) (at-clear .clear .ensures)
 
 pub factor-spec : {M : Type 1} → statement M
 factor-spec =

@@ -36,8 +36,18 @@ clear-requires c κs = search (loops, lessens)
 loop-holds : tie.Need-loop-holds Inv-loop2 μ-loop2 Inv-loop μ-loop
 loop-holds c = search (loops, lessens)
 
+-- ---- places in the code, each from the next that is named
+
+abbrev before-clear : tie.After-clear Inv-loop2 μ-loop2 Inv-loop μ-loop → tie.Start Inv-loop2 μ-loop2 Inv-loop μ-loop
+before-clear c = c .before .before .before .before .before
+
+abbrev before-loop : tie.At-loop Inv-loop2 μ-loop2 Inv-loop μ-loop → tie.After-clear Inv-loop2 μ-loop2 Inv-loop μ-loop
+before-loop c = c .before .before .before
+
 mul-row : tie.Need-mul-row Inv-loop2 μ-loop2 Inv-loop μ-loop
-mul-row c = omega (arith, row-in ((c .before .loop) .i) _ _ _ ((c .before .before .before .before .before .before .before .before .before .pre) .0) ((c .loop-test) .taken))
+mul-row c =
+    let start = before-clear (before-loop (c .before)) in
+    omega (arith, row-in (c .before .loop .i) _ _ _ (start .pre .0) (c .loop-test .taken))
 
 mul-s : tie.Need-mul-s Inv-loop2 μ-loop2 Inv-loop μ-loop
 mul-s c = omega arith
@@ -94,15 +104,20 @@ loop-less : tie.Need-loop-less Inv-loop2 μ-loop2 Inv-loop μ-loop
 loop-less c = omega arith
 
 loop-again : tie.Need-loop-again Inv-loop2 μ-loop2 Inv-loop μ-loop
-loop-again c = let g = (c .before .before .loop2) in
-    (search loops, search loops, iter-step _ _ _ ((c .before .before .before .before .before .loop) .inv .2) (ap (λ (s : Float). set ((c .before .before .before .before .before .loop) .y) ((c .before .before .before .before .before .loop) .i) (s /₆₄ at ((c .before .before .before .before .before .before .before .before .before .before .before .before .before .args) .l .now) ((c .before .before .before .before .before .loop) .i * (c .before .before .before .before .before .before .before .before .before .before .before .before .before .args) .n + (c .before .before .before .before .before .loop) .i))) (less-end _ _ _ _ _ (g .inv .0) ((c .before .loop2-test) .left) (g .inv .2))))
+loop-again c =
+    let at-loop = c .before .before .before .before .before in
+    let start = before-clear (before-loop at-loop) in
+    let g = c .before .before .loop2 in
+    (search loops, search loops, iter-step _ _ _ (at-loop .loop .inv .2) (ap (λ (s : Float). set (at-loop .loop .y) (at-loop .loop .i) (s /₆₄ at (start .args .l .now) (at-loop .loop .i * (start .args) .n + (at-loop .loop) .i))) (less-end _ _ _ _ _ (g .inv .0) (c .before .loop2-test .left) (g .inv .2))))
 
 same-length : tie.Need-same-length Inv-loop2 μ-loop2 Inv-loop μ-loop
 same-length c = search (loops, lessens)
 
 returns : tie.Need-returns Inv-loop2 μ-loop2 Inv-loop μ-loop
 unfolding forward
-returns c = iter-then _ _ _ _ ((c .before .loop) .inv .0) ((c .loop-test) .left) ((c .before .loop) .inv .2) ((c .before .before .before .before .clear) .ensures)
+returns c =
+    let at-clear = before-loop (c .before) in
+    iter-then _ _ _ _ (c .before .loop .inv .0) (c .loop-test .left) (c .before .loop .inv .2) (at-clear .clear .ensures)
 
 pub forward-spec : {M : Type 1} → statement M
 forward-spec =

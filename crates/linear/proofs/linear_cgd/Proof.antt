@@ -7,59 +7,100 @@ use lib.Seq.{length-take-le, length-front, take-at}
 use Rattle.linear.proofs.linear_cgd.Statement.{statement}
 use Rattle.linear.proofs.linear_cgd.Tie as tie
 
+-- ---- places in the code, each from the next that is named
+
+abbrev before-copy : tie.After-copy → tie.Start
+before-copy c = c .before .before .before .before .before .before .before
+
 array-borrow-prefix-x-orig : tie.Need-array-borrow-prefix-x-orig
-array-borrow-prefix-x-orig c = (c .before .before .before .before .before .pre) .0
+array-borrow-prefix-x-orig c =
+    let start = c .before .before .before .before .before in
+    (start .pre) .0
 
 slice-aggregate-copy : tie.Need-slice-aggregate-copy
-slice-aggregate-copy c = sym (length-take-le _ _ ((c .before .before .before .before .before .before .pre) .0))
+slice-aggregate-copy c =
+    let start = c .before .before .before .before .before .before in
+    sym (length-take-le _ _ (start .pre .0))
 
 copy-requires : tie.Need-copy-requires
-copy-requires c κs = ((c .before .before .before .before .before .before .pre) .3, length-take-le _ _ ((c .before .before .before .before .before .before .pre) .0))
+copy-requires c κs =
+    let start = c .before .before .before .before .before .before in
+    (start .pre .3, length-take-le _ _ (start .pre .0))
 
 mul-size : tie.Need-mul-size
-mul-size c = omega (arith, (c .before .before .before .before .before .before .before .before .pre) .4)
+mul-size c =
+    let start = before-copy (c .before) in
+    omega (arith, (start .pre) .4)
 
 array-share-prefix-x-orig : tie.Need-array-share-prefix-x-orig
-array-share-prefix-x-orig c = simp length-append (omega (arith, (c .before .before .copy) .kept .1 .1 .0 ∙ length-take-le _ _ ((c .before .before .before .before .before .before .before .before .before .pre) .0)))
+array-share-prefix-x-orig c =
+    let start = before-copy (c .before .before) in
+    simp length-append (omega (arith, (c .before .before .copy) .kept .1 .1 .0 ∙ length-take-le _ _ (start .pre .0)))
 
 slice-aggregate-linear-cgd-in : tie.Need-slice-aggregate-linear-cgd-in
-slice-aggregate-linear-cgd-in c = sym (length-take-le _ _ (simp length-append (omega (arith, (c .before .before .before .copy) .kept .1 .1 .0 ∙ length-take-le _ _ ((c .before .before .before .before .before .before .before .before .before .before .pre) .0)))))
+slice-aggregate-linear-cgd-in c =
+    let start = before-copy (c .before .before .before) in
+    sym (length-take-le _ _ (simp length-append (omega (arith, (c .before .before .before .copy) .kept .1 .1 .0 ∙ length-take-le _ _ (start .pre .0)))))
 
 array-borrow-prefix-r : tie.Need-array-borrow-prefix-r
-array-borrow-prefix-r c = (c .before .before .before .before .before .before .before .before .before .before .pre) .0
+array-borrow-prefix-r c =
+    let start = before-copy (c .before .before .before) in
+    (start .pre) .0
 
 slice-aggregate-linear-cgd-in-2 : tie.Need-slice-aggregate-linear-cgd-in-2
-slice-aggregate-linear-cgd-in-2 c = sym (length-take-le _ _ ((c .before .before .before .before .before .before .before .before .before .before .before .pre) .0))
+slice-aggregate-linear-cgd-in-2 c =
+    let start = before-copy (c .before .before .before .before) in
+    sym (length-take-le _ _ (start .pre .0))
 
 array-borrow-prefix-p : tie.Need-array-borrow-prefix-p
-array-borrow-prefix-p c = (c .before .before .before .before .before .before .before .before .before .before .before .pre) .0
+array-borrow-prefix-p c =
+    let start = before-copy (c .before .before .before .before) in
+    (start .pre) .0
 
 slice-aggregate-linear-cgd-in-3 : tie.Need-slice-aggregate-linear-cgd-in-3
-slice-aggregate-linear-cgd-in-3 c = sym (length-take-le _ _ ((c .before .before .before .before .before .before .before .before .before .before .before .before .pre) .0))
+slice-aggregate-linear-cgd-in-3 c =
+    let start = before-copy (c .before .before .before .before .before) in
+    sym (length-take-le _ _ (start .pre .0))
 
 array-borrow-prefix-ap : tie.Need-array-borrow-prefix-ap
-array-borrow-prefix-ap c = (c .before .before .before .before .before .before .before .before .before .before .before .before .pre) .0
+array-borrow-prefix-ap c =
+    let start = before-copy (c .before .before .before .before .before) in
+    (start .pre) .0
 
 slice-aggregate-linear-cgd-in-4 : tie.Need-slice-aggregate-linear-cgd-in-4
-slice-aggregate-linear-cgd-in-4 c = sym (length-take-le _ _ ((c .before .before .before .before .before .before .before .before .before .before .before .before .before .pre) .0))
+slice-aggregate-linear-cgd-in-4 c =
+    let start = before-copy (c .before .before .before .before .before .before) in
+    sym (length-take-le _ _ (start .pre .0))
 
 slice-relend-prefix-linear-cgd-in : tie.Need-slice-relend-prefix-linear-cgd-in
-slice-relend-prefix-linear-cgd-in c = (c .before .before .before .before .before .before .before .before .before .before .before .before .before .pre) .4
+slice-relend-prefix-linear-cgd-in c =
+    let start = before-copy (c .before .before .before .before .before .before) in
+    (start .pre) .4
 
 slice-aggregate-linear-cgd-in-5 : tie.Need-slice-aggregate-linear-cgd-in-5
-slice-aggregate-linear-cgd-in-5 c = sym (length-take-le _ _ ((c .before .before .before .before .before .before .before .before .before .before .before .before .before .before .pre) .4))
+slice-aggregate-linear-cgd-in-5 c =
+    let start = before-copy (c .before .before .before .before .before .before .before) in
+    sym (length-take-le _ _ (start .pre .4))
 
 linear-cgd-in-requires : tie.Need-linear-cgd-in-requires
-linear-cgd-in-requires c κs = (take-at _ _ _ ((c .before .before .before .before .before .before .before .copy) .kept .1 .1 .0 ∙ length-take-le _ _ ((c .before .before .before .before .before .before .before .before .before .before .before .before .before .before .pre) .0)) ∙ (c .before .before .before .before .before .before .before .copy) .ensures, (c .before .before .before .before .before .before .before .before .before .before .before .before .before .before .pre) .0, (c .before .before .before .before .before .before .before .before .before .before .before .before .before .before .pre) .1, (c .before .before .before .before .before .before .before .before .before .before .before .before .before .before .pre) .2, (c .before .before .before .before .before .before .before .before .before .before .before .before .before .before .pre) .3, length-take-le _ _ ((c .before .before .before .before .before .before .before .before .before .before .before .before .before .before .pre) .0), length-take-le _ _ ((c .before .before .before .before .before .before .before .before .before .before .before .before .before .before .pre) .0), length-take-le _ _ ((c .before .before .before .before .before .before .before .before .before .before .before .before .before .before .pre) .0), length-take-le _ _ ((c .before .before .before .before .before .before .before .before .before .before .before .before .before .before .pre) .4))
+linear-cgd-in-requires c κs =
+    let at-copy = c .before .before .before .before .before .before .before in
+    let start = before-copy at-copy in
+    (take-at _ _ _ (at-copy .copy .kept .1 .1 .0 ∙ length-take-le _ _ (start .pre .0)) ∙ (at-copy .copy) .ensures, (start .pre) .0, (start .pre) .1, (start .pre) .2, (start .pre) .3, length-take-le _ _ (start .pre .0), length-take-le _ _ (start .pre .0), length-take-le _ _ (start .pre .0), length-take-le _ _ (start .pre .4))
 
 same-length : tie.Need-same-length
 same-length c = search needs
 
 same-length-2 : tie.Need-same-length-2
-same-length-2 c = length-front ((c .before .before .before .before .before .before .before .before .before .before .before .before .before .before .before .before .before .before .before .before .before .before .args) .scratch .now) ((c .before .before .before .before .before .before .before .linear-cgd-in) .last .1 .1 .1 .1 .1 .1 .1 .1 .1 .0) ((c .before .before .before .before .before .before .before .before .before .before .before .before .before .before .before .before .before .before .before .before .before .before .args) .n * (c .before .before .before .before .before .before .before .before .before .before .before .before .before .before .before .before .before .before .before .before .before .before .args) .n) ((c .before .before .before .before .before .before .before .linear-cgd-in) .kept .1 .1 .1 .1 .1 .1 .1 .1 .1 .0)
+same-length-2 c =
+    let at-linear-cgd-in = c .before .before .before .before .before .before .before in
+    let start = before-copy (at-linear-cgd-in .before .before .before .before .before .before .before .before) in
+    length-front (start .args .scratch .now) (at-linear-cgd-in .linear-cgd-in .last .1 .1 .1 .1 .1 .1 .1 .1 .1 .0) (start .args .n * (start .args) .n) (at-linear-cgd-in .linear-cgd-in .kept .1 .1 .1 .1 .1 .1 .1 .1 .1 .0)
 
 returns : tie.Need-returns
-returns c = (c .before .before .before .before .before .before .before .linear-cgd-in) .ensures
+returns c =
+    let at-linear-cgd-in = c .before .before .before .before .before .before .before in
+    (at-linear-cgd-in .linear-cgd-in) .ensures
 
 pub linear-cgd-spec : {M : Type 1} → statement M
 linear-cgd-spec =

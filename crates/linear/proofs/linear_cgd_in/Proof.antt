@@ -9,53 +9,115 @@ use Rattle.linear.proofs.Turns.{stays, gives-up}
 use Rattle.linear.proofs.linear_cgd_in.Statement.{statement}
 use Rattle.linear.proofs.linear_cgd_in.Tie as tie
 
+-- ---- places in the code, each from the next that is named
+
+abbrev before-cgd-begin-arg4 : tie.After-cgd-begin-arg4 → tie.Start
+before-cgd-begin-arg4 c = c .before .before .before .before .before .before .before .before .before .before .before .before
+
+abbrev before-cgd-turns-arg4 : tie.After-cgd-turns-arg4 → tie.After-cgd-begin
+before-cgd-turns-arg4 c = c .before .before .before .before .before .before .before .before .before .before
+
+abbrev before-dot : tie.After-dot → tie.After-cgd-turns
+before-dot c = c .before .before .before .before .before .before .before .before .before
+
+abbrev before-exact-or-start : tie.After-exact-or-start → tie.Then1
+before-exact-or-start c = c .before .before .before .before
+
 cgd-begin-requires : tie.Need-cgd-begin-requires
-cgd-begin-requires c κs = ((c .before .before .before .before .before .before .before .before .before .before .before .before .pre) .2, (c .before .before .before .before .before .before .before .before .before .before .before .before .pre) .3, omega (arith, (c .before .before .before .before .before .before .before .before .before .before .before .before .pre) .4), (c .before .before .before .before .before .before .before .before .before .before .before .before .pre) .5, (c .before .before .before .before .before .before .before .before .before .before .before .before .pre) .6, (c .before .before .before .before .before .before .before .before .before .before .before .before .pre) .7)
+cgd-begin-requires c κs =
+    let start = before-cgd-begin-arg4 c in
+    (start .pre .2, (start .pre) .3, omega (arith, (start .pre) .4), (start .pre) .5, (start .pre) .6, (start .pre) .7)
 
 cgd-turns-requires : tie.Need-cgd-turns-requires
-cgd-turns-requires c κs = ((c .before .before .before .before .before .before .before .before .before .before .cgd-begin) .ensures .1, (c .before .before .before .before .before .before .before .before .before .before .before .before .before .before .before .before .before .before .before .before .before .before .before .pre) .1, (c .before .before .before .before .before .before .before .before .before .before .before .before .before .before .before .before .before .before .before .before .before .before .before .pre) .2, (c .before .before .before .before .before .before .before .before .before .before .before .before .before .before .before .before .before .before .before .before .before .before .before .pre) .3, (c .before .before .before .before .before .before .before .before .before .before .before .before .before .before .before .before .before .before .before .before .before .before .before .pre) .4, (c .before .before .before .before .before .before .before .before .before .before .cgd-begin) .kept .1 .1 .1 .1 .0 ∙ (c .before .before .before .before .before .before .before .before .before .before .before .before .before .before .before .before .before .before .before .before .before .before .before .pre) .5, (c .before .before .before .before .before .before .before .before .before .before .cgd-begin) .kept .1 .1 .1 .1 .1 .0 ∙ (c .before .before .before .before .before .before .before .before .before .before .before .before .before .before .before .before .before .before .before .before .before .before .before .pre) .6, (c .before .before .before .before .before .before .before .before .before .before .cgd-begin) .kept .1 .1 .1 .1 .1 .1 .0 ∙ (c .before .before .before .before .before .before .before .before .before .before .before .before .before .before .before .before .before .before .before .before .before .before .before .pre) .7)
+cgd-turns-requires c κs =
+    let at-cgd-begin = before-cgd-turns-arg4 c in
+    let start = before-cgd-begin-arg4 (at-cgd-begin .before) in
+    (at-cgd-begin .cgd-begin .ensures .1, (start .pre) .1, (start .pre) .2, (start .pre) .3, (start .pre) .4, (at-cgd-begin .cgd-begin) .kept .1 .1 .1 .1 .0 ∙ (start .pre) .5, (at-cgd-begin .cgd-begin) .kept .1 .1 .1 .1 .1 .0 ∙ (start .pre) .6, (at-cgd-begin .cgd-begin) .kept .1 .1 .1 .1 .1 .1 .0 ∙ (start .pre) .7)
 
 dot-requires : tie.Need-dot-requires
-dot-requires c κs = ((c .before .before .before .before .before .before .before .before .before .before .before .before .before .before .before .before .before .before .before .before .before .before .before .before .before .before .before .before .before .before .before .before .pre) .3, (c .before .before .before .before .before .before .before .before .before .before .before .before .before .before .before .before .before .before .before .before .before .before .before .before .before .before .before .before .before .before .before .before .pre) .3)
+dot-requires c κs =
+    let start = before-cgd-begin-arg4 ((before-cgd-turns-arg4 (c .before .before .before .before .before .before .before .before .before)) .before) in
+    (start .pre .3, (start .pre) .3)
 
 is-worse-requires : tie.Need-is-worse-requires
 is-worse-requires c κs = search needs
 
 exact-or-start-requires : tie.Need-exact-or-start-requires
-exact-or-start-requires c κs = ((c .before .before .before .before .before .before .before .before .before .before .before .before .before .before .before .before .before .before .before .before .before .before .before .before .before .before .before .before .before .before .before .before .before .before .before .before .before .before .pre) .1, (c .before .before .before .before .before .before .before .before .before .before .before .before .before .before .before .before .before .before .before .before .before .before .before .before .before .before .before .before .before .before .before .before .before .before .before .before .before .before .pre) .2, (c .before .before .before .before .before .before .before .before .before .before .before .before .before .before .before .before .before .before .before .before .before .before .before .before .before .before .before .before .before .before .before .before .before .before .before .before .before .before .pre) .3, (c .before .before .before .before .before .before .before .before .before .before .before .before .before .before .cgd-turns) .kept .1 .1 .1 .0 ∙ (c .before .before .before .before .before .before .before .before .before .before .before .before .before .before .before .before .before .before .before .before .before .before .before .before .before .before .before .before .before .before .before .before .before .before .before .before .before .before .pre) .4, ap length ((c .before .before .before .before .before .before .before .before .before .before .before .before .before .before .before .before .before .before .before .before .before .before .before .before .before .before .before .before .before .before .before .before .before .before .before .before .before .before .pre) .0) ∙ (c .before .before .before .before .before .before .before .before .before .before .before .before .before .before .before .before .before .before .before .before .before .before .before .before .before .before .before .before .before .before .before .before .before .before .before .before .before .before .pre) .4, (c .before .before .before .before .before .before .before .before .before .before .before .before .before .before .before .before .before .before .before .before .before .before .before .before .before .before .before .before .before .before .before .before .before .before .before .before .before .before .pre) .8, (c .before .before .before .before .before .before .before .before .before .before .before .before .before .before .cgd-turns) .kept .1 .1 .1 .1 .1 .1 .0 ∙ (c .before .before .before .before .before .before .before .before .before .before .before .before .before .before .before .before .before .before .before .before .before .before .before .before .before .cgd-begin) .kept .1 .1 .1 .1 .1 .1 .0 ∙ (c .before .before .before .before .before .before .before .before .before .before .before .before .before .before .before .before .before .before .before .before .before .before .before .before .before .before .before .before .before .before .before .before .before .before .before .before .before .before .pre) .7)
+exact-or-start-requires c κs =
+    let at-cgd-turns = before-dot (c .before .before .before .before .before) in
+    let at-cgd-begin = before-cgd-turns-arg4 (at-cgd-turns .before) in
+    let start = before-cgd-begin-arg4 (at-cgd-begin .before) in
+    (start .pre .1, (start .pre) .2, (start .pre) .3, (at-cgd-turns .cgd-turns) .kept .1 .1 .1 .0 ∙ (start .pre) .4, ap length (start .pre .0) ∙ (start .pre) .4, (start .pre) .8, (at-cgd-turns .cgd-turns) .kept .1 .1 .1 .1 .1 .1 .0 ∙ (at-cgd-begin .cgd-begin) .kept .1 .1 .1 .1 .1 .1 .0 ∙ (start .pre) .7)
 
 same-length : tie.Need-same-length
-same-length c = (c .before .before .before .before .before .before .exact-or-start) .kept .1 .1 .1 .0 ∙ (c .before .before .before .before .before .before .before .before .before .before .before .before .before .before .before .before .before .before .before .before .before .cgd-turns) .kept .1 .1 .1 .0
+same-length c =
+    let at-exact-or-start = c .before .before .before .before .before .before in
+    let at-cgd-turns = before-dot (((before-exact-or-start at-exact-or-start) .before) .before) in
+    (at-exact-or-start .exact-or-start) .kept .1 .1 .1 .0 ∙ (at-cgd-turns .cgd-turns) .kept .1 .1 .1 .0
 
 same-length-2 : tie.Need-same-length-2
-same-length-2 c = (c .before .before .before .before .before .before .before .before .before .before .before .before .before .before .before .before .before .before .before .before .before .cgd-turns) .kept .1 .1 .1 .1 .0 ∙ (c .before .before .before .before .before .before .before .before .before .before .before .before .before .before .before .before .before .before .before .before .before .before .before .before .before .before .before .before .before .before .before .before .cgd-begin) .kept .1 .1 .1 .1 .0
+same-length-2 c =
+    let at-cgd-turns = before-dot (((before-exact-or-start (c .before .before .before .before .before .before)) .before) .before) in
+    let at-cgd-begin = before-cgd-turns-arg4 (at-cgd-turns .before) in
+    (at-cgd-turns .cgd-turns) .kept .1 .1 .1 .1 .0 ∙ (at-cgd-begin .cgd-begin) .kept .1 .1 .1 .1 .0
 
 same-length-3 : tie.Need-same-length-3
-same-length-3 c = (c .before .before .before .before .before .before .before .before .before .before .before .before .before .before .before .before .before .before .before .before .before .cgd-turns) .kept .1 .1 .1 .1 .1 .0 ∙ (c .before .before .before .before .before .before .before .before .before .before .before .before .before .before .before .before .before .before .before .before .before .before .before .before .before .before .before .before .before .before .before .before .cgd-begin) .kept .1 .1 .1 .1 .1 .0
+same-length-3 c =
+    let at-cgd-turns = before-dot (((before-exact-or-start (c .before .before .before .before .before .before)) .before) .before) in
+    let at-cgd-begin = before-cgd-turns-arg4 (at-cgd-turns .before) in
+    (at-cgd-turns .cgd-turns) .kept .1 .1 .1 .1 .1 .0 ∙ (at-cgd-begin .cgd-begin) .kept .1 .1 .1 .1 .1 .0
 
 same-length-4 : tie.Need-same-length-4
-same-length-4 c = (c .before .before .before .before .before .before .exact-or-start) .kept .1 .1 .1 .1 .1 .1 .0 ∙ (c .before .before .before .before .before .before .before .before .before .before .before .before .before .before .before .before .before .before .before .before .before .cgd-turns) .kept .1 .1 .1 .1 .1 .1 .0 ∙ (c .before .before .before .before .before .before .before .before .before .before .before .before .before .before .before .before .before .before .before .before .before .before .before .before .before .before .before .before .before .before .before .before .cgd-begin) .kept .1 .1 .1 .1 .1 .1 .0
+same-length-4 c =
+    let at-exact-or-start = c .before .before .before .before .before .before in
+    let at-cgd-turns = before-dot (((before-exact-or-start at-exact-or-start) .before) .before) in
+    let at-cgd-begin = before-cgd-turns-arg4 (at-cgd-turns .before) in
+    (at-exact-or-start .exact-or-start) .kept .1 .1 .1 .1 .1 .1 .0 ∙ (at-cgd-turns .cgd-turns) .kept .1 .1 .1 .1 .1 .1 .0 ∙ (at-cgd-begin .cgd-begin) .kept .1 .1 .1 .1 .1 .1 .0
 
 same-length-5 : tie.Need-same-length-5
-same-length-5 c = (c .before .before .before .before .before .before .exact-or-start) .kept .1 .1 .1 .1 .1 .0
+same-length-5 c =
+    let at-exact-or-start = c .before .before .before .before .before .before in
+    (at-exact-or-start .exact-or-start) .kept .1 .1 .1 .1 .1 .0
 
 returns : tie.Need-returns
-returns c = gives-up _ _ _ _ _ ((c .before .before .before .before .before .before .before .before .before .before .before .before .before .before .before .before .before .before .before .before .before .before .before .before .before .before .before .before .before .before .before .before .cgd-begin) .result) ((c .before .before .before .before .before .before .before .before .before .before .before .before .before .before .before .before .before .before .before .before .before .cgd-turns) .result) ((c .before .before .before .before .before .before .before .before .before .before .before .before .before .before .before .before .before .before .before .before .before .before .before .before .before .before .before .before .before .before .before .before .cgd-begin) .ensures .0) ((c .before .before .before .before .before .before .before .before .before .before .before .before .before .before .before .before .before .before .before .before .before .cgd-turns) .ensures) ((c .before .before .before .before .before .before .before .before .before .before .before .before .dot) .ensures) ((c .before .before .before .before .before .before .before .before .before .before .before .is-worse) .ensures) ((c .before .before .before .before .before .before .before .before .before .before .if1) .taken) ((c .before .before .before .before .before .before .exact-or-start) .ensures ∙ ap (λ (x : List Float). solvedOr x ((c .before .before .before .before .before .before .before .before .before .before .before .before .before .before .before .before .before .before .before .before .before .before .before .before .before .before .before .before .before .before .before .before .before .before .before .before .before .before .before .before .before .before .before .before .before .args) .n) ((c .before .before .before .before .before .before .before .before .before .before .before .before .before .before .before .before .before .before .before .before .before .before .before .before .before .before .before .before .before .before .before .before .before .before .before .before .before .before .before .before .before .before .before .before .before .args) .b .now) (factor ((c .before .before .before .before .before .before .before .before .before .before .before .before .before .before .before .before .before .before .before .before .before .before .before .before .before .before .before .before .before .before .before .before .before .before .before .before .before .before .before .before .before .before .before .before .before .args) .a .now) ((c .before .before .before .before .before .before .before .before .before .before .before .before .before .before .before .before .before .before .before .before .before .before .before .before .before .before .before .before .before .before .before .before .before .before .before .before .before .before .before .before .before .before .before .before .before .args) .n))) ((c .before .before .before .before .before .before .before .before .before .before .before .before .before .before .before .before .before .before .before .before .before .before .before .before .before .before .before .before .before .before .before .before .before .before .before .before .before .before .before .before .before .before .before .before .before .pre) .0))
+returns c =
+    let at-exact-or-start = c .before .before .before .before .before .before in
+    let at-if1 = before-exact-or-start at-exact-or-start in
+    let at-is-worse = at-if1 .before in
+    let at-dot = at-is-worse .before in
+    let at-cgd-turns = before-dot at-dot in
+    let at-cgd-begin = before-cgd-turns-arg4 (at-cgd-turns .before) in
+    let start = before-cgd-begin-arg4 (at-cgd-begin .before) in
+    gives-up _ _ _ _ _ (at-cgd-begin .cgd-begin .result) (at-cgd-turns .cgd-turns .result) (at-cgd-begin .cgd-begin .ensures .0) (at-cgd-turns .cgd-turns .ensures) (at-dot .dot .ensures) (at-is-worse .is-worse .ensures) (at-if1 .if1 .taken) (at-exact-or-start .exact-or-start .ensures ∙ ap (λ (x : List Float). solvedOr x (start .args .n) (start .args .b .now) (factor (start .args .a .now) (start .args .n))) (start .pre .0))
 
 same-length-6 : tie.Need-same-length-6
-same-length-6 c = (c .before .before .before .before .before .before .before .before .before .before .before .cgd-turns) .kept .1 .1 .1 .0
+same-length-6 c =
+    let at-cgd-turns = before-dot (c .before .before) in
+    (at-cgd-turns .cgd-turns) .kept .1 .1 .1 .0
 
 same-length-7 : tie.Need-same-length-7
-same-length-7 c = (c .before .before .before .before .before .before .before .before .before .before .before .cgd-turns) .kept .1 .1 .1 .1 .0 ∙ (c .before .before .before .before .before .before .before .before .before .before .before .before .before .before .before .before .before .before .before .before .before .before .cgd-begin) .kept .1 .1 .1 .1 .0
+same-length-7 c =
+    let at-cgd-turns = before-dot (c .before .before) in
+    let at-cgd-begin = before-cgd-turns-arg4 (at-cgd-turns .before) in
+    (at-cgd-turns .cgd-turns) .kept .1 .1 .1 .1 .0 ∙ (at-cgd-begin .cgd-begin) .kept .1 .1 .1 .1 .0
 
 same-length-8 : tie.Need-same-length-8
-same-length-8 c = (c .before .before .before .before .before .before .before .before .before .before .before .cgd-turns) .kept .1 .1 .1 .1 .1 .0 ∙ (c .before .before .before .before .before .before .before .before .before .before .before .before .before .before .before .before .before .before .before .before .before .before .cgd-begin) .kept .1 .1 .1 .1 .1 .0
+same-length-8 c =
+    let at-cgd-turns = before-dot (c .before .before) in
+    let at-cgd-begin = before-cgd-turns-arg4 (at-cgd-turns .before) in
+    (at-cgd-turns .cgd-turns) .kept .1 .1 .1 .1 .1 .0 ∙ (at-cgd-begin .cgd-begin) .kept .1 .1 .1 .1 .1 .0
 
 same-length-9 : tie.Need-same-length-9
-same-length-9 c = (c .before .before .before .before .before .before .before .before .before .before .before .cgd-turns) .kept .1 .1 .1 .1 .1 .1 .0 ∙ (c .before .before .before .before .before .before .before .before .before .before .before .before .before .before .before .before .before .before .before .before .before .before .cgd-begin) .kept .1 .1 .1 .1 .1 .1 .0
+same-length-9 c =
+    let at-cgd-turns = before-dot (c .before .before) in
+    let at-cgd-begin = before-cgd-turns-arg4 (at-cgd-turns .before) in
+    (at-cgd-turns .cgd-turns) .kept .1 .1 .1 .1 .1 .1 .0 ∙ (at-cgd-begin .cgd-begin) .kept .1 .1 .1 .1 .1 .1 .0
 
 returns-2 : tie.Need-returns-2
-returns-2 c = stays _ _ _ _ _ ((c .before .before .before .before .before .before .before .before .before .before .before .before .before .before .before .before .before .before .before .before .before .before .cgd-begin) .result) ((c .before .before .before .before .before .before .before .before .before .before .before .cgd-turns) .result) ((c .before .before .before .before .before .before .before .before .before .before .before .before .before .before .before .before .before .before .before .before .before .before .cgd-begin) .ensures .0) ((c .before .before .before .before .before .before .before .before .before .before .before .cgd-turns) .ensures) ((c .before .before .dot) .ensures) ((c .before .is-worse) .ensures) ((c .if1) .left)
+returns-2 c =
+    let at-cgd-turns = before-dot (c .before .before) in
+    let at-cgd-begin = before-cgd-turns-arg4 (at-cgd-turns .before) in
+    stays _ _ _ _ _ (at-cgd-begin .cgd-begin .result) (at-cgd-turns .cgd-turns .result) (at-cgd-begin .cgd-begin .ensures .0) (at-cgd-turns .cgd-turns .ensures) (c .before .before .dot .ensures) (c .before .is-worse .ensures) (c .if1 .left)
 
 pub linear-cgd-in-spec : {M : Type 1} → statement M
 linear-cgd-in-spec =

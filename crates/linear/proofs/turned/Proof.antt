@@ -51,7 +51,9 @@ same-length : tie.Need-same-length Inv-loop μ-loop
 same-length c = search loops
 
 returns : tie.Need-returns Inv-loop μ-loop
-returns c = updated nan (λ i v. (c .before .before .args) .beta *₆₄ v -₆₄ at ((c .before .before .args) .r .now) i) _ _ _ ((c .before .loop) .inv .0) ((c .loop-test) .left) ((c .before .before .pre) .1) ((c .before .loop) .inv .2)
+returns c =
+    let start = c .before .before in
+    updated nan (λ i v. (start .args) .beta *₆₄ v -₆₄ at ((start .args) .r .now) i) _ _ _ ((c .before .loop) .inv .0) ((c .loop-test) .left) ((start .pre) .1) ((c .before .loop) .inv .2)
 
 pub turned-spec : {M : Type 1} → statement M
 turned-spec =
