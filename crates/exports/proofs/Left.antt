@@ -16,7 +16,7 @@ use denote.Triple.Walked.{Stay, Stays, Goes, AllGo, fitsOf}
 
 infixr 5 _&_
 -- a pair, for a tuple that is too long for a line
-abbrev pub _&_ : {X Y : Type 0} → X → Y → X × Y
+abbrev pub _&_ {α β} : {X : Type α} {Y : Type β} → X → Y → X × Y
 x & y = (x, y)
 
 module _ {n : ℕ} where

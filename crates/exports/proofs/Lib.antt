@@ -1,4 +1,7 @@
--- Laws of the exported answers, and of records behind a reference.
+-- Laws of the exported answers, and of the walks of calls on records behind a reference.
 pub mod Answered
 pub mod Left
+pub mod Lent
 pub mod Record
+pub mod Shown
+pub mod Walk

@@ -1,13 +1,19 @@
--- The two records and what the calls on them return, as machine values, for the walks. `stream`, `answer`, `silence` and `counts` are the
--- machine value of each; `answer-is`, `stream-is`, `counts-is` and `silence-is` are the relations of what is read of a call's result.
-use mathlib.Core.List.{[], _∷_, List}
-use mir.Val.{Val}
-use denote.Laws.{Is}
+-- The two records and what the calls on them return, as plain data for the walks (Lent.antt). `stored-same` is why a call stores only some of a
+-- stream's numbers: whether it is taken or not, the others of the record that it returns are those of the record that it was given.
+use Prim.Native.Nat.{ℕ, zero, suc}
+use mathlib.Core.Path.{_≡_, refl, sym, ap, _∙_}
+use mathlib.Core.List.{[], _∷_}
+use mir.Syntax.{w64}
+use denote.Laws.{Is, valss}
+use denote.Builtin.{usize}
+use denote.Plain.{uint-vals}
+use denote.Struct.Struct.{AreAll}
+use denote.Struct.Declared.{fields}
 use denote.Struct.Laws as LL
-use Rattle.definition.specs.declared.IvectorStream.{IvectorStream}
-use Rattle.definition.specs.declared.StreamAnswer.{StreamAnswer}
-use Rattle.definition.specs.declared.StreamCall.{StreamCall}
+use Rattle.loops.specs.Refusal.{taken}
+use Rattle.definition.specs.Silence.{silenceAnswer}
 use Rattle.definition.specs.declared.SilenceWeighting.{SilenceWeighting}
+use Rattle.definition.specs.declared.StreamCall.{StreamCall}
 use Rattle.definition.specs.declared.SilenceAnswer.{SilenceAnswer}
 use Rattle.definition.proofs.IvectorStream as S
 use Rattle.definition.proofs.IvectorStream.Laws as S′
@@ -19,36 +25,77 @@ use Rattle.definition.proofs.SilenceWeighting as W
 use Rattle.definition.proofs.SilenceWeighting.Laws as W′
 use Rattle.definition.proofs.SilenceAnswer as D
 use Rattle.definition.proofs.SilenceAnswer.Laws as D′
+use Rattle.definition.proofs.DecoderFrame as G
+use Rattle.definition.proofs.DecoderFrame.Laws as G′
+use Rattle.definition.proofs.InputFrame as I
+use Rattle.definition.proofs.InputFrame.Laws as I′
 use Rattle.exports.specs.declared.SilenceCounts.{SilenceCounts}
 use Rattle.exports.proofs.SilenceCounts as N
 use Rattle.exports.proofs.SilenceCounts.Laws as N′
+use Rattle.exports.proofs.Lent.{Data, rowOf, val}
 
-abbrev pub stream : IvectorStream → Val
-stream h = LL.val S.the-type S′.the-laws h
+-- ---- a stream
+abbrev pub stream : Data
+stream = record { type = S.the-type; laws = S′.the-laws; plain = S′.the-plain; copy = S′.the-copy }
 
-abbrev pub answer : StreamAnswer → Val
-answer n = LL.val A.the-type A′.the-laws n
+abbrev pub answer : Data
+answer = record { type = A.the-type; laws = A′.the-laws; plain = A′.the-plain; copy = A′.the-copy }
 
-pub answer-is : (r : StreamCall) (vs : List Val) → Is C.the-row r vs → Is A.the-row (r .answer) (answer (r .answer) ∷ [])
-answer-is r vs is = LL.owed C.the-type C′.the-laws r vs is .0
+abbrev pub stream-call : Data
+stream-call = record { type = C.the-type; laws = C′.the-laws; plain = C′.the-plain; copy = C′.the-copy }
 
-pub stream-is : (r : StreamCall) (vs : List Val) → Is C.the-row r vs → Is S.the-row (r .stream) (stream (r .stream) ∷ [])
-stream-is r vs is = LL.owed C.the-type C′.the-laws r vs is .1 .0
+pub answer-is : (r : StreamCall) → Is (rowOf stream-call) r (val stream-call r ∷ []) → Is (rowOf answer) (r .answer) (val answer (r .answer) ∷ [])
+answer-is r is = LL.owed C.the-type C′.the-laws r _ is .0
 
-abbrev pub silence : SilenceWeighting → Val
-silence h = LL.val W.the-type W′.the-laws h
+pub stream-is : (r : StreamCall) → Is (rowOf stream-call) r (val stream-call r ∷ []) → Is (rowOf stream) (r .stream) (val stream (r .stream) ∷ [])
+stream-is r is = LL.owed C.the-type C′.the-laws r _ is .1 .0
+
+-- what holds of each number of the record that a call returns
+abbrev pub stream-parts : (r : StreamCall) → Is (rowOf stream-call) r (val stream-call r ∷ []) → AreAll (fields S.the-type) (S.the-type .to (r .stream)) (valss (fields S.the-type) (LL.spells (S.the-type .parts) S′.the-laws) (S.the-type .to (r .stream)))
+stream-parts r is = LL.owed S.the-type S′.the-laws (r .stream) _ (stream-is r is)
+
+-- ---- a silence table
+abbrev pub silence : Data
+silence = record { type = W.the-type; laws = W′.the-laws; plain = W′.the-plain; copy = W′.the-copy }
+
+abbrev pub counts : Data
+counts = record { type = N.the-type; laws = N′.the-laws; plain = N′.the-plain; copy = N′.the-copy }
+
+abbrev pub silence-call : Data
+silence-call = record { type = D.the-type; laws = D′.the-laws; plain = D′.the-plain; copy = D′.the-copy }
 
 -- what a call on a silence table answers, less the record
 abbrev pub silenceCounts : SilenceAnswer → SilenceCounts
 silenceCounts a = record { refusal = a .refusal; changes = a .changes }
 
-abbrev pub counts : SilenceCounts → Val
-counts n = LL.val N.the-type N′.the-laws n
-
-pub counts-is : (r : SilenceAnswer) (vs : List Val) → Is D.the-row r vs → Is N.the-row (silenceCounts r) (counts (silenceCounts r) ∷ [])
-counts-is r vs is =
-    let all = LL.owed D.the-type D′.the-laws r vs is in
+pub counts-is : (r : SilenceAnswer) → Is (rowOf silence-call) r (val silence-call r ∷ []) → Is (rowOf counts) (silenceCounts r) (val counts (silenceCounts r) ∷ [])
+counts-is r is =
+    let all = LL.owed D.the-type D′.the-laws r _ is in
     LL.owes N.the-type N′.the-laws (silenceCounts r) (all .0, (all .1 .0, tt))
 
-pub silence-is : (r : SilenceAnswer) (vs : List Val) → Is D.the-row r vs → Is W.the-row (r .silence) (silence (r .silence) ∷ [])
-silence-is r vs is = LL.owed D.the-type D′.the-laws r vs is .1 .1 .0
+pub silence-is : (r : SilenceAnswer) → Is (rowOf silence-call) r (val silence-call r ∷ []) → Is (rowOf silence) (r .silence) (val silence (r .silence) ∷ [])
+silence-is r is = LL.owed D.the-type D′.the-laws r _ is .1 .1 .0
+
+pub length-is : (r : SilenceAnswer) → Is (rowOf silence-call) r (val silence-call r ∷ []) → Is usize (r .silence .length .0) (uint-vals w64 (r .silence .length .0))
+length-is r is = LL.owed G.the-type G′.the-laws (r .silence .length) _ (LL.owed W.the-type W′.the-laws (r .silence) _ (silence-is r is) .1 .1 .1 .1 .0) .0
+
+-- the two kinds of frame number
+abbrev pub decoder-frame : Data
+decoder-frame = record { type = G.the-type; laws = G′.the-laws; plain = G′.the-plain; copy = G′.the-copy }
+
+abbrev pub input-frame : Data
+input-frame = record { type = I.the-type; laws = I′.the-laws; plain = I′.the-plain; copy = I′.the-copy }
+
+-- ---- what is stored
+-- f puts some parts of a record into one that has the others already, both where the call is taken and where it is not
+pub stored-same : {X : Type 0} (f : X → X) {r : X} (m : ℕ) {new old : X} → r ≡ taken m new old → f new ≡ new → f old ≡ old → f r ≡ r
+stored-same f zero e n o = ap f e ∙ n ∙ sym e
+stored-same f (suc m) e n o = ap f e ∙ o ∙ sym e
+
+-- a silence table's record with another's length
+abbrev pub lengthened : SilenceWeighting → SilenceWeighting → SilenceWeighting
+lengthened h s = record { «silence_weight» = h .«silence_weight»; subsampling = h .subsampling; phones = h .phones; table = h .table; length = s .length }
+
+pub lengthened-same : (h : SilenceWeighting) (m k l : ℕ) {r : SilenceAnswer} → r ≡ silenceAnswer m h k l → lengthened h (r .silence) ≡ r .silence
+unfolding silenceAnswer
+lengthened-same h m k l e = stored-same (lengthened h) m (ap (λ (a : SilenceAnswer). a .silence) e) refl refl
