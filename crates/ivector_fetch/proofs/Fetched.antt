@@ -26,7 +26,7 @@ use Rattle.definition.specs.Stream.{rising}
 use Rattle.definition.proofs.Lengths.{Long, updated-long}
 use Rattle.definition.proofs.Ranges.{Fitting, fitting}
 use Rattle.program.specs.Rooms.{ringsFrom, EstimateRooms, estimateFrom, Rooms, roomsFrom, roomLengthsOf, waitingIn, framesOf, weightsOf, framesIn, changesIn, estimateIn}
-use Rattle.program.specs.Calls.{callOf, overWaiting, Step, fetchCall, fetchedOn, catchesUp, fetchEstimate, fetchChanges, fetchStream, overEstimate, fetchRooms, fetchVector}
+use Rattle.program.specs.Calls.{callOf, overWaiting, Step, fetchCall, fetchedOn, fetchRefusal, getFrame, catchesUp, fetchEstimate, fetchChanges, fetchStream, overEstimate, fetchRooms, fetchVector}
 use Rattle.program.proofs.WaitingRooms.{length-waiting, frames-waiting, weights-waiting}
 use Rattle.program.proofs.InOrder.{waiting-early, waiting-late}
 use Rattle.program.proofs.Steps.{four}
@@ -179,7 +179,7 @@ module _ (s : IvectorStream) (t : Tables) (z : Rooms) (f : ℕ) {scratch n : ℕ
   unfolding fetchEstimate
   vector-long = by-test (catchesUp s f) (λ e. rw e (updated-long (modelIn (s .info) t) (framesIn s (z .rings)) _ (estimateIn s (z .estimate)) long .current-is)) (λ e. rw e (long .current-is))
 
-  pub vector-is : (m : ℕ) {cur : List Float} → m ≡ s .info .dims .«ivector_dim» → cur ≡ fetchRooms s t z f .estimate .current
+  vector-is : (m : ℕ) {cur : List Float} → m ≡ s .info .dims .«ivector_dim» → cur ≡ fetchRooms s t z f .estimate .current
       → build m (λ i. fetchedAt (s .info .«prior_offset») i (at cur i)) ≡ fetchVector s t z f
   unfolding fetchRooms fetchVector
   vector-is m {cur} e h =
@@ -203,9 +203,24 @@ module _ (s : IvectorStream) (z : Rooms) (out : List ℕ) (x : Step) where
       let n : ℕ = x .refusal in
       rw (taken-old n (x .stream) s g, taken-old n (notFinite (x .vector)) 0 g, taken-old n (x .rooms) z g, taken-old n (over (bitsOf (x .vector)) out) out g, h, e)
 
-  pub fetch-done : {c : StreamCall} {s′ : IvectorStream} {b : ℕ} {z′ : Rooms} {out′ : List ℕ} → c ≡ callOf 0 s′ b → 0 ≡ x .refusal → s′ ≡ x .stream → b ≡ notFinite (x .vector)
+  fetch-done : {c : StreamCall} {s′ : IvectorStream} {b : ℕ} {z′ : Rooms} {out′ : List ℕ} → c ≡ callOf 0 s′ b → 0 ≡ x .refusal → s′ ≡ x .stream → b ≡ notFinite (x .vector)
       → z′ ≡ x .rooms → out′ ≡ over (bitsOf (x .vector)) out → fetchCall c z′ out′ ≡ fetchedOn s z out x
   fetch-done h e p q r o =
       let g : x .refusal ≡ 0 = sym e in
       let n : ℕ = x .refusal in
       rw (taken-new n (x .stream) s g, taken-new n (notFinite (x .vector)) 0 g, taken-new n (x .rooms) z g, taken-new n (over (bitsOf (x .vector)) out) out g, h, p, q, r, o, g)
+
+-- a fetch that is taken, by what code leaves: the record, the rooms, and the vector's bits and count
+module _ (s : IvectorStream) (t : Tables) (z : Rooms) (f : ℕ) {scratch n : ℕ} (T : FetchTaken s (tableLengthsOf t) z scratch f n) where
+  abbrev vectorOf : ℕ → Rooms → List Float
+  vectorOf m y = build m (λ i. fetchedAt (s .info .«prior_offset») i (at (y .estimate .current) i))
+
+  pub fetch-made : (out : List ℕ) {c : StreamCall} {r : IvectorStream} {b : ℕ} {y : Rooms} {out′ : List ℕ}
+      → fetchRefusal s (tableLengthsOf t) (roomLengthsOf z scratch) (z .rings .waiting-frames) f (length out) ≡ 0 → length out ≡ s .info .dims .«ivector_dim»
+      → c ≡ callOf 0 r b → r ≡ fetchStream s t z f → y ≡ fetchRooms s t z f
+      → (out′ ≡ over (bitsOf (vectorOf (length out) y)) out) × (b ≡ notFinite (vectorOf (length out) y))
+      → fetchCall c y out′ ≡ fetchedOn s z out (getFrame s t z scratch f (length out))
+  unfolding getFrame
+  fetch-made out none wide h p q (o, e) =
+      let v = vector-is s t z f T (length out) wide (ap (λ (y : Rooms). y .estimate .current) q) in
+      fetch-done s z out (getFrame s t z scratch f (length out)) h (sym none) p (e ∙ ap notFinite v) q (o ∙ ap (λ (x : List Float). over (bitsOf x) out) v)

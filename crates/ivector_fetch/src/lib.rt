@@ -14,10 +14,10 @@ ghost use lib.Ieee.{binary32, toBits};
 ghost use lib.Ieee.Scale.{finite};
 ghost use Rattle.loops.specs.Lists.{if_then_else_, build, over};
 ghost use Rattle.floats.specs.Operators.{at};
-ghost use Rattle.definition.specs.Model.{Tables, tablesFrom, tableLengthsOf};
+ghost use Rattle.definition.specs.Model.{Tables, tablesFrom};
 ghost use Rattle.definition.specs.Machine.{bitsOf, notFinite};
-ghost use Rattle.program.specs.Rooms.{ringsFrom, estimateFrom, Rooms, roomsFrom, roomLengthsOf};
-ghost use Rattle.program.specs.Calls.{Step, fetchCall, fetchedOn, fetchRefusal, fetchStream, fetchRooms, getFrame};
+ghost use Rattle.program.specs.Rooms.{ringsFrom, estimateFrom, Rooms, roomsFrom};
+ghost use Rattle.program.specs.Calls.{Step, fetchCall, fetchedOn, fetchRefusal, getFrame};
 ghost use Rattle.ivector_fetch.specs.Steps.{fetchedAt};
 
 // Whether a fetch of f would bring in frames whose weights are not known yet: f is not in the statistics, and no change reached it.
@@ -122,142 +122,9 @@ fn write_vector(prior_offset: f64, current: &[f64], n: usize, out: &mut [u32]) -
     bad
 }
 
-// A fetch's frames go into the statistics: the record afterwards.
-fn catch_up(
-    s: IvectorStream,
-    frame: usize,
-    gconsts: &[f32],
-    means_invvars_t: &[f32],
-    inv_vars_t: &[f32],
-    sigma_inv_m: &[f64],
-    u: &[f64],
-    lda_t: &[f32],
-    lda_offset: &[f32],
-    global_mean_stats: &[f64],
-    frames: &[f32],
-    rows: &[f64],
-    waiting_frames: &mut [usize],
-    waiting_weights: &mut [f32],
-    cmvn_stats: &mut [f64],
-    linear: &mut [f64],
-    quadratic: &mut [f64],
-    current: &mut [f64],
-    scratch: &mut [f64],
-) -> IvectorStream
-    requires { ⌜ (
-        let t : Tables = tablesFrom (now gconsts) (now «means_invvars_t») (now «inv_vars_t») (now «sigma_inv_m») (now u) (now «lda_t») (now «lda_offset») (now «global_mean_stats») in
-        let z : Rooms = roomsFrom (ringsFrom (now frames) (now rows) (now «waiting_frames») (now «waiting_weights»)) (estimateFrom (now «cmvn_stats») (now linear) (now quadratic) (now current)) in
-        fetchRefusal s (tableLengthsOf t) (roomLengthsOf z (length (now scratch))) (now «waiting_frames») frame (s .info .dims .«ivector_dim») ≡ 0) ⌝ }
-    requires { ⌜ s .«num_frames_stats» ≤ frame ⌝ }
-    ensures { λ r. ⌜ (
-        let t : Tables = tablesFrom (now (gconsts .entry)) (now («means_invvars_t» .entry)) (now («inv_vars_t» .entry)) (now («sigma_inv_m» .entry))
-        (now (u .entry)) (now («lda_t» .entry)) (now («lda_offset» .entry)) (now («global_mean_stats» .entry)) in
-        let z : Rooms = roomsFrom (ringsFrom (now (frames .entry)) (now (rows .entry)) (now («waiting_frames» .entry)) (now («waiting_weights» .entry)))
-        (estimateFrom (now («cmvn_stats» .entry)) (now (linear .entry)) (now (quadratic .entry)) (now (current .entry))) in
-        (r ≡ fetchStream s t z frame)
-        × ((roomsFrom (ringsFrom (now (frames .entry)) (now (rows .entry)) (now («waiting_frames» .exit)) (now («waiting_weights» .exit)))
-        (estimateFrom (now («cmvn_stats» .exit)) (now (linear .exit)) (now (quadratic .exit)) (now (current .exit))))
-        ≡ fetchRooms s t z frame)) ⌝ }
-{
-    let n = delta_weights::up_to(waiting_frames, s.waiting, frame);
-    let num_frames = ivector_update::update_rooms(
-        s.info,
-        s.accepted,
-        s.delta_weights_provided,
-        s.num_frames_stats,
-        frame,
-        n,
-        waiting_frames,
-        waiting_weights,
-        gconsts,
-        means_invvars_t,
-        inv_vars_t,
-        sigma_inv_m,
-        u,
-        lda_t,
-        lda_offset,
-        global_mean_stats,
-        frames,
-        rows,
-        cmvn_stats,
-        s.num_frames,
-        linear,
-        quadratic,
-        current,
-        scratch,
-    );
-    delta_weights::remove_first(waiting_frames, waiting_weights, s.waiting, n);
-    let mut t = s;
-    t.num_frames_stats = frame + 1;
-    t.waiting = s.waiting - n;
-    t.num_frames = num_frames;
-    t
-}
-
-// The same, where `frame` may be in the statistics already: then nothing changes.
-fn bring_up(
-    s: IvectorStream,
-    frame: usize,
-    gconsts: &[f32],
-    means_invvars_t: &[f32],
-    inv_vars_t: &[f32],
-    sigma_inv_m: &[f64],
-    u: &[f64],
-    lda_t: &[f32],
-    lda_offset: &[f32],
-    global_mean_stats: &[f64],
-    frames: &[f32],
-    rows: &[f64],
-    waiting_frames: &mut [usize],
-    waiting_weights: &mut [f32],
-    cmvn_stats: &mut [f64],
-    linear: &mut [f64],
-    quadratic: &mut [f64],
-    current: &mut [f64],
-    scratch: &mut [f64],
-) -> IvectorStream
-    requires { ⌜ (
-        let t : Tables = tablesFrom (now gconsts) (now «means_invvars_t») (now «inv_vars_t») (now «sigma_inv_m») (now u) (now «lda_t») (now «lda_offset») (now «global_mean_stats») in
-        let z : Rooms = roomsFrom (ringsFrom (now frames) (now rows) (now «waiting_frames») (now «waiting_weights»)) (estimateFrom (now «cmvn_stats») (now linear) (now quadratic) (now current)) in
-        fetchRefusal s (tableLengthsOf t) (roomLengthsOf z (length (now scratch))) (now «waiting_frames») frame (s .info .dims .«ivector_dim») ≡ 0) ⌝ }
-    ensures { λ r. ⌜ (
-        let t : Tables = tablesFrom (now (gconsts .entry)) (now («means_invvars_t» .entry)) (now («inv_vars_t» .entry)) (now («sigma_inv_m» .entry))
-        (now (u .entry)) (now («lda_t» .entry)) (now («lda_offset» .entry)) (now («global_mean_stats» .entry)) in
-        let z : Rooms = roomsFrom (ringsFrom (now (frames .entry)) (now (rows .entry)) (now («waiting_frames» .entry)) (now («waiting_weights» .entry)))
-        (estimateFrom (now («cmvn_stats» .entry)) (now (linear .entry)) (now (quadratic .entry)) (now (current .entry))) in
-        (r ≡ fetchStream s t z frame)
-        × ((roomsFrom (ringsFrom (now (frames .entry)) (now (rows .entry)) (now («waiting_frames» .exit)) (now («waiting_weights» .exit)))
-        (estimateFrom (now («cmvn_stats» .exit)) (now (linear .exit)) (now (quadratic .exit)) (now (current .exit))))
-        ≡ fetchRooms s t z frame)) ⌝ }
-{
-    if frame < s.num_frames_stats {
-        return s;
-    }
-    catch_up(
-        s,
-        frame,
-        gconsts,
-        means_invvars_t,
-        inv_vars_t,
-        sigma_inv_m,
-        u,
-        lda_t,
-        lda_offset,
-        global_mean_stats,
-        frames,
-        rows,
-        waiting_frames,
-        waiting_weights,
-        cmvn_stats,
-        linear,
-        quadratic,
-        current,
-        scratch,
-    )
-}
-
-// The i-vector for `frame`: the statistics are brought up to that frame, the estimate is refreshed, and the prior is taken off
-// element 0. `out` takes the bits of its numbers. A refusal leaves every room as it was; scratch is free once a fetch is taken.
+// The i-vector for `frame`: where that frame is not in the statistics yet, they are brought up to it, the estimate is refreshed and the
+// changes that were used wait no longer; the prior is taken off element 0. `out` takes the bits of its numbers. A refusal leaves every
+// room as it was; scratch is free once a fetch is taken.
 pub fn get_frame(
     s: IvectorStream,
     frame: usize,
@@ -319,9 +186,21 @@ pub fn get_frame(
     if refusal != 0 {
         return ivector_stream::reply(refusal, s, 0);
     }
-    let t = bring_up(
-        s,
+    let i = s.info;
+    if frame < s.num_frames_stats {
+        let bad = write_vector(i.prior_offset, current, out.len(), out);
+        return ivector_stream::reply(0, s, bad);
+    }
+    let n = delta_weights::up_to(waiting_frames, s.waiting, frame);
+    let num_frames = ivector_update::update_rooms(
+        i,
+        s.accepted,
+        s.delta_weights_provided,
+        s.num_frames_stats,
         frame,
+        n,
+        waiting_frames,
+        waiting_weights,
         gconsts,
         means_invvars_t,
         inv_vars_t,
@@ -332,15 +211,18 @@ pub fn get_frame(
         global_mean_stats,
         frames,
         rows,
-        waiting_frames,
-        waiting_weights,
         cmvn_stats,
+        s.num_frames,
         linear,
         quadratic,
         current,
         scratch,
     );
-    let i = s.info;
+    delta_weights::remove_first(waiting_frames, waiting_weights, s.waiting, n);
+    let mut t = s;
+    t.num_frames_stats = frame + 1;
+    t.waiting = s.waiting - n;
+    t.num_frames = num_frames;
     let bad = write_vector(i.prior_offset, current, out.len(), out);
     ivector_stream::reply(0, t, bad)
 }

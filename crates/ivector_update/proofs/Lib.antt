@@ -1,5 +1,4 @@
--- Laws of a batch: its frames, its statistics, and the lent rooms.
-mod Turns
-mod Changed
+-- Laws of a batch: its places, its statistics, and the lent rooms.
+mod Places
 mod Updated
 mod Rooms

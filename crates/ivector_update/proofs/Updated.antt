@@ -1,8 +1,10 @@
 -- A batch's sums in the statistics, and the estimate after it. A frame's entries depend on no table but those of `viewTables`, and a batch that
 -- is not empty is accumulated as its entries are.
-use mathlib.Core.Path.{_≡_, refl, ap, subst, _∙_}
-use Prim.Native.Nat.{ℕ, zero, suc, _+_, _<_}
-use native.Mathlib.Nat.{not-suc-le-zero, suc-ne-zero}
+use mathlib.Core.Path.{_≡_, refl, ap, _∙_}
+use Prim.Native.Nat.{ℕ, zero, suc, _+_, _-_, _<_}
+use native.Mathlib.Nat.{not-suc-le-zero}
+use native.Mathlib.Omega.{arith}
+use mathlib.Core.Bool.{Bool}
 use mathlib.Core.List.{List, [], _∷_, map}
 use lib.ListN.{length}
 use lib.Ieee.{Float}
@@ -16,12 +18,14 @@ use Rattle.definition.specs.declared.Dimensions.{Dimensions}
 use Rattle.definition.specs.declared.FrameWeight.{FrameWeight}
 use Rattle.definition.specs.Model.{Tables, Model, model}
 use Rattle.definition.specs.Views.{Frames}
-use Rattle.definition.specs.Posteriors.{weighed}
+use Rattle.definition.specs.Posteriors.{weighed, unweighted}
 use Rattle.definition.specs.Statistics.{Entry, Stats, acc}
 use Rattle.definition.specs.Changes.{Change, merged, mergedFrom, Batch}
 use Rattle.definition.specs.Solve.{getIvector}
 use Rattle.definition.specs.Estimate.{Estimate, entries, accumulated, updated}
-use Rattle.ivector_update.specs.Steps.{run, changesBatch, viewTables, frameState, Ready}
+use Rattle.program.specs.Rooms.{waitingIn}
+use Rattle.program.proofs.WaitingRooms.{length-waiting}
+use Rattle.ivector_update.specs.Steps.{run, changesBatch, batchOf, batchLength, viewTables, frameState, Ready}
 
 -- what is asked of all tables is asked of those of a frame
 pub ready-view : {i : IvectorInfo} {t : Tables} → Ready i t → Ready i (viewTables (t .gconsts) (t .means-invvars-t) (t .inv-vars-t) (t .lda-t) (t .lda-offset) (t .global-mean-stats))
@@ -58,7 +62,7 @@ module _ (M : Model) where
     abbrev taken-in : Stats
     taken-in = acc d s sigma-inv-m u prior (opts .«max_count») es st
 
-    pub run-taken : (first : ℕ) (w : FrameWeight) (n : ℕ) → 0 < n → taken-in ≡ accumulated M (run first w n) es st
+    run-taken : (first : ℕ) (w : FrameWeight) (n : ℕ) → 0 < n → taken-in ≡ accumulated M (run first w n) es st
     unfolding accumulated build
     run-taken first w zero p = absurd (not-suc-le-zero p)
     run-taken first w (suc n) p = refl
@@ -71,15 +75,22 @@ module _ (M : Model) where
         (λ h. rw h (group-taken o (c .0) (w +₃₂ c .1) cs))
         (λ h. rw h refl)
 
-    pub changes-taken : (o : IvectorOptions) (cs : List Change) → 0 < length cs → taken-in ≡ accumulated M (changesBatch o cs) es st
+    changes-taken : (o : IvectorOptions) (cs : List Change) → 0 < length cs → taken-in ≡ accumulated M (changesBatch o cs) es st
     unfolding merged
     changes-taken o [] p = absurd (not-suc-le-zero p)
     changes-taken o (c ∷ cs) p = group-taken o (c .0) (c .1) cs
 
-    pub none-taken : (o : IvectorOptions) (cs : List Change) → length cs ≡ 0 → st ≡ accumulated M (changesBatch o cs) es st
-    unfolding merged accumulated
-    none-taken o [] p = refl
-    none-taken o (c ∷ cs) p = absurd (suc-ne-zero _ p)
+    pub batch-taken : (o : IvectorOptions) (called : Bool) (next f n : ℕ) (fs : List ℕ) (ws : List Float) → 0 < batchLength called next f n
+        → taken-in ≡ accumulated M (batchOf o called next f (waitingIn n fs ws)) es st
+    batch-taken o called next f n fs ws p =
+        by-test called
+        (λ h. rw h (changes-taken o (waitingIn n fs ws) (omega (arith, length-waiting n fs ws, rw h at p))))
+        (λ h. rw h (run-taken next (unweighted o) (f + 1 - next) (rw h at p)))
+
+    -- a batch of none
+    pub none-taken : {bs : Batch} → bs ≡ [] → st ≡ accumulated M bs es st
+    unfolding accumulated
+    none-taken e = rw e
 
   -- from the tables of a frame to all of them
   module _ (F : Frames) (c : List Float) {bs bs′ : Batch} (e : bs ≡ bs′) where
@@ -93,11 +104,9 @@ module _ (M : Model) where
         → taken-in (entries M F bs′ c .1) st ≡ accumulated M bs′ (entries M F bs′ c .1) st → x ≡ accumulated M bs′ (entries M F bs′ c .1) st
     stats-as st h g = h ∙ ap (λ (p : List Float × List Entry). taken-in (p .1) st) as-model ∙ g
 
-  -- no change, no frame
-  pub state-none : (F : Frames) (o : IvectorOptions) (cs : List Change) (c : List Float) → length cs ≡ 0 → c ≡ entries M F (changesBatch o cs) c .0
-  unfolding merged entries
-  state-none F o [] c p = refl
-  state-none F o (x ∷ cs) c p = absurd (suc-ne-zero _ p)
+  pub state-none : (F : Frames) (c : List Float) {bs : Batch} → bs ≡ [] → c ≡ entries M F bs c .0
+  unfolding entries
+  state-none F c e = rw e
 
   -- the estimate, by its parts
   pub estimated : (F : Frames) (bs : Batch) (e : Estimate) {c v : List Float} {st : Stats} → c ≡ entries M F bs (e .cmvn) .0
@@ -106,8 +115,3 @@ module _ (M : Model) where
       → (c ≡ updated M F bs e .cmvn) × (st ≡ updated M F bs e .stats) × (v ≡ updated M F bs e .current)
   unfolding updated
   estimated F bs e h g k = (h, g, k ∙ ap (λ (x : Stats). getIvector s prior (opts .«num_cg_iters») x (e .current)) g)
-
-  -- the same batch
-  pub same-batch : (F : Frames) (c : List Float) (st : Stats) {c′ : List Float} {st′ : Stats} {bs bs′ : Batch} → bs ≡ bs′
-      → (c′ ≡ entries M F bs c .0) × (st′ ≡ accumulated M bs (entries M F bs c .1) st) → (c′ ≡ entries M F bs′ c .0) × (st′ ≡ accumulated M bs′ (entries M F bs′ c .1) st)
-  same-batch F c st {c′} {st′} e h = subst (λ (b : Batch). (c′ ≡ entries M F b c .0) × (st′ ≡ accumulated M b (entries M F b c .1) st)) e h

@@ -1,9 +1,9 @@
 -- What inner functions ask and leave. Not for readers, but for `batchOf`.
 use Prim.Native.Nat.{ℕ, _+_, _-_, _*_, _≤_, _<_}
 use mathlib.Core.Path.{_≡_}
-use mathlib.Core.Bool.{Bool}
+use mathlib.Core.Bool.{Bool, true}
 use mathlib.Core.List.{List, [], _++_, map}
-use lib.ListN.{length}
+use lib.ListN.{length, getD, drop}
 use lib.Ieee.{Float}
 use Rattle.definition.specs.declared.IvectorInfo.{IvectorInfo}
 use Rattle.definition.specs.declared.IvectorOptions.{IvectorOptions}
@@ -17,6 +17,7 @@ use Rattle.definition.specs.Statistics.{Entry}
 use Rattle.definition.specs.Changes.{Change, merged, Batch}
 use Rattle.definition.specs.Estimate.{entries}
 use Rattle.loops.specs.Lists.{if_then_else_, build}
+use Rattle.program.specs.Rooms.{waitingIn}
 use Rattle.batch_sums.specs.Batch.{entryOf, Sums}
 
 -- ---- the batch
@@ -32,6 +33,22 @@ changesBatch o cs = map (λ d. (d .0, weighed o (d .1))) (merged cs)
 -- what a fetch of f brings in, cs being the changes up to f
 abbrev pub batchOf : IvectorOptions → Bool → ℕ → ℕ → List Change → Batch
 batchOf o called next f cs = if called then changesBatch o cs else run next (unweighted o) (f + 1 - next)
+
+-- the batch place by place: a place for each frame, or for each of n waiting changes
+abbrev pub batchLength : Bool → ℕ → ℕ → ℕ → ℕ
+batchLength called next f n = if called then n else f + 1 - next
+
+-- the frame at place j
+abbrev pub frameAt : Bool → ℕ → List ℕ → ℕ → ℕ
+frameAt called next fs j = if called then getD fs j 0 else next + j
+
+-- what a batch of n places has from place j on
+abbrev pub batchFrom : IvectorOptions → Bool → ℕ → ℕ → List ℕ → List Float → ℕ → Batch
+batchFrom o called next n fs ws j = if called then changesBatch o (drop j (waitingIn n fs ws)) else run (next + j) (unweighted o) (n - j)
+
+-- n changes wait, where the batch is theirs
+abbrev pub Lined : Bool → ℕ → List ℕ → List Float → Type 0
+Lined called n fs ws = called ≡ true → (n ≤ length fs) × (n ≤ length ws)
 
 -- ---- a frame
 

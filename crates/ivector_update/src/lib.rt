@@ -2,14 +2,14 @@
 // i-vector is solved for.
 use definition::FrameWeight;
 use definition::IvectorInfo;
+use definition::IvectorOptions;
 ghost use mathlib.Core.Path.{_≡_};
 ghost use mathlib.Core.Bool.{true};
-ghost use mathlib.Core.List.{List, _++_};
+ghost use mathlib.Core.List.{List, _∷_, _++_};
 ghost use Prim.Native.Nat.{ℕ, _+_, _≤_, _<_};
 ghost use lib.ListN.{length, getD};
 ghost use Rattle.definition.specs.Model.{Tables, tablesFrom, tableLengthsOf, tablesFit, Model, model, modelIn};
 ghost use Rattle.definition.specs.Views.{Frames};
-ghost use Rattle.definition.specs.Posteriors.{unweighted};
 ghost use Rattle.definition.specs.Statistics.{Entry};
 ghost use Rattle.definition.specs.Changes.{Batch};
 ghost use Rattle.definition.specs.Estimate.{Estimate, entries, accumulated, updated};
@@ -19,10 +19,11 @@ ghost use Rattle.program.specs.Calls.{overEstimate};
 ghost use Rattle.frame_views.specs.Rows.{Lent};
 ghost use Rattle.batch_sums.specs.Batch.{Slots, Sums};
 ghost use Rattle.ivector_stats.specs.Steps.{statsIn};
-ghost use Rattle.ivector_update.specs.Steps.{run, changesBatch, batchOf, viewTables, frameState, frameEntries, Ready, Solvable};
+ghost use Rattle.ivector_update.specs.Steps.{batchOf, batchLength, frameAt, batchFrom, Lined, viewTables, frameState, frameEntries, Ready, Solvable};
 
-// Frame t of a batch, in rooms for its normalised and its raw features.
-fn take_frame_in(
+// Frame t of a batch goes into the batch's sums, by way of rooms for its normalised and its raw features; m and the answer: how many
+// Gaussians were seen. A skipped one is fetched all the same.
+fn take_frame(
     info: IvectorInfo,
     accepted: usize,
     t: usize,
@@ -107,134 +108,60 @@ fn take_frame_in(
     )
 }
 
-// Frame t of a batch goes into the batch's sums; m and the answer: how many Gaussians were seen. A skipped one is fetched all the same.
-fn take_frame(
-    info: IvectorInfo,
-    accepted: usize,
-    t: usize,
-    weight: FrameWeight,
-    gconsts: &[f32],
-    means_invvars_t: &[f32],
-    inv_vars_t: &[f32],
-    lda_t: &[f32],
-    lda_offset: &[f32],
-    global: &[f64],
-    frames: &[f32],
-    rows: &[f64],
-    cmvn: &mut [f64],
-    m: usize,
-    seen: &mut [usize],
-    tot: &mut [f64],
-    sum: &mut [f64],
-) -> usize
-    requires { ⌜ Lent (info .dims .«base_dim») accepted (now global) (now frames) (now rows) (now cmvn) ⌝ }
-    requires { ⌜ Ready info (viewTables (now gconsts) (now «means_invvars_t») (now «inv_vars_t») (now «lda_t») (now «lda_offset») (now global)) ⌝ }
-    requires { ⌜ (t < accepted) × Slots (info .dims .«num_gauss») (info .dims .«feat_dim») m (now seen) (now tot) (now sum) ⌝ }
-    ensures { λ r. ⌜ (
-        let M : Model = model info (viewTables (now (gconsts .entry)) (now («means_invvars_t» .entry)) (now («inv_vars_t» .entry)) (now («lda_t» .entry)) (now («lda_offset» .entry)) (now (global .entry))) in
-        let F : Frames = ringFrames (info .dims .«base_dim») accepted (now (frames .entry)) (now (rows .entry)) in
-        let d = info .dims .«feat_dim» in
-        (now (cmvn .exit) ≡ frameState M F t (now (cmvn .entry)))
-        × Slots (info .dims .«num_gauss») d r (now (seen .exit)) (now (tot .exit)) (now (sum .exit))
-        × ((es : List Entry) → Sums d es m (now (seen .entry)) (now (tot .entry)) (now (sum .entry))
-        → Sums d (es ++ frameEntries M F t weight (now (cmvn .entry))) r (now (seen .exit)) (now (tot .exit)) (now (sum .exit)))) ⌝ }
-{
-    let mut normalized = [0.0f32; 64];
-    let mut raw = [0.0f32; 64];
-    let dims = info.dims;
-    let d = dims.feat_dim;
-    take_frame_in(
-        info,
-        accepted,
-        t,
-        weight,
-        gconsts,
-        means_invvars_t,
-        inv_vars_t,
-        lda_t,
-        lda_offset,
-        global,
-        frames,
-        rows,
-        cmvn,
-        &mut normalized[..d],
-        &mut raw[..d],
-        m,
-        seen,
-        tot,
-        sum,
-    )
+// A frame of a batch, its weight, and the place behind it.
+pub struct BatchFrame {
+    pub frame: usize,
+    pub weight: FrameWeight,
+    pub end: usize,
 }
 
-// n frames from `first` on, each of the same weight, go into the sums of a batch that has none yet.
-fn take_run(
-    info: IvectorInfo,
-    accepted: usize,
-    first: usize,
-    n: usize,
-    weight: FrameWeight,
-    gconsts: &[f32],
-    means_invvars_t: &[f32],
-    inv_vars_t: &[f32],
-    lda_t: &[f32],
-    lda_offset: &[f32],
-    global: &[f64],
-    frames: &[f32],
-    rows: &[f64],
-    cmvn: &mut [f64],
-    seen: &mut [usize],
-    tot: &mut [f64],
-    sum: &mut [f64],
-) -> usize
-    requires { ⌜ Lent (info .dims .«base_dim») accepted (now global) (now frames) (now rows) (now cmvn) ⌝ }
-    requires { ⌜ Ready info (viewTables (now gconsts) (now «means_invvars_t») (now «inv_vars_t») (now «lda_t») (now «lda_offset») (now global)) ⌝ }
-    requires { ⌜ (first + n ≤ accepted) × Slots (info .dims .«num_gauss») (info .dims .«feat_dim») 0 (now seen) (now tot) (now sum) ⌝ }
-    ensures { λ r. ⌜ (
-        let M : Model = model info (viewTables (now (gconsts .entry)) (now («means_invvars_t» .entry)) (now («inv_vars_t» .entry)) (now («lda_t» .entry)) (now («lda_offset» .entry)) (now (global .entry))) in
-        let F : Frames = ringFrames (info .dims .«base_dim») accepted (now (frames .entry)) (now (rows .entry)) in
-        let d = info .dims .«feat_dim» in
-        let x = entries M F (run first weight n) (now (cmvn .entry)) in
-        (now (cmvn .exit) ≡ x .0)
-        × Slots (info .dims .«num_gauss») d r (now (seen .exit)) (now (tot .exit)) (now (sum .exit))
-        × Sums d (x .1) r (now (seen .exit)) (now (tot .exit)) (now (sum .exit))) ⌝ }
+// How many places a batch has that a fetch of f brings in: one for each frame from `next` to f, or, once a change call was taken, one for
+// each of the n waiting changes.
+fn batch_length(called: bool, next: usize, f: usize, n: usize) -> usize
+    requires { ⌜ (next ≤ f) × (f < 1000000000) ⌝ }
+    ensures { λ r. ⌜ r ≡ batchLength called next f n ⌝ }
 {
-    let mut m = 0;
-    for i in 0..n {
-        m = take_frame(
-            info,
-            accepted,
-            first + i,
-            weight,
-            gconsts,
-            means_invvars_t,
-            inv_vars_t,
-            lda_t,
-            lda_offset,
-            global,
-            frames,
-            rows,
-            cmvn,
-            m,
-            seen,
-            tot,
-            sum,
-        );
+    if called {
+        return n;
     }
-    m
+    f + 1 - next
 }
 
-// The frame of waiting change j.
-fn change_frame(waiting_frames: &[usize], j: usize) -> usize
-    requires { ⌜ j < length (now «waiting_frames») ⌝ }
-    ensures { λ r. ⌜ r ≡ getD (now («waiting_frames» .entry)) j 0 ⌝ }
+// The frame at place j of a batch of n places: frame next + j, unweighted, or that of waiting change j, weighed by the sum of its own.
+fn batch_frame(
+    o: IvectorOptions,
+    called: bool,
+    next: usize,
+    n: usize,
+    waiting_frames: &[usize],
+    waiting_weights: &[f32],
+    j: usize,
+) -> BatchFrame
+    requires { ⌜ (j < n) × Lined called n (now «waiting_frames») (now «waiting_weights») × (frameAt called next (now «waiting_frames») j < 1000000000) ⌝ }
+    ensures { λ r. ⌜ (
+        let left : ℕ → Batch = batchFrom o called next n (now («waiting_frames» .entry)) (now («waiting_weights» .entry)) in
+        (r .frame ≡ frameAt called next (now («waiting_frames» .entry)) j) × (j < r .end) × (r .end ≤ n)
+        × (left j ≡ (r .frame, r .weight) ∷ left (r .end))) ⌝ }
 {
-    waiting_frames[j]
+    if called {
+        let group = delta_weights::sum_group(waiting_frames, waiting_weights, n, j);
+        let weight = diag_gmm::weighed(o, group.weight);
+        let frame = waiting_frames[j];
+        let end = group.end;
+        return BatchFrame { frame, weight, end };
+    }
+    let weight = diag_gmm::unweighted(o);
+    let frame = next + j;
+    let end = j + 1;
+    BatchFrame { frame, weight, end }
 }
 
-// The frames of the first n waiting changes, each weighed by the sum of its own, go into the sums of a batch that has none yet.
-fn take_changes(
+// The frames of a batch of n places go into the sums of a batch that has none yet.
+fn take_batch(
     info: IvectorInfo,
     accepted: usize,
+    called: bool,
+    next: usize,
     n: usize,
     waiting_frames: &[usize],
     waiting_weights: &[f32],
@@ -247,19 +174,22 @@ fn take_changes(
     frames: &[f32],
     rows: &[f64],
     cmvn: &mut [f64],
+    normalized: &mut [f32],
+    raw: &mut [f32],
     seen: &mut [usize],
     tot: &mut [f64],
     sum: &mut [f64],
 ) -> usize
     requires { ⌜ Lent (info .dims .«base_dim») accepted (now global) (now frames) (now rows) (now cmvn) ⌝ }
     requires { ⌜ Ready info (viewTables (now gconsts) (now «means_invvars_t») (now «inv_vars_t») (now «lda_t») (now «lda_offset») (now global)) ⌝ }
-    requires { ⌜ (n ≤ length (now «waiting_frames»)) × (n ≤ length (now «waiting_weights»)) × ((k : ℕ) → k < n → getD (now «waiting_frames») k 0 < accepted)
+    requires { ⌜ Lined called n (now «waiting_frames») (now «waiting_weights») × ((j : ℕ) → j < n → frameAt called next (now «waiting_frames») j < accepted)
+        × (length (now normalized) ≡ info .dims .«feat_dim») × (length (now raw) ≡ info .dims .«feat_dim»)
         × Slots (info .dims .«num_gauss») (info .dims .«feat_dim») 0 (now seen) (now tot) (now sum) ⌝ }
     ensures { λ r. ⌜ (
         let M : Model = model info (viewTables (now (gconsts .entry)) (now («means_invvars_t» .entry)) (now («inv_vars_t» .entry)) (now («lda_t» .entry)) (now («lda_offset» .entry)) (now (global .entry))) in
         let F : Frames = ringFrames (info .dims .«base_dim») accepted (now (frames .entry)) (now (rows .entry)) in
         let d = info .dims .«feat_dim» in
-        let x = entries M F (changesBatch (info .opts) (waitingIn n (now («waiting_frames» .entry)) (now («waiting_weights» .entry)))) (now (cmvn .entry)) in
+        let x = entries M F (batchFrom (info .opts) called next n (now («waiting_frames» .entry)) (now («waiting_weights» .entry)) 0) (now (cmvn .entry)) in
         (now (cmvn .exit) ≡ x .0)
         × Slots (info .dims .«num_gauss») d r (now (seen .exit)) (now (tot .exit)) (now (sum .exit))
         × Sums d (x .1) r (now (seen .exit)) (now (tot .exit)) (now (sum .exit))) ⌝ }
@@ -268,13 +198,12 @@ fn take_changes(
     let mut m = 0;
     let mut j = 0;
     while j < n {
-        let group = delta_weights::sum_group(waiting_frames, waiting_weights, n, j);
-        let weight = diag_gmm::weighed(o, group.weight);
-        let t = change_frame(waiting_frames, j);
+        let b = batch_frame(o, called, next, n, waiting_frames, waiting_weights, j);
+        let weight = b.weight;
         m = take_frame(
             info,
             accepted,
-            t,
+            b.frame,
             weight,
             gconsts,
             means_invvars_t,
@@ -285,175 +214,20 @@ fn take_changes(
             frames,
             rows,
             cmvn,
+            normalized,
+            raw,
             m,
             seen,
             tot,
             sum,
         );
-        j = group.end;
+        j = b.end;
     }
     m
 }
 
-// n frames from `first` on, unweighted, go into the statistics. The answer is the frame count.
-fn acc_run(
-    info: IvectorInfo,
-    accepted: usize,
-    first: usize,
-    n: usize,
-    gconsts: &[f32],
-    means_invvars_t: &[f32],
-    inv_vars_t: &[f32],
-    sigma_inv_m: &[f64],
-    u: &[f64],
-    lda_t: &[f32],
-    lda_offset: &[f32],
-    global: &[f64],
-    frames: &[f32],
-    rows: &[f64],
-    cmvn: &mut [f64],
-    num_frames: f64,
-    linear: &mut [f64],
-    quadratic: &mut [f64],
-    scratch: &mut [f64],
-) -> f64
-    requires { ⌜ Lent (info .dims .«base_dim») accepted (now global) (now frames) (now rows) (now cmvn) ⌝ }
-    requires { ⌜ (
-        let t : Tables = tablesFrom (now gconsts) (now «means_invvars_t») (now «inv_vars_t») (now «sigma_inv_m») (now u) (now «lda_t») (now «lda_offset») (now global) in
-        Ready info t × Solvable info t (now linear) (now quadratic) (length (now scratch))) ⌝ }
-    requires { ⌜ (first + n ≤ accepted) × (0 < n) ⌝ }
-    ensures { λ r. ⌜ (
-        let M : Model = model info (tablesFrom (now (gconsts .entry)) (now («means_invvars_t» .entry)) (now («inv_vars_t» .entry)) (now («sigma_inv_m» .entry)) (now (u .entry)) (now («lda_t» .entry)) (now («lda_offset» .entry)) (now (global .entry))) in
-        let F : Frames = ringFrames (info .dims .«base_dim») accepted (now (frames .entry)) (now (rows .entry)) in
-        let bs : Batch = run first (unweighted (info .opts)) n in
-        let x = entries M F bs (now (cmvn .entry)) in
-        (now (cmvn .exit) ≡ x .0)
-        × (statsIn r (now (linear .exit)) (now (quadratic .exit)) ≡ accumulated M bs (x .1) (statsIn «num_frames» (now (linear .entry)) (now (quadratic .entry))))) ⌝ }
-{
-    let mut seen = [0usize; 1024];
-    let mut tot = [0.0f64; 1024];
-    let o = info.opts;
-    let dims = info.dims;
-    let weight = diag_gmm::unweighted(o);
-    let m = take_run(
-        info,
-        accepted,
-        first,
-        n,
-        weight,
-        gconsts,
-        means_invvars_t,
-        inv_vars_t,
-        lda_t,
-        lda_offset,
-        global,
-        frames,
-        rows,
-        cmvn,
-        &mut seen,
-        &mut tot,
-        scratch,
-    );
-    ivector_stats::acc(
-        o,
-        dims.feat_dim,
-        dims.ivector_dim,
-        info.prior_offset,
-        sigma_inv_m,
-        u,
-        dims.num_gauss,
-        m,
-        &seen,
-        &tot,
-        scratch,
-        num_frames,
-        linear,
-        quadratic,
-    )
-}
-
-// The frames of the first n waiting changes go into the statistics. Where there are none, nothing is added.
-fn acc_changes(
-    info: IvectorInfo,
-    accepted: usize,
-    n: usize,
-    waiting_frames: &[usize],
-    waiting_weights: &[f32],
-    gconsts: &[f32],
-    means_invvars_t: &[f32],
-    inv_vars_t: &[f32],
-    sigma_inv_m: &[f64],
-    u: &[f64],
-    lda_t: &[f32],
-    lda_offset: &[f32],
-    global: &[f64],
-    frames: &[f32],
-    rows: &[f64],
-    cmvn: &mut [f64],
-    num_frames: f64,
-    linear: &mut [f64],
-    quadratic: &mut [f64],
-    scratch: &mut [f64],
-) -> f64
-    requires { ⌜ Lent (info .dims .«base_dim») accepted (now global) (now frames) (now rows) (now cmvn) ⌝ }
-    requires { ⌜ (
-        let t : Tables = tablesFrom (now gconsts) (now «means_invvars_t») (now «inv_vars_t») (now «sigma_inv_m») (now u) (now «lda_t») (now «lda_offset») (now global) in
-        Ready info t × Solvable info t (now linear) (now quadratic) (length (now scratch))) ⌝ }
-    requires { ⌜ (n ≤ length (now «waiting_frames»)) × (n ≤ length (now «waiting_weights»)) × ((k : ℕ) → k < n → getD (now «waiting_frames») k 0 < accepted) ⌝ }
-    ensures { λ r. ⌜ (
-        let M : Model = model info (tablesFrom (now (gconsts .entry)) (now («means_invvars_t» .entry)) (now («inv_vars_t» .entry)) (now («sigma_inv_m» .entry)) (now (u .entry)) (now («lda_t» .entry)) (now («lda_offset» .entry)) (now (global .entry))) in
-        let F : Frames = ringFrames (info .dims .«base_dim») accepted (now (frames .entry)) (now (rows .entry)) in
-        let bs : Batch = changesBatch (info .opts) (waitingIn n (now («waiting_frames» .entry)) (now («waiting_weights» .entry))) in
-        let x = entries M F bs (now (cmvn .entry)) in
-        (now (cmvn .exit) ≡ x .0)
-        × (statsIn r (now (linear .exit)) (now (quadratic .exit)) ≡ accumulated M bs (x .1) (statsIn «num_frames» (now (linear .entry)) (now (quadratic .entry))))) ⌝ }
-{
-    if n == 0 {
-        return num_frames;
-    }
-    let mut seen = [0usize; 1024];
-    let mut tot = [0.0f64; 1024];
-    let o = info.opts;
-    let dims = info.dims;
-    let m = take_changes(
-        info,
-        accepted,
-        n,
-        waiting_frames,
-        waiting_weights,
-        gconsts,
-        means_invvars_t,
-        inv_vars_t,
-        lda_t,
-        lda_offset,
-        global,
-        frames,
-        rows,
-        cmvn,
-        &mut seen,
-        &mut tot,
-        scratch,
-    );
-    ivector_stats::acc(
-        o,
-        dims.feat_dim,
-        dims.ivector_dim,
-        info.prior_offset,
-        sigma_inv_m,
-        u,
-        dims.num_gauss,
-        m,
-        &seen,
-        &tot,
-        scratch,
-        num_frames,
-        linear,
-        quadratic,
-    )
-}
-
 // What a fetch of f brings in goes into the statistics: frames next .. f, or, once a change call was taken, those of the first n
-// waiting changes.
+// waiting changes. Where there are none, nothing is added. The answer is the frame count.
 fn acc_until(
     info: IvectorInfo,
     accepted: usize,
@@ -492,50 +266,55 @@ fn acc_until(
         (now (cmvn .exit) ≡ x .0)
         × (statsIn r (now (linear .exit)) (now (quadratic .exit)) ≡ accumulated M bs (x .1) (statsIn «num_frames» (now (linear .entry)) (now (quadratic .entry))))) ⌝ }
 {
-    if called {
-        return acc_changes(
-            info,
-            accepted,
-            n,
-            waiting_frames,
-            waiting_weights,
-            gconsts,
-            means_invvars_t,
-            inv_vars_t,
-            sigma_inv_m,
-            u,
-            lda_t,
-            lda_offset,
-            global,
-            frames,
-            rows,
-            cmvn,
-            num_frames,
-            linear,
-            quadratic,
-            scratch,
-        );
+    let places = batch_length(called, next, f, n);
+    if places == 0 {
+        return num_frames;
     }
-    acc_run(
+    let mut normalized = [0.0f32; 64];
+    let mut raw = [0.0f32; 64];
+    let mut seen = [0usize; 1024];
+    let mut tot = [0.0f64; 1024];
+    let o = info.opts;
+    let dims = info.dims;
+    let d = dims.feat_dim;
+    let m = take_batch(
         info,
         accepted,
+        called,
         next,
-        f + 1 - next,
+        places,
+        waiting_frames,
+        waiting_weights,
         gconsts,
         means_invvars_t,
         inv_vars_t,
-        sigma_inv_m,
-        u,
         lda_t,
         lda_offset,
         global,
         frames,
         rows,
         cmvn,
+        &mut normalized[..d],
+        &mut raw[..d],
+        &mut seen,
+        &mut tot,
+        scratch,
+    );
+    ivector_stats::acc(
+        o,
+        d,
+        dims.ivector_dim,
+        info.prior_offset,
+        sigma_inv_m,
+        u,
+        dims.num_gauss,
+        m,
+        &seen,
+        &tot,
+        scratch,
         num_frames,
         linear,
         quadratic,
-        scratch,
     )
 }
 

@@ -1,5 +1,6 @@
--- What is left of a list of calls after one of them: call i as code reads it, its answer written, and the invariant of the loop over the list.
-use mathlib.Core.Path.{_≡_, refl, sym, ap, ap₂, subst, _∙_}
+-- What is left of a list of calls after one of them: a call as code plays it (`ring-turned`, `fetch-turned`), its answer written, and the invariant
+-- `Left` of the loop over the list, which holds at first, after a call more, and says all at the end.
+use mathlib.Core.Path.{_≡_, refl, sym, ap, ap₂, _∙_}
 use mathlib.Core.List.{List, [], _∷_, _++_}
 use Prim.Native.Nat.{ℕ, _+_, _-_, _*_, _≤_, _<_, min, max}
 use native.Mathlib.Omega.{arith}
@@ -19,81 +20,93 @@ use Rattle.program.specs.Rooms.{Rings, Rooms, roomsFrom}
 use Rattle.program.specs.Calls.{ringCall, doneOn, fetchCall, fetchedOn, getFrame}
 use Rattle.program.specs.Session.{Program, program, stepped, stepOf, reply, programAfter, programAnswers}
 use Rattle.run_calls.specs.Listed.{part, ofKind, callAt, calls, numbersOf, Written, written, write, writes}
-use Rattle.run_calls.specs.Turns.{ringStepOf, Turned}
+use Rattle.run_calls.specs.Turns.{codedAt, decoded, ringStepOf, Turned}
+use Rattle.run_calls.specs.declared.CodedCall.{CodedCall}
 use Rattle.run_calls.proofs.Cut.{cut-ends, cut-length, put-nothing, over-nothing, lent-back}
 use Rattle.run_calls.proofs.Branches.{Called, called-rings, called-fetch}
 
--- ---- call i as code reads it, and its answer written
+-- ---- a call as code plays it
+
+module _ (t : Tables) (n : ℕ) (p : Program) (c c′ : Call) (b : ℕ) (outs : List ℕ) (r : StreamCall) (z : Rooms) (out out′ : List ℕ) where
+  turned : {outs′ : List ℕ} → c ≡ c′ → Called t n p c r z out out′
+      → outs′ ≡ put (min b (length outs)) (reply p (stepOf t n p c) .vector) outs
+      → Turned t n p c′ b outs r z outs′
+  turned e h g =
+      record {
+        step = ap (λ (c : Call). stepped p (stepOf t n p c)) (sym e) ∙ h .step;
+        told-is = ap (λ (c : Call). reply p (stepOf t n p c) .told) (sym e) ∙ h .told-is;
+        outs-are = g ∙ ap (λ (c : Call). put (min b (length outs)) (reply p (stepOf t n p c) .vector) outs) e;
+      }
+
+module _ (k : CodedCall) (lists : List ℕ) (samples : List Float) (t : Tables) (n : ℕ) (st : IvectorStream) (z : Rooms) (outs : List ℕ) where
+  open CodedCall k using (kind, a, b, c, d)
+
+  abbrev this : Call
+  this = decoded k lists samples (length outs)
+
+  -- where its output begins
+  abbrev start : ℕ
+  start = min b (length outs)
+
+  call-is : {m : ℕ} {x ws : List Float} {fs : List ℕ} → x ≡ part a b samples → fs ≡ part a b lists → ws ≡ part c d samples
+      → m ≡ min (c - b) (length outs - b) → ofKind kind a x fs ws m ≡ this
+  unfolding decoded
+  call-is p q r s = rw (p, q, r, s)
+
+  pub ring-turned : {r : StreamCall} {w : Rings} {fs : List ℕ} {x ws : List Float} → kind < 4
+      → x ≡ part a b samples → fs ≡ part a b lists → ws ≡ part c d samples
+      → ringCall r w ≡ doneOn st (z .rings) (ringStepOf st (z .rings) (ofKind kind a x fs ws 0))
+      → Turned t n (program st z) this b outs r (roomsFrom w (z .estimate)) outs
+  ring-turned {r} {w} {fs} {x} {ws} h p q v e =
+      let m : ℕ = min (c - b) (length outs - b) in
+      let y : Rooms = roomsFrom w (z .estimate) in
+      let o : Call = ofKind kind a x fs ws m in
+      let g : Called t n (program st z) o r y [] [] = called-rings a x fs ws t n st z kind m [] h e in
+      turned t n (program st z) o this b outs r y [] [] (call-is p q v refl) g
+      (put-nothing start outs ∙ ap (λ (v : List ℕ). put start v outs) (sym (over-nothing _ (g .output-is))))
+
+  pub fetch-turned : (from m to : ℕ) {r : StreamCall} {y : Rooms} {out : List ℕ} → let lent = take (to - from) (drop from outs) in
+      4 ≤ kind → from ≡ start → m ≡ min c (length outs) → to ≡ max from m
+      → length out ≡ length lent
+      → fetchCall r y out ≡ fetchedOn st z lent (getFrame st t z n a (length lent))
+      → Turned t n (program st z) this b outs r y (take from outs ++ (out ++ drop (to - from) (drop from outs)))
+  fetch-turned from m to {r} {y} {out} h f e g l q =
+      let lent : List ℕ = take (to - from) (drop from outs) in
+      let o : Call = ofKind kind a (part a b samples) (part a b lists) (part c d samples) (length lent) in
+      let w : Called t n (program st z) o r y lent out = called-fetch a (part a b samples) (part a b lists) (part c d samples) t n st z kind lent h q in
+      let v : List ℕ = reply (program st z) (stepOf t n (program st z) o) .vector in
+      let ends : (from ≤ to) × (to ≤ length outs) = cut-ends b c (length outs) from m to f e g in
+      let long : length lent ≡ min (c - b) (length outs - b) =
+      length-take-le (to - from) (drop from outs) (omega (arith, length-drop from outs)) ∙ cut-length b c (length outs) from m to f e g in
+      turned t n (program st z) o this b outs r y lent out (call-is refl refl refl long) w
+      (lent-back from (to - from) v outs l (w .output-is) ∙ ap (λ (j : ℕ). put j v outs) f)
+
+-- ---- call i, and its answer written
 
 -- the record s and the answers after a call that returned r
 abbrev Handed : ℕ → StreamCall → List ℕ → IvectorStream → List ℕ → Type 0
 Handed i r answers s answers′ = (s ≡ r .stream) × (answers′ ≡ put (i * 4) (numbersOf (r .answer)) answers)
 
-module _ (t : Tables) (n : ℕ) (numbers : List ℕ) (i : ℕ) (p : Program) (c c′ : Call) (answers outs : List ℕ) (r : StreamCall) (z : Rooms) (out out′ : List ℕ) where
-  turned : {s : IvectorStream} {answers′ outs′ : List ℕ} → c ≡ c′ → Called t n p c r z out out′ → Handed i r answers s answers′
-      → outs′ ≡ put (min (getD numbers (i * 4 + 1) 0) (length outs)) (reply p (stepOf t n p c) .vector) outs
-      → Turned t n numbers i p c′ (written answers outs) (program s z) (written answers′ outs′)
-  unfolding write
-  turned e h a b =
-      record {
-        step = ap (λ (c : Call). stepped p (stepOf t n p c)) (sym e) ∙ h .step ∙ ap (λ (s : IvectorStream). program s z) (sym (a .0));
-        wrote =
-            ap₂ written (a .1 ∙ ap (λ (a : StreamAnswer). put (i * 4) (numbersOf a) answers) (sym (h .told-is))) b
-            ∙ ap (λ (c : Call). write numbers i (reply p (stepOf t n p c)) (written answers outs)) e;
-      }
+module _ (kinds numbers lists : List ℕ) (samples : List Float) (i : ℕ) (t : Tables) (n : ℕ) (p : Program) (o : Written) where
+  call-at : {k : CodedCall} → k ≡ codedAt kinds numbers i → decoded k lists samples (length (o .outs)) ≡ callAt kinds numbers lists samples (length (o .outs)) i
+  unfolding decoded callAt
+  call-at e = ap (λ (k : CodedCall). decoded k lists samples (length (o .outs))) e
 
-module _ (kinds numbers lists : List ℕ) (samples : List Float) (i : ℕ) (t : Tables) (k : ℕ) (st : IvectorStream) (z : Rooms) (answers outs : List ℕ) where
-  abbrev kind : ℕ
-  kind = getD kinds i 0
+  module _ {k : CodedCall} (e : k ≡ codedAt kinds numbers i) {r : StreamCall} {y : Rooms} {outs′ answers′ : List ℕ} {s : IvectorStream}
+      (u : Turned t n p (decoded k lists samples (length (o .outs))) (k .b) (o .outs) r y outs′) (a : Handed i r (o .answers) s answers′) where
+    abbrev done : Call → Answer
+    done c = reply p (stepOf t n p c)
 
-  abbrev frame : ℕ
-  frame = getD numbers (i * 4) 0
+    step-on : stepped p (stepOf t n p (callAt kinds numbers lists samples (length (o .outs)) i)) ≡ program s y
+    step-on = ap (λ (c : Call). stepped p (stepOf t n p c)) (sym (call-at e)) ∙ u .step ∙ ap (λ (s : IvectorStream). program s y) (sym (a .0))
 
-  abbrev number : ℕ → ℕ
-  number j = getD numbers (i * 4 + j) 0
-
-  abbrev this : Call
-  this = callAt kinds numbers lists samples (length outs) i
-
-  -- where its output begins
-  abbrev start : ℕ
-  start = min (number 1) (length outs)
-
-  call-is : {m : ℕ} {x ws : List Float} {fs : List ℕ}
-      → x ≡ part frame (number 1) samples → fs ≡ part frame (number 1) lists → ws ≡ part (number 2) (number 3) samples
-      → m ≡ min (number 2 - number 1) (length outs - number 1) → ofKind kind frame x fs ws m ≡ this
-  unfolding callAt
-  call-is p q r s = rw (p, q, r, s)
-
-  pub ring-turned : {r : StreamCall} {w : Rings} {s : IvectorStream} {answers′ fs : List ℕ} {x ws : List Float} → kind < 4
-      → x ≡ part frame (number 1) samples → fs ≡ part frame (number 1) lists → ws ≡ part (number 2) (number 3) samples
-      → ringCall r w ≡ doneOn st (z .rings) (ringStepOf st (z .rings) (ofKind kind frame x fs ws 0))
-      → Handed i r answers s answers′
-      → Turned t k numbers i (program st z) this (written answers outs) (program s (roomsFrom w (z .estimate))) (written answers′ outs)
-  ring-turned {r} {w} {fs = fs} {x} {ws} h p q v e a =
-      let m : ℕ = min (number 2 - number 1) (length outs - number 1) in
-      let c : Called t k (program st z) (ofKind kind frame x fs ws m) r (roomsFrom w (z .estimate)) [] [] = called-rings frame x fs ws t k st z kind m [] h e in
-      turned t k numbers i (program st z) (ofKind kind frame x fs ws m) this answers outs r (roomsFrom w (z .estimate)) [] [] (call-is p q v refl) c a
-      (put-nothing start outs ∙ ap (λ (v : List ℕ). put start v outs) (sym (over-nothing _ (c .output-is))))
-
-  pub fetch-turned : (from m to : ℕ) {r : StreamCall} {y : Rooms} {s : IvectorStream} {answers′ out : List ℕ} → let lent = take (to - from) (drop from outs) in
-      4 ≤ kind → from ≡ start → m ≡ min (number 2) (length outs) → to ≡ max from m
-      → length out ≡ length lent
-      → fetchCall r y out ≡ fetchedOn st z lent (getFrame st t z k frame (length lent))
-      → Handed i r answers s answers′
-      → Turned t k numbers i (program st z) this (written answers outs) (program s y) (written answers′ (take from outs ++ (out ++ drop (to - from) (drop from outs))))
-  fetch-turned from m to {r} {y} {s} {answers′} {out} h f e g l d a =
-      let lent : List ℕ = take (to - from) (drop from outs) in
-      let x : List Float = part frame (number 1) samples in
-      let fs : List ℕ = part frame (number 1) lists in
-      let ws : List Float = part (number 2) (number 3) samples in
-      let c : Called t k (program st z) (ofKind kind frame x fs ws (length lent)) r y lent out = called-fetch frame x fs ws t k st z kind lent h d in
-      let v : List ℕ = reply (program st z) (stepOf t k (program st z) (ofKind kind frame x fs ws (length lent))) .vector in
-      let ends : (from ≤ to) × (to ≤ length outs) = cut-ends (number 1) (number 2) (length outs) from m to f e g in
-      let long : length lent ≡ min (number 2 - number 1) (length outs - number 1) =
-      length-take-le (to - from) (drop from outs) (omega (arith, length-drop from outs)) ∙ cut-length (number 1) (number 2) (length outs) from m to f e g in
-      turned t k numbers i (program st z) (ofKind kind frame x fs ws (length lent)) this answers outs r y lent out (call-is refl refl refl long) c a
-      (lent-back from (to - from) v outs l (c .output-is) ∙ ap (λ (j : ℕ). put j v outs) f)
+    wrote-on : written answers′ outs′ ≡ write numbers i (done (callAt kinds numbers lists samples (length (o .outs)) i)) o
+    unfolding write
+    wrote-on =
+        ap₂ written (a .1 ∙ ap (λ (x : StreamAnswer). put (i * 4) (numbersOf x) (o .answers)) (sym (u .told-is))) (u .outs-are)
+        ∙ ap₂
+        (λ (b : ℕ) (c : Call). written (put (i * 4) (numbersOf (done c .told)) (o .answers)) (put (min b (length (o .outs))) (done c .vector) (o .outs)))
+        (ap (λ (k : CodedCall). k .b) e) (call-at e)
 
 -- ---- the calls of a list
 
@@ -185,9 +198,7 @@ module _ (kinds numbers lists : List ℕ) (samples : List Float) (t : Tables) (p
   abbrev cs : List Call
   cs = calls kinds numbers lists samples (length (o₀ .outs))
 
-  abbrev callThere : ℕ → ℕ → Call
-  callThere k i = callAt kinds numbers lists samples k i
-
+  -- p₀ is the program at first, with scratch of n₀ numbers, and o₀ the rooms for answers
   pub record Left (i : ℕ) (p : Program) (n : ℕ) (o : Written) : Type 0 where
     pub at-most : i ≤ length kinds
     pub kept : Kept (p .rooms) n o (p₀ .rooms) n₀ o₀
@@ -197,25 +208,30 @@ module _ (kinds numbers lists : List ℕ) (samples : List Float) (t : Tables) (p
   pub left-first : Left 0 p₀ n₀ o₀
   left-first = record { at-most = omega arith; kept = kept-same (p₀ .rooms) n₀ o₀; same = refl; there = refl }
 
-  pub left-again : (i : ℕ) (p q : Program) (n m : ℕ) (o o′ : Written) → Left i p n o → i < length kinds
-      → Turned t n numbers i p (callThere (length (o .outs)) i) o q o′ → Kept (q .rooms) m o′ (p .rooms) n o → Left (i + 1) q m o′
-  left-again i p q n m o o′ l h u k =
-      let c : Call = callThere (length (o₀ .outs)) i in
-      let d : drop i cs ≡ c ∷ drop (i + 1) cs = calls-next kinds numbers lists samples (length (o₀ .outs)) i h in
-      let v : Turned t n₀ numbers i p c o q o′ =
-      subst (λ (k : ℕ). Turned t k numbers i p c o q o′) (l .kept .scratch-kept) (subst (λ (k : ℕ). Turned t n numbers i p (callThere k i) o q o′) (l .kept .outs-kept) u) in
-      record {
-        at-most = omega arith;
-        kept = kept-again k (l .kept);
-        same =
-            ap₂ (λ (q : Program) (o : Written). rest t n₀ numbers (i + 1) q (drop (i + 1) cs) o) (sym (v .step)) (v .wrote)
-            ∙ sym (ap (λ (ds : List Call). rest t n₀ numbers i p ds o) d ∙ one t n₀ numbers i p c o (drop (i + 1) cs))
-            ∙ l .same;
-        there =
-            ap (λ (q : Program). programAfter t n₀ q (drop (i + 1) cs)) (sym (v .step))
-            ∙ sym (ap (programAfter t n₀ p) d ∙ one-after t n₀ numbers p c (drop (i + 1) cs))
-            ∙ l .there;
-      }
+  module _ (i : ℕ) (p : Program) (n m : ℕ) (o : Written) {k : CodedCall} {r : StreamCall} {y : Rooms} {outs′ answers′ : List ℕ} {s : IvectorStream} where
+    pub left-again : Left i p n o → i < length kinds → k ≡ codedAt kinds numbers i
+        → Turned t n p (decoded k lists samples (length (o .outs))) (k .b) (o .outs) r y outs′ → Handed i r (o .answers) s answers′
+        → Kept y m (written answers′ outs′) (p .rooms) n o → Left (i + 1) (program s y) m (written answers′ outs′)
+    left-again l h e u a w =
+        let c : Call = callAt kinds numbers lists samples (length (o₀ .outs)) i in
+        let d : drop i cs ≡ c ∷ drop (i + 1) cs = calls-next kinds numbers lists samples (length (o₀ .outs)) i h in
+        let c-is : callAt kinds numbers lists samples (length (o .outs)) i ≡ c = ap (λ (j : ℕ). callAt kinds numbers lists samples j i) (l .kept .outs-kept) in
+        let next : stepped p (stepOf t n₀ p c) ≡ program s y =
+        ap₂ (λ (j : ℕ) (c : Call). stepped p (stepOf t j p c)) (sym (l .kept .scratch-kept)) (sym c-is) ∙ step-on kinds numbers lists samples i t n p o e u a in
+        let wrote : written answers′ outs′ ≡ write numbers i (reply p (stepOf t n₀ p c)) o =
+        wrote-on kinds numbers lists samples i t n p o e u a ∙ ap₂ (λ (j : ℕ) (c : Call). write numbers i (reply p (stepOf t j p c)) o) (l .kept .scratch-kept) c-is in
+        record {
+          at-most = omega arith;
+          kept = kept-again w (l .kept);
+          same =
+              ap₂ (λ (q : Program) (o : Written). rest t n₀ numbers (i + 1) q (drop (i + 1) cs) o) (sym next) wrote
+              ∙ sym (ap (λ (ds : List Call). rest t n₀ numbers i p ds o) d ∙ one t n₀ numbers i p c o (drop (i + 1) cs))
+              ∙ l .same;
+          there =
+              ap (λ (q : Program). programAfter t n₀ q (drop (i + 1) cs)) (sym next)
+              ∙ sym (ap (programAfter t n₀ p) d ∙ one-after t n₀ numbers p c (drop (i + 1) cs))
+              ∙ l .there;
+        }
 
   pub left-last : (i : ℕ) (p : Program) (n : ℕ) (o : Written) → Left i p n o → length kinds ≤ i
       → (o ≡ rest t n₀ numbers 0 p₀ cs o₀) × (p .rooms ≡ programAfter t n₀ p₀ cs .rooms)

@@ -1,6 +1,6 @@
 -- What a run leaves, by its three ways out: a list that is refused, a stream that is not made, and a list that is played. There the program's answers
 -- are the keeping machine's by `keeps`.
-use mathlib.Core.Path.{_≡_, sym, ap, _∙_}
+use mathlib.Core.Path.{_≡_, sym, ap, ap₂, _∙_}
 use mathlib.Core.List.{List}
 use Prim.Native.Nat.{ℕ, zero, suc, _*_, _/_, _≤_, _<_}
 use native.Mathlib.Nat.{div-mul-le-self, mul-le-mul-right}
@@ -17,7 +17,7 @@ use Rattle.definition.specs.Machine.{Call, Answer, answers}
 use Rattle.definition.specs.Stream.{newRefusal}
 use Rattle.program.specs.Rooms.{Rooms, ringLengthsOf, roomLengthsOf}
 use Rattle.program.specs.Calls.{callOf, freshStream, newAnswer, freshRooms}
-use Rattle.program.specs.Session.{program, programAfter, programAnswers}
+use Rattle.program.specs.Session.{Program, program, programAfter, programAnswers}
 use Rattle.program.proofs.Fresh.{made-stream}
 use Rattle.program.proofs.Keeps.{keeps}
 use Rattle.run_calls.specs.Listed.{Written, writes, listTests, listRefusal, runRefusal}
@@ -61,11 +61,14 @@ module _ (i : IvectorInfo) (t : Tables) (z : Rooms) (n : ℕ) (numbers : List �
   abbrev fresh : ℕ
   fresh = newRefusal i (tableLengthsOf t) (roomLengthsOf z n)
 
+  abbrev freshProgram : Program
+  freshProgram = program (freshStream i (roomLengthsOf z n)) (freshRooms i z)
+
   abbrev Ran : ℕ → Written → Rooms → Type 0
   Ran r o′ y =
       (r ≡ runRefusal i t z n k l m)
       × (o′ ≡ taken r (writes numbers 0 (answers (modelIn i t) (ringLengthsOf (z .rings)) cs) o) o)
-      × (y ≡ taken r (programAfter t n (program (freshStream i (roomLengthsOf z n)) (freshRooms i z)) cs .rooms) z)
+      × (y ≡ taken r (programAfter t n freshProgram cs .rooms) z)
 
   pub run-listed : {r : ℕ} → r ≡ listed → (r ≡ 0 → ⊥) → Ran r o z
   unfolding runRefusal
@@ -79,24 +82,23 @@ module _ (i : IvectorInfo) (t : Tables) (z : Rooms) (n : ℕ) (numbers : List �
         let h = made-refused fresh (callOf 0 (freshStream i (roomLengthsOf z n)) 0) r (sym new-is ∙ b) in
         ((h .0 ∙ sym (taken-new listed _ listed e), sym (taken-old r _ o (h .1)), y-is ∙ taken-old fresh _ z (λ x. h .1 (h .0 ∙ x)) ∙ sym (taken-old r _ z (h .1))), h .1)
 
-    -- a list that is played
-    module _ (s : StreamCall) (b : a ≡ N.Stream s) (o′ : Written) (x : Rooms)
-        (wrote : o′ ≡ writes numbers 0 (programAnswers t n (program (s .stream) y) cs) o) (left : x ≡ programAfter t n (program (s .stream) y) cs .rooms) where
+    -- a stream that is made: the program is the fresh one
+    module _ (s : StreamCall) (b : a ≡ N.Stream s) where
       made : (fresh ≡ 0) × (callOf 0 (freshStream i (roomLengthsOf z n)) 0 ≡ s)
       unfolding newAnswer
       made = made-stream fresh (callOf 0 (freshStream i (roomLengthsOf z n)) 0) s (sym new-is ∙ b)
 
-      rooms-are : y ≡ freshRooms i z
-      rooms-are = y-is ∙ taken-new fresh _ z (made .0)
+      made-fresh : program (s .stream) y ≡ freshProgram
+      made-fresh = ap₂ program (ap (λ (c : StreamCall). c .stream) (sym (made .1))) (y-is ∙ taken-new fresh _ z (made .0))
 
-      pub run-played : Ran 0 o′ x
+      -- and a list that is played
+      pub run-played : {o′ : Written} {x : Rooms}
+          → (o′ ≡ writes numbers 0 (programAnswers t n (program (s .stream) y) cs) o) × (x ≡ programAfter t n (program (s .stream) y) cs .rooms) → Ran 0 o′ x
       unfolding runRefusal
-      run-played = (
+      run-played (wrote, left) = (
         sym (taken-new listed _ listed e ∙ made .0),
         wrote
-            ∙ ap (λ (y : Rooms). writes numbers 0 (programAnswers t n (program (s .stream) y) cs) o) rooms-are
+            ∙ ap (λ (y : Rooms). writes numbers 0 (programAnswers t n (program (s .stream) y) cs) o) (y-is ∙ taken-new fresh _ z (made .0))
             ∙ ap (λ (l : List Answer). writes numbers 0 l o) (keeps i t z n s (sym new-is ∙ b) cs .1),
-        left
-            ∙ ap (λ (y : Rooms). programAfter t n (program (s .stream) y) cs .rooms) rooms-are
-            ∙ ap (λ (s : StreamCall). programAfter t n (program (s .stream) (freshRooms i z)) cs .rooms) (sym (made .1)),
+        left ∙ ap (λ (p : Program). programAfter t n p cs .rooms) made-fresh,
       )

@@ -14,9 +14,9 @@ ghost use Rattle.definition.specs.Machine as M;
 ghost use Rattle.definition.specs.Machine.{Call};
 ghost use Rattle.program.specs.Rooms.{Rings, ringsFrom, estimateFrom, Rooms, roomsFrom, ringLengthsOf, roomLengthsOf};
 ghost use Rattle.program.specs.Calls.{freshStream, freshRooms, ringCall, doneOn};
-ghost use Rattle.program.specs.Session.{Program, program, programAfter, programAnswers};
-ghost use Rattle.run_calls.specs.Listed.{part, ofKind, callAt, calls, numbersOf, Written, written, writes, listRefusal, runRefusal};
-ghost use Rattle.run_calls.specs.Turns.{ringStepOf, Turned};
+ghost use Rattle.program.specs.Session.{program, programAfter};
+ghost use Rattle.run_calls.specs.Listed.{part, ofKind, calls, numbersOf, Written, written, writes, runRefusal, listRefusal};
+ghost use Rattle.run_calls.specs.Turns.{codedAt, decoded, ringStepOf, Turned};
 
 // The numbers from index a to index b: none where a is past the end, cut where b is.
 fn sample_part(samples: &[f32], a: usize, b: usize) -> &[f32]
@@ -88,12 +88,33 @@ fn ring_call(
     ivector_stream::forget_before(s, frame, frames, rows, waiting_frames, waiting_weights)
 }
 
-// Call i of a list, and its answer written.
+// A call of a list: its kind and its four numbers.
+pub struct CodedCall {
+    pub kind: u8,
+    pub a: usize,
+    pub b: usize,
+    pub c: usize,
+    pub d: usize,
+}
+
+// Call i of a list.
+fn call_at(kinds: &[u8], numbers: &[usize], i: usize) -> CodedCall
+    requires { ⌜ (i < length (now kinds)) × (i * 4 + 4 ≤ length (now numbers)) ⌝ }
+    ensures { λ r. ⌜ r ≡ codedAt (now (kinds .entry)) (now (numbers .entry)) i ⌝ }
+{
+    let first = i * 4;
+    let kind = kinds[i];
+    let a = numbers[first];
+    let b = numbers[first + 1];
+    let c = numbers[first + 2];
+    let d = numbers[first + 3];
+    CodedCall { kind, a, b, c, d }
+}
+
+// A call of a list, played. The vector of a fetch goes to the part of `outs` that its numbers name.
 fn turn(
-    i: usize,
+    k: CodedCall,
     s: IvectorStream,
-    kinds: &[u8],
-    numbers: &[usize],
     lists: &[usize],
     samples: &[f32],
     gconsts: &[f32],
@@ -113,35 +134,26 @@ fn turn(
     quadratic: &mut [f64],
     current: &mut [f64],
     scratch: &mut [f64],
-    answers: &mut [usize],
     outs: &mut [u32],
-) -> IvectorStream
-    requires { ⌜ (i < length (now kinds)) × (i * 4 + 4 ≤ length (now numbers)) × (i * 4 + 4 ≤ length (now answers)) ⌝ }
+) -> StreamCall
     ensures { λ r. ⌜ (
         let t : Tables = tablesFrom (now (gconsts .entry)) (now («means_invvars_t» .entry)) (now («inv_vars_t» .entry)) (now («sigma_inv_m» .entry))
         (now (u .entry)) (now («lda_t» .entry)) (now («lda_offset» .entry)) (now («global_mean_stats» .entry)) in
         let z : Rooms = roomsFrom (ringsFrom (now (frames .entry)) (now (rows .entry)) (now («waiting_frames» .entry)) (now («waiting_weights» .entry)))
         (estimateFrom (now («cmvn_stats» .entry)) (now (linear .entry)) (now (quadratic .entry)) (now (current .entry))) in
-        let c : Call = callAt (now (kinds .entry)) (now (numbers .entry)) (now (lists .entry)) (now (samples .entry)) (length (now (outs .entry))) i in
         let y : Rooms = roomsFrom (ringsFrom (now (frames .exit)) (now (rows .exit)) (now («waiting_frames» .exit)) (now («waiting_weights» .exit)))
         (estimateFrom (now («cmvn_stats» .exit)) (now (linear .exit)) (now (quadratic .exit)) (now (current .exit))) in
-        Turned t (length (now (scratch .entry))) (now (numbers .entry)) i (program s z) c (written (now (answers .entry)) (now (outs .entry)))
-        (program r y) (written (now (answers .exit)) (now (outs .exit)))) ⌝ }
+        let c : Call = decoded k (now (lists .entry)) (now (samples .entry)) (length (now (outs .entry))) in
+        Turned t (length (now (scratch .entry))) (program s z) c (k .b) (now (outs .entry)) r y (now (outs .exit))) ⌝ }
 {
-    let first = i * 4;
-    let a = numbers[first];
-    let b = numbers[first + 1];
-    let c = numbers[first + 2];
-    let d = numbers[first + 3];
-    let kind = kinds[i];
-    if kind < 4 {
-        let x = sample_part(samples, a, b);
-        let delta_frames = frame_part(lists, a, b);
-        let delta_weights = sample_part(samples, c, d);
-        let r = ring_call(
+    if k.kind < 4 {
+        let x = sample_part(samples, k.a, k.b);
+        let delta_frames = frame_part(lists, k.a, k.b);
+        let delta_weights = sample_part(samples, k.c, k.d);
+        return ring_call(
             s,
-            kind,
-            a,
+            k.kind,
+            k.a,
             x,
             delta_frames,
             delta_weights,
@@ -150,13 +162,12 @@ fn turn(
             waiting_frames,
             waiting_weights,
         );
-        return put_answer(answers, first, r);
     }
-    let from = basics::smaller(b, outs.len());
-    let to = basics::larger(from, basics::smaller(c, outs.len()));
-    let r = ivector_fetch::get_frame(
+    let from = basics::smaller(k.b, outs.len());
+    let to = basics::larger(from, basics::smaller(k.c, outs.len()));
+    ivector_fetch::get_frame(
         s,
-        a,
+        k.a,
         gconsts,
         means_invvars_t,
         inv_vars_t,
@@ -175,82 +186,7 @@ fn turn(
         current,
         scratch,
         &mut outs[from..to],
-    );
-    put_answer(answers, first, r)
-}
-
-// A list, from its first call to its last.
-fn play(
-    fresh: StreamCall,
-    kinds: &[u8],
-    numbers: &[usize],
-    lists: &[usize],
-    samples: &[f32],
-    gconsts: &[f32],
-    means_invvars_t: &[f32],
-    inv_vars_t: &[f32],
-    sigma_inv_m: &[f64],
-    u: &[f64],
-    lda_t: &[f32],
-    lda_offset: &[f32],
-    global_mean_stats: &[f64],
-    frames: &mut [f32],
-    rows: &mut [f64],
-    waiting_frames: &mut [usize],
-    waiting_weights: &mut [f32],
-    cmvn_stats: &mut [f64],
-    linear: &mut [f64],
-    quadratic: &mut [f64],
-    current: &mut [f64],
-    scratch: &mut [f64],
-    answers: &mut [usize],
-    outs: &mut [u32],
-)
-    requires { ⌜ (length (now kinds) * 4 ≤ length (now numbers)) × (length (now kinds) * 4 ≤ length (now answers)) ⌝ }
-    ensures { λ _. ⌜ (
-        let t : Tables = tablesFrom (now (gconsts .entry)) (now («means_invvars_t» .entry)) (now («inv_vars_t» .entry)) (now («sigma_inv_m» .entry))
-        (now (u .entry)) (now («lda_t» .entry)) (now («lda_offset» .entry)) (now («global_mean_stats» .entry)) in
-        let p : Program = program (fresh .stream)
-        (roomsFrom (ringsFrom (now (frames .entry)) (now (rows .entry)) (now («waiting_frames» .entry)) (now («waiting_weights» .entry)))
-        (estimateFrom (now («cmvn_stats» .entry)) (now (linear .entry)) (now (quadratic .entry)) (now (current .entry)))) in
-        let n : ℕ = length (now (scratch .entry)) in
-        let cs : List Call = calls (now (kinds .entry)) (now (numbers .entry)) (now (lists .entry)) (now (samples .entry)) (length (now (outs .entry))) in
-        (written (now (answers .exit)) (now (outs .exit))
-        ≡ writes (now (numbers .entry)) 0 (programAnswers t n p cs) (written (now (answers .entry)) (now (outs .entry))))
-        × ((roomsFrom (ringsFrom (now (frames .exit)) (now (rows .exit)) (now («waiting_frames» .exit)) (now («waiting_weights» .exit)))
-        (estimateFrom (now («cmvn_stats» .exit)) (now (linear .exit)) (now (quadratic .exit)) (now (current .exit))))
-        ≡ programAfter t n p cs .rooms)) ⌝ }
-{
-    let mut t = fresh.stream;
-    for i in 0..kinds.len() {
-        t = turn(
-            i,
-            t,
-            kinds,
-            numbers,
-            lists,
-            samples,
-            gconsts,
-            means_invvars_t,
-            inv_vars_t,
-            sigma_inv_m,
-            u,
-            lda_t,
-            lda_offset,
-            global_mean_stats,
-            frames,
-            rows,
-            waiting_frames,
-            waiting_weights,
-            cmvn_stats,
-            linear,
-            quadratic,
-            current,
-            scratch,
-            answers,
-            outs,
-        );
-    }
+    )
 }
 
 // 99 where the numbers of n calls, or the room for their answers, are too short.
@@ -338,32 +274,35 @@ pub fn run(
     match made {
         NewStream::Refused(number) => number,
         NewStream::Stream(c) => {
-            play(
-                c,
-                kinds,
-                numbers,
-                lists,
-                samples,
-                gconsts,
-                means_invvars_t,
-                inv_vars_t,
-                sigma_inv_m,
-                u,
-                lda_t,
-                lda_offset,
-                global_mean_stats,
-                frames,
-                rows,
-                waiting_frames,
-                waiting_weights,
-                cmvn_stats,
-                linear,
-                quadratic,
-                current,
-                scratch,
-                answers,
-                outs,
-            );
+            let mut t = c.stream;
+            for i in 0..kinds.len() {
+                let k = call_at(kinds, numbers, i);
+                let r = turn(
+                    k,
+                    t,
+                    lists,
+                    samples,
+                    gconsts,
+                    means_invvars_t,
+                    inv_vars_t,
+                    sigma_inv_m,
+                    u,
+                    lda_t,
+                    lda_offset,
+                    global_mean_stats,
+                    frames,
+                    rows,
+                    waiting_frames,
+                    waiting_weights,
+                    cmvn_stats,
+                    linear,
+                    quadratic,
+                    current,
+                    scratch,
+                    outs,
+                );
+                t = put_answer(answers, i * 4, r);
+            }
             0
         }
     }

@@ -1,14 +1,19 @@
--- `acc_until` meets its contract: a branch takes the one batch or the other, as `batchOf` says.
+-- `acc_until` meets its contract: a batch of no place adds nothing; the sums of another go into the statistics. The sums are by the tables that a frame
+-- needs, the statistics by all of them (Updated.antt); that the places are those of `batchOf` is in Places.antt.
 use borrow.Author.Needs.{needs}
-use mathlib.Core.Path.{refl}
+use mathlib.Core.Path.{sym}
+use Prim.Native.Nat.{_<_}
 use native.Mathlib.Omega.{arith}
-use Rattle.loops.proofs.Choose.{choose-true, choose-false}
+use lib.Seq.{length-take-le}
 use Rattle.definition.specs.Model.{tablesFrom, Model, model}
 use Rattle.definition.specs.Views.{Frames}
 use Rattle.definition.specs.Statistics.{Stats}
 use Rattle.program.specs.Rooms.{ringFrames}
+use Rattle.batch_sums.proofs.Batches.{slots-none}
 use Rattle.ivector_stats.specs.Steps.{statsIn}
-use Rattle.ivector_update.proofs.Updated.{same-batch}
+use Rattle.ivector_update.specs.Steps.{batchLength}
+use Rattle.ivector_update.proofs.Places.{whole-batch, no-batch, lined, in-reach}
+use Rattle.ivector_update.proofs.Updated.{ready-view, batch-taken, none-taken, state-as, stats-as, state-none}
 use Rattle.ivector_update.proofs.acc_until.Statement.{statement}
 use Rattle.ivector_update.proofs.acc_until.Tie as tie
 
@@ -25,11 +30,73 @@ seen-frames c =
 abbrev stats : (c : tie.Start) → Stats
 stats c = statsIn (c .args .num-frames) (c .args .linear .now) (c .args .quadratic .now)
 
-acc-changes-requires : tie.Need-acc-changes-requires
-acc-changes-requires c κs =
-    let start = c .before .before .before .before .before .before .before .before .before .before .before .before .before .before .before .before .before .before .before .before .before in
-    let (lends, (fit, (_, _, frames-in, weights-in, below))) = start .pre in
-    (lends, (fit, (frames-in, weights-in, below)))
+-- places: one that comes before another
+abbrev to-if1 : tie.After-take-batch-arg → tie.Else1
+to-if1 c = c .before .before .before
+
+abbrev to-raw : tie.After-take-batch-arg2 → tie.After-raw
+to-raw c = c .before .before .before
+
+abbrev to-start : tie.After-slice-known4 → tie.Start
+to-start c = c .before .before .before .before .before .before .before .before .before .before .before .before .before .before .before .before
+
+abbrev to-take-batch : tie.After-acc-arg3 → tie.After-take-batch
+to-take-batch c = c .before .before .before .before .before .before .before .before .before .before .before .before .before
+
+batch-length-requires : tie.Need-batch-length-requires
+batch-length-requires c κs =
+    let start = to-start c in
+    let (lends, (_, (up, below, _, _, _))) = start .pre in
+    (up, omega (arith, below, lends .few))
+
+returns : tie.Need-returns
+returns c =
+    let start = to-start (c .before .before) in
+    let a = start .args in
+    let none = no-batch (a .called) (a .next) (a .f) (a .n) (a .waiting-frames .now) (a .waiting-weights .now) (c .before .batch-length .ensures) (a .info .opts) (c .if1 .taken) in
+    (state-none (whole start) (seen-frames start) (a .cmvn .now) none, none-taken (whole start) _ (stats start) none)
+
+array-borrow-prefix-normalized : tie.Need-array-borrow-prefix-normalized
+array-borrow-prefix-normalized c = (to-start (to-if1 c .before .before)) .pre .1 .0 .0 .feat-in
+
+slice-aggregate-take-batch : tie.Need-slice-aggregate-take-batch
+slice-aggregate-take-batch c = sym (length-take-le _ _ ((to-start (to-if1 (c .before) .before .before)) .pre .1 .0 .0 .feat-in))
+
+array-borrow-prefix-raw : tie.Need-array-borrow-prefix-raw
+array-borrow-prefix-raw c = (to-start (to-if1 (c .before) .before .before)) .pre .1 .0 .0 .feat-in
+
+slice-aggregate-take-batch-2 : tie.Need-slice-aggregate-take-batch-2
+slice-aggregate-take-batch-2 c = sym (length-take-le _ _ ((to-start (to-if1 (c .before .before) .before .before)) .pre .1 .0 .0 .feat-in))
+
+slice-aggregate-take-batch-3 : tie.Need-slice-aggregate-take-batch-3
+slice-aggregate-take-batch-3 c = search needs
+
+slice-aggregate-take-batch-4 : tie.Need-slice-aggregate-take-batch-4
+slice-aggregate-take-batch-4 c = search needs
+
+take-batch-requires : tie.Need-take-batch-requires
+take-batch-requires c κs =
+    let at-batch-length = to-if1 (to-raw c .before .before) .before in
+    let start = to-start (at-batch-length .before) in
+    let a = start .args in
+    let (lends, ((r, s), (up, below, frames-in, weights-in, reach))) = start .pre in
+    let places = at-batch-length .batch-length .ensures in
+    let in-line = lined (a .called) (a .next) (a .f) (a .n) (a .waiting-frames .now) (a .waiting-weights .now) places frames-in weights-in in
+    let reached = in-reach (a .called) (a .next) (a .f) (a .n) (a .waiting-frames .now) (a .waiting-weights .now) places (a .accepted) up below reach in
+    let slots = slots-none _ _ _ _ _ (r .gauss-in) (r .gauss-in) (s .sums-fit) in
+    (lends, (ready-view r, (in-line, reached, length-take-le _ _ (r .feat-in), length-take-le _ _ (r .feat-in), slots)))
+
+slice-aggregate-acc : tie.Need-slice-aggregate-acc
+slice-aggregate-acc c = search needs
+
+slice-aggregate-acc-2 : tie.Need-slice-aggregate-acc-2
+slice-aggregate-acc-2 c = search needs
+
+acc-requires : tie.Need-acc-requires
+acc-requires c κs =
+    let at-take-batch = to-take-batch c in
+    let s = (to-start (to-if1 (to-raw (at-take-batch .before) .before .before) .before .before)) .pre .1 .0 .1 in
+    (s .some, s .few, s .linear-long, s .quadratic-long, s .sigma-fits, s .u-fits, at-take-batch .take-batch .ensures .1)
 
 same-length : tie.Need-same-length
 same-length c = search needs
@@ -43,63 +110,41 @@ same-length-3 c = search needs
 same-length-4 : tie.Need-same-length-4
 same-length-4 c = search needs
 
-returns : tie.Need-returns
-returns c =
-    let at-acc-changes = c .before .before .before .before .before .before .before .before in
-    let at-if1 = at-acc-changes .before .before .before .before .before in
-    let start = at-if1 .before .before .before .before .before .before .before .before .before .before .before .before .before .before .before .before .before in
-    same-batch (whole start) (seen-frames start) (start .args .cmvn .now) (stats start) (choose-true _ (at-if1 .if1 .taken) refl) (at-acc-changes .acc-changes .ensures)
-
-add-acc-run : tie.Need-add-acc-run
-add-acc-run c =
-    let start = c .before .before .before .before .before .before .before .before .before .before .before .before .before .before .before .before .before in
-    omega (arith, start .pre .1 .1 .1, start .pre .0 .few)
-
-sub-acc-run : tie.Need-sub-acc-run
-sub-acc-run c =
-    let start = c .before .before .before .before .before .before .before .before .before .before .before .before .before .before .before .before .before in
-    omega (arith, start .pre .1 .1 .0)
-
-acc-run-requires : tie.Need-acc-run-requires
-acc-run-requires c κs =
-    let start = c .before .before .before .before .before .before .before .before .before .before .before .before .before .before .before .before .before .before .before .before .before in
-    let (lends, (fit, (up, below, _, _, _))) = start .pre in
-    (lends, (fit, (omega (arith, up, below), omega (arith, up))))
-
-same-length-5 : tie.Need-same-length-5
-same-length-5 c = search needs
-
-same-length-6 : tie.Need-same-length-6
-same-length-6 c = search needs
-
-same-length-7 : tie.Need-same-length-7
-same-length-7 c = search needs
-
-same-length-8 : tie.Need-same-length-8
-same-length-8 c = search needs
-
 returns-2 : tie.Need-returns-2
 returns-2 c =
-    let at-acc-run = c .before .before .before .before .before .before .before .before in
-    let at-if1 = at-acc-run .before .before .before .before .before in
-    let start = at-if1 .before .before .before .before .before .before .before .before .before .before .before .before .before .before .before .before .before in
-    same-batch (whole start) (seen-frames start) (start .args .cmvn .now) (stats start) (choose-false _ (at-if1 .if1 .left) refl) (at-acc-run .acc-run .ensures)
+    let at-acc = c .before .before .before .before in
+    let at-take-batch = to-take-batch (at-acc .before) in
+    let at-if1 = to-if1 (to-raw (at-take-batch .before) .before .before) in
+    let start = to-start (at-if1 .before .before) in
+    let a = start .args in
+    let M = whole start in
+    let F = seen-frames start in
+    let length-is = at-if1 .before .batch-length .ensures in
+    let same = whole-batch (a .called) (a .next) (a .f) (a .n) (a .waiting-frames .now) (a .waiting-weights .now) length-is (a .info .opts) in
+    let some : 0 < batchLength (a .called) (a .next) (a .f) (a .n) = omega (arith, length-is, at-if1 .if1 .left) in
+    let added = batch-taken M _ (stats start) (a .info .opts) (a .called) (a .next) (a .f) (a .n) (a .waiting-frames .now) (a .waiting-weights .now) some in (
+      state-as M F (a .cmvn .now) same (at-take-batch .take-batch .ensures .0),
+      stats-as M F (a .cmvn .now) same (stats start) (at-acc .acc .ensures _ (at-take-batch .take-batch .ensures .2)) added,
+    )
 
 pub acc-until-spec : {M : Type 1} → statement M
 acc-until-spec =
     tie.close
     (tie.spec
-    acc-changes-requires
+    batch-length-requires
+    returns
+    array-borrow-prefix-normalized
+    slice-aggregate-take-batch
+    array-borrow-prefix-raw
+    slice-aggregate-take-batch-2
+    slice-aggregate-take-batch-3
+    slice-aggregate-take-batch-4
+    take-batch-requires
+    slice-aggregate-acc
+    slice-aggregate-acc-2
+    acc-requires
     same-length
     same-length-2
     same-length-3
     same-length-4
-    returns
-    add-acc-run
-    sub-acc-run
-    acc-run-requires
-    same-length-5
-    same-length-6
-    same-length-7
-    same-length-8
     returns-2)

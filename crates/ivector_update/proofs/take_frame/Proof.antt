@@ -1,35 +1,44 @@
--- `take_frame` meets its contract, which is that of `take_frame_in`: the two rows lie at the front of local rooms.
+-- `take_frame` meets its contract: the normalised row and then the raw one, each through the LDA, and the frame's entries by `acc_frame`. The
+-- raw row leaves the CMVN state as the normalised one left it.
 use borrow.Author.Needs.{needs}
-use mathlib.Core.Path.{sym}
-use lib.Seq.{length-take-le}
+use mathlib.Core.Path.{_∙_}
+use native.Mathlib.Omega.{arith}
+use Rattle.ivector_update.proofs.Rooms.{lent-on}
 use Rattle.ivector_update.proofs.take_frame.Statement.{statement}
 use Rattle.ivector_update.proofs.take_frame.Tie as tie
 
-array-borrow-prefix-normalized : tie.Need-array-borrow-prefix-normalized
-array-borrow-prefix-normalized c =
-    let start = c .before .before .before .before .before .before .before .before .before .before .before .before .before .before in
-    start .pre .1 .0 .feat-in
+-- places: one that comes before another
+abbrev to-lda-frame : tie.After-lda-frame-arg4 → tie.After-lda-frame
+to-lda-frame c = c .before .before .before .before .before .before
 
-slice-aggregate-take-frame-in : tie.Need-slice-aggregate-take-frame-in
-slice-aggregate-take-frame-in c =
-    let start = c .before .before .before .before .before .before .before .before .before .before .before .before .before .before .before in
-    sym (length-take-le _ _ (start .pre .1 .0 .feat-in))
+abbrev to-lda-frame2 : tie.After-acc-frame-arg5 → tie.After-lda-frame2
+to-lda-frame2 c = c .before .before .before .before .before .before .before .before .before
 
-array-borrow-prefix-raw : tie.Need-array-borrow-prefix-raw
-array-borrow-prefix-raw c =
-    let start = c .before .before .before .before .before .before .before .before .before .before .before .before .before .before .before in
-    start .pre .1 .0 .feat-in
+abbrev to-start : tie.After-lda-frame-arg2 → tie.Start
+to-start c = c .before .before .before .before .before .before .before .before .before .before .before .before .before .before .before .before .before .before
 
-slice-aggregate-take-frame-in-2 : tie.Need-slice-aggregate-take-frame-in-2
-slice-aggregate-take-frame-in-2 c =
-    let start = c .before .before .before .before .before .before .before .before .before .before .before .before .before .before .before .before in
-    sym (length-take-le _ _ (start .pre .1 .0 .feat-in))
+lda-frame-requires : tie.Need-lda-frame-requires
+lda-frame-requires c κs =
+    let start = to-start c in
+    let (lends, (r, (below, long, _, _))) = start .pre in
+    (lends, (below, r .left-in, r .right-in, r .base-in, r .lda-fits, r .offset-fits, long))
 
-take-frame-in-requires : tie.Need-take-frame-in-requires
-take-frame-in-requires c κs =
-    let start = c .before .before .before .before .before .before .before .before .before .before .before .before .before .before .before .before .before .before .before in
-    let (lends, (r, (below, slots))) = start .pre in
-    (lends, (r, (below, length-take-le _ _ (r .feat-in), length-take-le _ _ (r .feat-in), slots)))
+lda-frame-requires-2 : tie.Need-lda-frame-requires-2
+lda-frame-requires-2 c κs =
+    let at-lda-frame = to-lda-frame c in
+    let start = to-start (at-lda-frame .before) in
+    let (lends, (r, (below, _, long, _))) = start .pre in
+    (lent-on lends (at-lda-frame .lda-frame .kept .1 .1 .1 .1 .1 .1 .1 .1 .1 .1 .1 .0), (below, r .left-in, r .right-in, r .base-in, r .lda-fits, r .offset-fits, long))
+
+acc-frame-requires : tie.Need-acc-frame-requires
+acc-frame-requires c κs =
+    let at-lda-frame2 = to-lda-frame2 c in
+    let at-lda-frame = to-lda-frame (at-lda-frame2 .before) in
+    let start = to-start (at-lda-frame .before) in
+    let (_, (r, (_, norm-long, raw-long, slots))) = start .pre in
+    let norm-kept = at-lda-frame .lda-frame .kept .1 .1 .1 .1 .1 .1 .1 .1 .1 .1 .1 .1 .0 in
+    let raw-kept = at-lda-frame2 .lda-frame2 .kept .1 .1 .1 .1 .1 .1 .1 .1 .1 .1 .1 .1 .0 in
+    ((r .means-fit, r .invs-fit, r .gconsts-fit, omega (arith, norm-kept, norm-long), omega (arith, raw-kept, raw-long)), (r .select-in, r .gauss-in, slots))
 
 same-length : tie.Need-same-length
 same-length c = search needs
@@ -43,22 +52,30 @@ same-length-3 c = search needs
 same-length-4 : tie.Need-same-length-4
 same-length-4 c = search needs
 
+same-length-5 : tie.Need-same-length-5
+same-length-5 c = search needs
+
+same-length-6 : tie.Need-same-length-6
+same-length-6 c = search needs
+
 returns : tie.Need-returns
 returns c =
-    let at-take-frame-in = c .before .before .before .before .before .before .before .before .before .before in
-    at-take-frame-in .take-frame-in .ensures
+    let at-acc-frame = c .before .before .before .before .before .before in
+    let at-lda-frame2 = to-lda-frame2 (at-acc-frame .before) in
+    let at-lda-frame = to-lda-frame (at-lda-frame2 .before) in
+    (at-lda-frame2 .lda-frame2 .ensures .0 ∙ at-lda-frame .lda-frame .ensures .0, at-acc-frame .acc-frame .ensures .0, λ es h. rw (← at-lda-frame .lda-frame .ensures .1, ← at-lda-frame2 .lda-frame2 .ensures .1) (at-acc-frame .acc-frame .ensures .1 es h))
 
 pub take-frame-spec : {M : Type 1} → statement M
 take-frame-spec =
     tie.close
     (tie.spec
-    array-borrow-prefix-normalized
-    slice-aggregate-take-frame-in
-    array-borrow-prefix-raw
-    slice-aggregate-take-frame-in-2
-    take-frame-in-requires
+    lda-frame-requires
+    lda-frame-requires-2
+    acc-frame-requires
     same-length
     same-length-2
     same-length-3
     same-length-4
+    same-length-5
+    same-length-6
     returns)

@@ -30,16 +30,23 @@ batch c =
     let a = c .args in
     batchOf (a .info .opts) (a .called) (a .next) (a .f) (waitingIn (a .n) (a .waiting-frames .now) (a .waiting-weights .now))
 
+-- places: one that comes before another
+abbrev to-acc-until : tie.After-get-ivector-arg4 → tie.After-acc-until
+to-acc-until c = c .before .before .before .before .before .before .before .before .before .before .before .before .before .before
+
+abbrev to-start : tie.After-acc-until-arg4 → tie.Start
+to-start c = c .before .before .before .before .before .before .before .before .before .before .before .before .before .before .before .before .before .before .before .before .before
+
 acc-until-requires : tie.Need-acc-until-requires
 acc-until-requires c κs =
-    let start = c .before .before .before .before .before .before .before .before .before .before .before .before .before .before .before .before .before .before .before .before .before in
+    let start = to-start c in
     let (lends, (fit, (up, below, frames-in, weights-in, in-reach, _))) = start .pre in
     (lends, (fit, (up, below, frames-in, weights-in, in-reach)))
 
 get-ivector-requires : tie.Need-get-ivector-requires
 get-ivector-requires c κs =
-    let at-acc-until = c .before .before .before .before .before .before .before .before .before .before .before .before .before .before in
-    let start = at-acc-until .before .before .before .before .before .before .before .before .before .before .before .before .before .before .before .before .before .before .before .before .before .before in
+    let at-acc-until = to-acc-until c in
+    let start = to-start (at-acc-until .before) in
     let (_, ((_, s), (_, _, _, _, _, long))) = start .pre in
     let linear-kept = at-acc-until .acc-until .kept .1 .1 .1 .1 .1 .1 .1 .1 .1 .1 .1 .1 .1 .1 .1 .1 .1 .1 .1 .1 .0 in
     let quadratic-kept = at-acc-until .acc-until .kept .1 .1 .1 .1 .1 .1 .1 .1 .1 .1 .1 .1 .1 .1 .1 .1 .1 .1 .1 .1 .1 .0 in
@@ -64,8 +71,8 @@ same-length-5 c = search needs
 returns : tie.Need-returns
 returns c =
     let at-get-ivector = c .before .before .before .before in
-    let at-acc-until = at-get-ivector .before .before .before .before .before .before .before .before .before .before .before .before .before .before .before in
-    let start = at-acc-until .before .before .before .before .before .before .before .before .before .before .before .before .before .before .before .before .before .before .before .before .before .before in
+    let at-acc-until = to-acc-until (at-get-ivector .before) in
+    let start = to-start (at-acc-until .before) in
     let a = start .args in
     estimated (whole start) (seen-frames start) (batch start) (record { cmvn = a .cmvn .now; stats = stats start; current = a .current .now })
     (at-acc-until .acc-until .ensures .0) (at-acc-until .acc-until .ensures .1) (at-get-ivector .get-ivector .ensures)

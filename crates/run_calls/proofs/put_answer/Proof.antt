@@ -1,3 +1,4 @@
+-- `put_answer` meets its contract: four numbers written one by one are the list of them put there (`put-four` in Cut.antt).
 use borrow.Author.Needs.{needs}
 use mathlib.Core.Path.{refl}
 use native.Mathlib.Omega.{arith}
@@ -19,7 +20,7 @@ mul-answers-2 : tie.Need-mul-answers-2
 mul-answers-2 c = search needs
 
 slice-write-answers-2 : tie.Need-slice-write-answers-2
-slice-write-answers-2 c = simp length-set (omega (arith, (c .before .pre)))
+slice-write-answers-2 c = simp length-set (omega (arith, c .before .pre))
 
 add-answers-2 : tie.Need-add-answers-2
 add-answers-2 c = search needs
@@ -28,7 +29,7 @@ mul-answers-3 : tie.Need-mul-answers-3
 mul-answers-3 c = search needs
 
 slice-write-answers-3 : tie.Need-slice-write-answers-3
-slice-write-answers-3 c = simp length-set (omega (arith, (c .before .pre)))
+slice-write-answers-3 c = simp length-set (omega (arith, c .before .pre))
 
 add-answers-3 : tie.Need-add-answers-3
 add-answers-3 c = search needs
@@ -37,7 +38,7 @@ mul-answers-4 : tie.Need-mul-answers-4
 mul-answers-4 c = search needs
 
 slice-write-answers-4 : tie.Need-slice-write-answers-4
-slice-write-answers-4 c = simp length-set (omega (arith, (c .before .pre)))
+slice-write-answers-4 c = simp length-set (omega (arith, c .before .pre))
 
 same-length : tie.Need-same-length
 same-length c = search needs

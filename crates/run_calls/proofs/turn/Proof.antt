@@ -1,6 +1,8 @@
+-- `turn` meets its contract: a call on the rings by `ring_call` (`ring-turned`), a fetch by `get_frame` over its part of the outputs (`fetch-turned`). Both
+-- laws are in Lists.antt; where the part begins and ends is in Cut.antt.
 use borrow.Author.Needs.{needs}
 use mathlib.Core.Path.{refl}
-use Prim.Native.Nat.{_-_}
+use Prim.Native.Nat.{_-_, _≤_}
 use native.Mathlib.Omega.{arith}
 use lib.ListN.{length}
 use Rattle.definition.specs.Model.{Tables, tablesFrom}
@@ -10,44 +12,36 @@ use Rattle.run_calls.proofs.Lists.{ring-turned, fetch-turned}
 use Rattle.run_calls.proofs.turn.Statement.{statement}
 use Rattle.run_calls.proofs.turn.Tie as tie
 
-mul-first : tie.Need-mul-first
-mul-first c = omega (arith, (c .before .before .before .before .before .before .before .before .before .before .before .before .before .before .before .before .before .before .before .before .before .before .before .pre) .1, (c .before .before .before .before .before .before .before .before .before .before .before .before .before .before .before .before .before .before .before .before .before .before .before .good) .1 .1 .1 .0)
+-- what is lent, at the start
+abbrev tables : tie.Start → Tables
+tables b =
+    let a = b .args in
+    tablesFrom (a .gconsts .now) (a .means-invvars-t .now) (a .inv-vars-t .now) (a .sigma-inv-m .now) (a .u .now) (a .lda-t .now) (a .lda-offset .now) (a .global-mean-stats .now)
 
-mul-a : tie.Need-mul-a
-mul-a c = omega (arith, (c .before .before .before .before .before .before .before .before .before .before .before .before .before .before .before .before .before .before .before .before .before .before .before .pre) .1, (c .before .before .before .before .before .before .before .before .before .before .before .before .before .before .before .before .before .before .before .before .before .before .before .good) .1 .1 .1 .0)
+abbrev held : tie.Start → Rooms
+held b =
+    let a = b .args in
+    roomsFrom (ringsFrom (a .frames .now) (a .rows .now) (a .waiting-frames .now) (a .waiting-weights .now)) (estimateFrom (a .cmvn-stats .now) (a .linear .now) (a .quadratic .now) (a .current .now))
 
-shared-slice-read-a : tie.Need-shared-slice-read-a
-shared-slice-read-a c = omega (arith, (c .before .before .before .before .before .before .before .before .before .before .before .before .before .before .before .before .before .before .before .before .before .before .before .before .pre) .1, (c .before .before .before .before .before .before .before .before .before .before .before .before .before .before .before .before .before .before .before .before .before .before .before .before .good) .1 .1 .1 .0)
+-- ---- places
 
-add-b : tie.Need-add-b
-add-b c = omega (arith, (c .before .before .before .before .before .before .before .before .before .before .before .before .before .before .before .before .before .before .before .before .before .before .before .before .pre) .1, (c .before .before .before .before .before .before .before .before .before .before .before .before .before .before .before .before .before .before .before .before .before .before .before .before .good) .1 .1 .1 .0)
+-- the start, from before the test of the kind
+abbrev begun : tie.After-struct-known → tie.Start
+begun c = c .before .before .before .before .before .before .before .before .before .before .before .before .before .before .before .before .before .before .before .before .before
 
-mul-b : tie.Need-mul-b
-mul-b c = omega (arith, (c .before .before .before .before .before .before .before .before .before .before .before .before .before .before .before .before .before .before .before .before .before .before .before .before .pre) .1, (c .before .before .before .before .before .before .before .before .before .before .before .before .before .before .before .before .before .before .before .before .before .before .before .before .good) .1 .1 .1 .0)
+-- the call on the rings, from the end
+abbrev at-ring-call : tie.After-slice-known14 → tie.After-ring-call
+at-ring-call c = c .before .before .before .before .before .before .before .before
 
-shared-slice-read-b : tie.Need-shared-slice-read-b
-shared-slice-read-b c = omega (arith, (c .before .before .before .before .before .before .before .before .before .before .before .before .before .before .before .before .before .before .before .before .before .before .before .before .before .pre) .1, (c .before .before .before .before .before .before .before .before .before .before .before .before .before .before .before .before .before .before .before .before .before .before .before .before .before .good) .1 .1 .1 .0)
+-- where the part of the outputs ends, from where they are lent
+abbrev at-larger : tie.After-get-frame-arg9 → tie.After-larger
+at-larger c = c .before .before .before .before .before .before .before .before .before
 
-add-c : tie.Need-add-c
-add-c c = omega (arith, (c .before .before .before .before .before .before .before .before .before .before .before .before .before .before .before .before .before .before .before .before .before .before .before .before .before .pre) .1, (c .before .before .before .before .before .before .before .before .before .before .before .before .before .before .before .before .before .before .before .before .before .before .before .before .before .good) .1 .1 .1 .0)
+-- the fetch, from the end
+abbrev at-get-frame : tie.After-slice-known22 → tie.After-get-frame
+at-get-frame c = c .before .before .before .before .before .before .before .before .before .before .before .before .before .before .before .before
 
-mul-c : tie.Need-mul-c
-mul-c c = omega (arith, (c .before .before .before .before .before .before .before .before .before .before .before .before .before .before .before .before .before .before .before .before .before .before .before .before .before .pre) .1, (c .before .before .before .before .before .before .before .before .before .before .before .before .before .before .before .before .before .before .before .before .before .before .before .before .before .good) .1 .1 .1 .0)
-
-shared-slice-read-c : tie.Need-shared-slice-read-c
-shared-slice-read-c c = omega (arith, (c .before .before .before .before .before .before .before .before .before .before .before .before .before .before .before .before .before .before .before .before .before .before .before .before .before .before .pre) .1, (c .before .before .before .before .before .before .before .before .before .before .before .before .before .before .before .before .before .before .before .before .before .before .before .before .before .before .good) .1 .1 .1 .0)
-
-add-d : tie.Need-add-d
-add-d c = omega (arith, (c .before .before .before .before .before .before .before .before .before .before .before .before .before .before .before .before .before .before .before .before .before .before .before .before .before .before .pre) .1, (c .before .before .before .before .before .before .before .before .before .before .before .before .before .before .before .before .before .before .before .before .before .before .before .before .before .before .good) .1 .1 .1 .0)
-
-mul-d : tie.Need-mul-d
-mul-d c = omega (arith, (c .before .before .before .before .before .before .before .before .before .before .before .before .before .before .before .before .before .before .before .before .before .before .before .before .before .before .pre) .1, (c .before .before .before .before .before .before .before .before .before .before .before .before .before .before .before .before .before .before .before .before .before .before .before .before .before .before .good) .1 .1 .1 .0)
-
-shared-slice-read-d : tie.Need-shared-slice-read-d
-shared-slice-read-d c = omega (arith, (c .before .before .before .before .before .before .before .before .before .before .before .before .before .before .before .before .before .before .before .before .before .before .before .before .before .before .before .pre) .1, (c .before .before .before .before .before .before .before .before .before .before .before .before .before .before .before .before .before .before .before .before .before .before .before .before .before .before .before .good) .1 .1 .1 .0)
-
-shared-slice-read-kind : tie.Need-shared-slice-read-kind
-shared-slice-read-kind c = (c .before .before .before .before .before .before .before .before .before .before .before .before .before .before .before .before .before .before .before .before .before .before .before .before .before .before .before .before .pre) .0
+-- ---- a call on the rings
 
 sample-part-requires : tie.Need-sample-part-requires
 sample-part-requires c κs = search needs
@@ -59,28 +53,33 @@ sample-part-requires-2 : tie.Need-sample-part-requires-2
 sample-part-requires-2 c κs = search needs
 
 ring-call-requires : tie.Need-ring-call-requires
-ring-call-requires c κs = (c .before .before .before .before .before .before .before .if1) .taken
-
-put-answer-requires : tie.Need-put-answer-requires
-put-answer-requires c κs = (c .before .before .before .before .before .before .before .before .before .before .before .before .before .before .before .before .before .before .before .before .before .before .before .before .before .before .before .before .before .before .before .before .before .before .before .before .before .before .before .before .before .before .before .before .before .before .pre) .2
+ring-call-requires c κs = c .before .before .before .before .before .before .before .if1 .taken
 
 same-length : tie.Need-same-length
-same-length c = (c .before .before .before .before .before .before .before .before .before .before .before .before .ring-call) .kept .1 .1 .1 .1 .1 .1 .0
+same-length c = at-ring-call c .ring-call .kept .1 .1 .1 .1 .1 .1 .0
 
 same-length-2 : tie.Need-same-length-2
-same-length-2 c = (c .before .before .before .before .before .before .before .before .before .before .before .before .ring-call) .kept .1 .1 .1 .1 .1 .1 .1 .0
+same-length-2 c = at-ring-call c .ring-call .kept .1 .1 .1 .1 .1 .1 .1 .0
 
 same-length-3 : tie.Need-same-length-3
-same-length-3 c = (c .before .before .before .before .before .before .before .before .before .before .before .before .ring-call) .kept .1 .1 .1 .1 .1 .1 .1 .1 .0
+same-length-3 c = at-ring-call c .ring-call .kept .1 .1 .1 .1 .1 .1 .1 .1 .0
 
 same-length-4 : tie.Need-same-length-4
-same-length-4 c = (c .before .before .before .before .before .before .before .before .before .before .before .before .ring-call) .kept .1 .1 .1 .1 .1 .1 .1 .1 .1 .0
-
-same-length-5 : tie.Need-same-length-5
-same-length-5 c = (c .before .before .put-answer) .kept .0
+same-length-4 c = at-ring-call c .ring-call .kept .1 .1 .1 .1 .1 .1 .1 .1 .1 .0
 
 returns : tie.Need-returns
-returns c = let a = (c .before .before .before .before .before .before .before .before .before .before .before .before .before .before .before .before .before .before .before .before .before .before .before .before .before .before .before .before .before .before .before .before .before .before .before .before .before .before .before .before .before .before .before .before .before .before .before .before .before .args) in ring-turned (a .kinds .now) (a .numbers .now) (a .lists .now) (a .samples .now) (a .i) (tablesFrom (a .gconsts .now) (a .means-invvars-t .now) (a .inv-vars-t .now) (a .sigma-inv-m .now) (a .u .now) (a .lda-t .now) (a .lda-offset .now) (a .global-mean-stats .now)) (length (a .scratch .now)) (a .s) (roomsFrom (ringsFrom (a .frames .now) (a .rows .now) (a .waiting-frames .now) (a .waiting-weights .now)) (estimateFrom (a .cmvn-stats .now) (a .linear .now) (a .quadratic .now) (a .current .now))) (a .answers .now) (a .outs .now) ((c .before .before .before .before .before .before .before .before .before .before .before .before .before .before .before .before .before .before .before .before .if1) .taken) ((c .before .before .before .before .before .before .before .before .before .before .before .before .before .before .before .before .before .before .before .sample-part) .ensures) ((c .before .before .before .before .before .before .before .before .before .before .before .before .before .before .before .before .before .before .frame-part) .ensures) ((c .before .before .before .before .before .before .before .before .before .before .before .before .before .before .before .before .before .sample-part2) .ensures) ((c .before .before .before .before .before .before .before .before .before .before .before .before .ring-call) .ensures) ((c .before .before .put-answer) .ensures)
+returns c =
+    let called = at-ring-call c in
+    let at-sample-part2 = called .before .before .before .before .before in
+    let at-frame-part = at-sample-part2 .before in
+    let at-sample-part = at-frame-part .before in
+    let at-if1 = at-sample-part .before in
+    let start = begun (at-if1 .before) in
+    let a = start .args in
+    ring-turned (a .k) (a .lists .now) (a .samples .now) (tables start) (length (a .scratch .now)) (a .s) (held start) (a .outs .now)
+    (at-if1 .if1 .taken) (at-sample-part .sample-part .ensures) (at-frame-part .frame-part .ensures) (at-sample-part2 .sample-part2 .ensures) (called .ring-call .ensures)
+
+-- ---- a fetch
 
 smaller-requires : tie.Need-smaller-requires
 smaller-requires c κs = search needs
@@ -91,87 +90,86 @@ smaller-requires-2 c κs = search needs
 larger-requires : tie.Need-larger-requires
 larger-requires c κs = search needs
 
+-- its part of the outputs
+ends : (c : tie.After-larger) → (c .before .before .smaller .result ≤ c .larger .result) × (c .larger .result ≤ length (begun (c .before .before .before .before) .args .outs .now))
+ends c = cut-ends _ _ _ _ _ _ (c .before .before .smaller .ensures) (c .before .smaller2 .ensures) (c .larger .ensures)
+
 mul-get-frame : tie.Need-mul-get-frame
-mul-get-frame c = let e = cut-ends _ _ _ _ _ _ ((c .before .before .before .before .before .before .before .before .before .before .before .smaller) .ensures) ((c .before .before .before .before .before .before .before .before .before .before .smaller2) .ensures) ((c .before .before .before .before .before .before .before .before .before .larger) .ensures) in omega (arith, e .0, e .1, (c .before .before .before .before .before .before .before .before .before .before .before .before .before .before .before .before .before .before .before .before .before .before .before .before .before .before .before .before .before .before .before .before .before .before .before .before .before .before .before .before .before .good) .1 .1 .1 .1 .1 .1 .1 .1 .1 .1 .1 .1 .1 .1 .1 .1 .1 .1 .1 .1 .1 .1 .1 .1 .0)
+mul-get-frame c =
+    let cut = at-larger c in
+    omega (arith, ends cut .0, ends cut .1, begun (cut .before .before .before .before) .good .1 .1 .1 .1 .1 .1 .1 .1 .1 .1 .1 .1 .1 .1 .1 .1 .1 .1 .1 .1 .1 .0)
 
 sub-get-frame : tie.Need-sub-get-frame
 sub-get-frame c = search needs
 
 part-get-frame-start : tie.Need-part-get-frame-start
-part-get-frame-start c = cut-ends _ _ _ _ _ _ ((c .before .before .before .before .before .before .before .before .before .before .before .smaller) .ensures) ((c .before .before .before .before .before .before .before .before .before .before .smaller2) .ensures) ((c .before .before .before .before .before .before .before .before .before .larger) .ensures) .0
+part-get-frame-start c = ends (at-larger c) .0
 
 part-get-frame-end : tie.Need-part-get-frame-end
-part-get-frame-end c = cut-ends _ _ _ _ _ _ ((c .before .before .before .before .before .before .before .before .before .before .before .smaller) .ensures) ((c .before .before .before .before .before .before .before .before .before .before .smaller2) .ensures) ((c .before .before .before .before .before .before .before .before .before .larger) .ensures) .1
+part-get-frame-end c = ends (at-larger c) .1
 
 get-frame-requires : tie.Need-get-frame-requires
 get-frame-requires c κs = search needs
 
-put-answer-requires-2 : tie.Need-put-answer-requires-2
-put-answer-requires-2 c κs = (c .before .before .before .before .before .before .before .before .before .before .before .before .before .before .before .before .before .before .before .before .before .before .before .before .before .before .before .before .before .before .before .before .before .before .before .before .before .before .before .before .before .before .before .before .before .before .before .before .before .before .before .before .before .before .before .before .before .before .before .before .pre) .2
+same-length-5 : tie.Need-same-length-5
+same-length-5 c = refl
 
 same-length-6 : tie.Need-same-length-6
 same-length-6 c = refl
 
 same-length-7 : tie.Need-same-length-7
-same-length-7 c = refl
+same-length-7 c = at-get-frame c .get-frame .kept .1 .1 .1 .1 .1 .1 .1 .1 .1 .1 .1 .1 .0
 
 same-length-8 : tie.Need-same-length-8
-same-length-8 c = (c .before .before .before .before .before .before .before .before .before .before .before .before .before .before .before .before .before .before .before .before .get-frame) .kept .1 .1 .1 .1 .1 .1 .1 .1 .1 .1 .1 .1 .0
+same-length-8 c = at-get-frame c .get-frame .kept .1 .1 .1 .1 .1 .1 .1 .1 .1 .1 .1 .1 .1 .0
 
 same-length-9 : tie.Need-same-length-9
-same-length-9 c = (c .before .before .before .before .before .before .before .before .before .before .before .before .before .before .before .before .before .before .before .before .get-frame) .kept .1 .1 .1 .1 .1 .1 .1 .1 .1 .1 .1 .1 .1 .0
+same-length-9 c = at-get-frame c .get-frame .kept .1 .1 .1 .1 .1 .1 .1 .1 .1 .1 .1 .1 .1 .1 .0
 
 same-length-10 : tie.Need-same-length-10
-same-length-10 c = (c .before .before .before .before .before .before .before .before .before .before .before .before .before .before .before .before .before .before .before .before .get-frame) .kept .1 .1 .1 .1 .1 .1 .1 .1 .1 .1 .1 .1 .1 .1 .0
+same-length-10 c = at-get-frame c .get-frame .kept .1 .1 .1 .1 .1 .1 .1 .1 .1 .1 .1 .1 .1 .1 .1 .0
 
 same-length-11 : tie.Need-same-length-11
-same-length-11 c = (c .before .before .before .before .before .before .before .before .before .before .before .before .before .before .before .before .before .before .before .before .get-frame) .kept .1 .1 .1 .1 .1 .1 .1 .1 .1 .1 .1 .1 .1 .1 .1 .0
+same-length-11 c = at-get-frame c .get-frame .kept .1 .1 .1 .1 .1 .1 .1 .1 .1 .1 .1 .1 .1 .1 .1 .1 .0
 
 same-length-12 : tie.Need-same-length-12
-same-length-12 c = (c .before .before .before .before .before .before .before .before .before .before .before .before .before .before .before .before .before .before .before .before .get-frame) .kept .1 .1 .1 .1 .1 .1 .1 .1 .1 .1 .1 .1 .1 .1 .1 .1 .0
+same-length-12 c = at-get-frame c .get-frame .kept .1 .1 .1 .1 .1 .1 .1 .1 .1 .1 .1 .1 .1 .1 .1 .1 .1 .0
 
 same-length-13 : tie.Need-same-length-13
-same-length-13 c = (c .before .before .before .before .before .before .before .before .before .before .before .before .before .before .before .before .before .before .before .before .get-frame) .kept .1 .1 .1 .1 .1 .1 .1 .1 .1 .1 .1 .1 .1 .1 .1 .1 .1 .0
+same-length-13 c = at-get-frame c .get-frame .kept .1 .1 .1 .1 .1 .1 .1 .1 .1 .1 .1 .1 .1 .1 .1 .1 .1 .1 .0
 
 same-length-14 : tie.Need-same-length-14
-same-length-14 c = (c .before .before .before .before .before .before .before .before .before .before .before .before .before .before .before .before .before .before .before .before .get-frame) .kept .1 .1 .1 .1 .1 .1 .1 .1 .1 .1 .1 .1 .1 .1 .1 .1 .1 .1 .0
-
-same-length-15 : tie.Need-same-length-15
-same-length-15 c = (c .before .before .put-answer2) .kept .0
-
-same-length-16 : tie.Need-same-length-16
-same-length-16 c = lent-long ((c .before .before .before .before .before .before .before .before .before .before .before .before .before .before .before .before .before .before .before .before .before .before .before .before .before .before .before .before .before .before .before .before .before .smaller) .result) ((c .before .before .before .before .before .before .before .before .before .before .before .before .before .before .before .before .before .before .before .before .before .before .before .before .before .before .before .before .before .before .before .larger) .result - (c .before .before .before .before .before .before .before .before .before .before .before .before .before .before .before .before .before .before .before .before .before .before .before .before .before .before .before .before .before .before .before .before .before .smaller) .result) ((c .before .before .before .before .before .before .before .before .before .before .before .before .before .before .before .before .before .before .before .before .before .before .before .before .before .before .before .before .before .before .before .before .before .before .before .before .before .before .before .before .before .before .before .before .before .before .before .before .before .before .before .before .before .before .before .before .before .before .before .before .before .before .before .args) .outs .now) ((c .before .before .before .before .before .before .before .before .before .before .before .before .before .before .before .before .before .before .before .before .get-frame) .last .1 .1 .1 .1 .1 .1 .1 .1 .1 .1 .1 .1 .1 .1 .1 .1 .1 .1 .1 .0) ((c .before .before .before .before .before .before .before .before .before .before .before .before .before .before .before .before .before .before .before .before .get-frame) .kept .1 .1 .1 .1 .1 .1 .1 .1 .1 .1 .1 .1 .1 .1 .1 .1 .1 .1 .1 .0)
+same-length-14 c =
+    let fetched = at-get-frame c in
+    let cut = at-larger (fetched .before .before) in
+    let from = cut .before .before .smaller .result in
+    lent-long from (cut .larger .result - from) (begun (cut .before .before .before .before) .args .outs .now) (fetched .get-frame .last .1 .1 .1 .1 .1 .1 .1 .1 .1 .1 .1 .1 .1 .1 .1 .1 .1 .1 .1 .0) (fetched .get-frame .kept .1 .1 .1 .1 .1 .1 .1 .1 .1 .1 .1 .1 .1 .1 .1 .1 .1 .1 .1 .0)
 
 returns-2 : tie.Need-returns-2
-returns-2 c = let a = (c .before .before .before .before .before .before .before .before .before .before .before .before .before .before .before .before .before .before .before .before .before .before .before .before .before .before .before .before .before .before .before .before .before .before .before .before .before .before .before .before .before .before .before .before .before .before .before .before .before .before .before .before .before .before .before .before .before .before .before .before .before .before .before .args) in fetch-turned (a .kinds .now) (a .numbers .now) (a .lists .now) (a .samples .now) (a .i) (tablesFrom (a .gconsts .now) (a .means-invvars-t .now) (a .inv-vars-t .now) (a .sigma-inv-m .now) (a .u .now) (a .lda-t .now) (a .lda-offset .now) (a .global-mean-stats .now)) (length (a .scratch .now)) (a .s) (roomsFrom (ringsFrom (a .frames .now) (a .rows .now) (a .waiting-frames .now) (a .waiting-weights .now)) (estimateFrom (a .cmvn-stats .now) (a .linear .now) (a .quadratic .now) (a .current .now))) (a .answers .now) (a .outs .now) ((c .before .before .before .before .before .before .before .before .before .before .before .before .before .before .before .before .before .before .before .before .before .before .before .before .before .before .before .before .before .before .before .before .before .smaller) .result) ((c .before .before .before .before .before .before .before .before .before .before .before .before .before .before .before .before .before .before .before .before .before .before .before .before .before .before .before .before .before .before .before .before .smaller2) .result) ((c .before .before .before .before .before .before .before .before .before .before .before .before .before .before .before .before .before .before .before .before .before .before .before .before .before .before .before .before .before .before .before .larger) .result) ((c .before .before .before .before .before .before .before .before .before .before .before .before .before .before .before .before .before .before .before .before .before .before .before .before .before .before .before .before .before .before .before .before .before .before .if1) .left) ((c .before .before .before .before .before .before .before .before .before .before .before .before .before .before .before .before .before .before .before .before .before .before .before .before .before .before .before .before .before .before .before .before .before .smaller) .ensures) ((c .before .before .before .before .before .before .before .before .before .before .before .before .before .before .before .before .before .before .before .before .before .before .before .before .before .before .before .before .before .before .before .before .smaller2) .ensures) ((c .before .before .before .before .before .before .before .before .before .before .before .before .before .before .before .before .before .before .before .before .before .before .before .before .before .before .before .before .before .before .before .larger) .ensures) ((c .before .before .before .before .before .before .before .before .before .before .before .before .before .before .before .before .before .before .before .before .get-frame) .kept .1 .1 .1 .1 .1 .1 .1 .1 .1 .1 .1 .1 .1 .1 .1 .1 .1 .1 .1 .0) ((c .before .before .before .before .before .before .before .before .before .before .before .before .before .before .before .before .before .before .before .before .get-frame) .ensures .0) ((c .before .before .put-answer2) .ensures)
+returns-2 c =
+    let fetched = at-get-frame c in
+    let cut = at-larger (fetched .before .before) in
+    let at-smaller2 = cut .before in
+    let at-smaller = at-smaller2 .before in
+    let at-if1 = at-smaller .before in
+    let start = begun (at-if1 .before) in
+    let a = start .args in
+    fetch-turned (a .k) (a .lists .now) (a .samples .now) (tables start) (length (a .scratch .now)) (a .s) (held start) (a .outs .now)
+    (at-smaller .smaller .result) (at-smaller2 .smaller2 .result) (cut .larger .result) (at-if1 .if1 .left)
+    (at-smaller .smaller .ensures) (at-smaller2 .smaller2 .ensures) (cut .larger .ensures) (fetched .get-frame .kept .1 .1 .1 .1 .1 .1 .1 .1 .1 .1 .1 .1 .1 .1 .1 .1 .1 .1 .1 .0) (fetched .get-frame .ensures .0)
 
 pub turn-spec : {M : Type 1} → statement M
 turn-spec =
     tie.close
     (tie.spec
-    mul-first
-    mul-a
-    shared-slice-read-a
-    add-b
-    mul-b
-    shared-slice-read-b
-    add-c
-    mul-c
-    shared-slice-read-c
-    add-d
-    mul-d
-    shared-slice-read-d
-    shared-slice-read-kind
     sample-part-requires
     frame-part-requires
     sample-part-requires-2
     ring-call-requires
-    put-answer-requires
     same-length
     same-length-2
     same-length-3
     same-length-4
-    same-length-5
     returns
     smaller-requires
     smaller-requires-2
@@ -181,7 +179,7 @@ turn-spec =
     part-get-frame-start
     part-get-frame-end
     get-frame-requires
-    put-answer-requires-2
+    same-length-5
     same-length-6
     same-length-7
     same-length-8
@@ -191,6 +189,4 @@ turn-spec =
     same-length-12
     same-length-13
     same-length-14
-    same-length-15
-    same-length-16
     returns-2)

@@ -1,0 +1,158 @@
+-- `take_batch` meets its contract. The loop's invariant: the batch is partway, what is left of it is what it has from place j on, and the rooms keep
+-- their lengths. The laws of a batch partway are those of Places.antt.
+use borrow.Author.Needs.{needs}
+use mathlib.Core.Path.{_≡_, refl, sym, subst, _∙_}
+use Prim.Native.Nat.{ℕ, _-_, _≤_, _<_}
+use native.Mathlib.Omega.{arith}
+use lib.ListN.{length}
+use Rattle.definition.specs.Model.{Model, model}
+use Rattle.definition.specs.Views.{Frames}
+use Rattle.definition.specs.Changes.{Batch}
+use Rattle.program.specs.Rooms.{ringFrames}
+use Rattle.batch_sums.specs.Batch.{Slots}
+use Rattle.ivector_update.specs.Steps.{batchFrom, viewTables, Partway}
+use Rattle.ivector_update.proofs.Places.{left-all, left-none, left-less, none-left}
+use Rattle.ivector_update.proofs.Rooms.{lent-on}
+use Rattle.ivector_update.proofs.take_batch.Statement.{statement}
+use Rattle.ivector_update.proofs.take_batch.Tie as tie
+
+abbrev Inv-loop : tie.InvT-loop
+Inv-loop info accepted called next n wf ww gconsts means invs ldat ldao global frames rows cmvn₀ norm₀ raw₀ seen₀ tot₀ sum₀ o m₀ j₀ cmvn norm raw seen tot sum m j =
+    let M : Model = model info (viewTables gconsts means invs ldat ldao global) in
+    let F : Frames = ringFrames (info .dims .«base_dim») accepted frames rows in
+    let left : ℕ → Batch = batchFrom (info .opts) called next n wf ww in
+    (j ≤ n)
+    × (length cmvn ≡ length cmvn₀)
+    × (length norm ≡ length norm₀)
+    × (length raw ≡ length raw₀)
+    × (length seen ≡ length seen₀)
+    × (length tot ≡ length tot₀)
+    × (length sum ≡ length sum₀)
+    × Slots (info .dims .«num_gauss») (info .dims .«feat_dim») m seen tot sum
+    × Partway M F (left 0) cmvn₀ (left j) cmvn m seen tot sum
+
+abbrev μ-loop : tie.MeasureT-loop
+μ-loop info accepted called next n wf ww gconsts means invs ldat ldao global frames rows cmvn₀ norm₀ raw₀ seen₀ tot₀ sum₀ o m₀ j₀ cmvn norm raw seen tot sum m j = n - j
+
+abbrev view : (c : tie.Start Inv-loop μ-loop) → Model
+view c =
+    let a = c .args in
+    model (a .info) (viewTables (a .gconsts .now) (a .means-invvars-t .now) (a .inv-vars-t .now) (a .lda-t .now) (a .lda-offset .now) (a .global .now))
+
+abbrev seen-frames : (c : tie.Start Inv-loop μ-loop) → Frames
+seen-frames c =
+    let a = c .args in
+    ringFrames (a .info .dims .«base_dim») (a .accepted) (a .frames .now) (a .rows .now)
+
+abbrev left : (c : tie.Start Inv-loop μ-loop) → ℕ → Batch
+left c =
+    let a = c .args in
+    batchFrom (a .info .opts) (a .called) (a .next) (a .n) (a .waiting-frames .now) (a .waiting-weights .now)
+
+-- places: one that comes before another
+abbrev to-batch-frame : tie.After-take-frame-arg6 Inv-loop μ-loop → tie.After-batch-frame Inv-loop μ-loop
+to-batch-frame c = c .before .before .before .before .before .before
+
+abbrev to-start : tie.After-o Inv-loop μ-loop → tie.Start Inv-loop μ-loop
+to-start c = c .before .before .before .before .before .before .before .before .before .before .before .before .before .before .before .before .before
+
+abbrev to-take-frame : tie.After-slice-known12 Inv-loop μ-loop → tie.After-take-frame Inv-loop μ-loop
+to-take-frame c = c .before .before .before .before .before .before .before .before .before .before .before .before
+
+loop-holds : tie.Need-loop-holds Inv-loop μ-loop
+loop-holds c =
+    let start = to-start c in
+    let a = start .args in
+    let all = left-all (view start) (seen-frames start) (left start 0) (a .cmvn .now) (a .seen .now) (a .tot .now) (a .sum .now) in
+    (omega arith, refl, refl, refl, refl, refl, refl, start .pre .1 .1 .4, all)
+
+batch-frame-requires : tie.Need-batch-frame-requires Inv-loop μ-loop
+batch-frame-requires c κs =
+    let start = to-start (c .before .before) in
+    let within = c .loop-test .taken in
+    (within, start .pre .1 .1 .0, omega (arith, start .pre .1 .1 .1 (c .before .loop .j) within, start .pre .0 .few))
+
+take-frame-requires : tie.Need-take-frame-requires Inv-loop μ-loop
+take-frame-requires c κs =
+    let at-batch-frame = to-batch-frame c in
+    let at-loop-test = at-batch-frame .before in
+    let at-loop = at-loop-test .before in
+    let start = to-start (at-loop .before) in
+    let was = at-loop .loop .inv in
+    let (lends, (r, (_, reach, norm-long, raw-long, _))) = start .pre in
+    let below = subst (λ (t : ℕ). t < start .args .accepted) (sym (at-batch-frame .batch-frame .ensures .0)) (reach (at-loop .loop .j) (at-loop-test .loop-test .taken)) in
+    (lent-on lends (was .1), (r, (below, was .2 ∙ norm-long, was .3 ∙ raw-long, was .7)))
+
+loop-less : tie.Need-loop-less Inv-loop μ-loop
+loop-less c =
+    let at-batch-frame = to-batch-frame (to-take-frame c .before) in
+    let group = at-batch-frame .batch-frame .ensures in
+    omega (arith, group .1, group .2, at-batch-frame .before .loop-test .taken)
+
+loop-again : tie.Need-loop-again Inv-loop μ-loop
+loop-again c =
+    let at-take-frame = to-take-frame c in
+    let at-batch-frame = to-batch-frame (at-take-frame .before) in
+    let at-loop = at-batch-frame .before .before in
+    let start = to-start (at-loop .before) in
+    let was = at-loop .loop .inv in
+    let group = at-batch-frame .batch-frame .ensures in
+    let done = at-take-frame .take-frame in
+    let kept = done .kept .1 .1 .1 .1 .1 .1 .1 .1 .1 .1 .1 .1 in (
+      group .2,
+      kept .0 ∙ was .1,
+      kept .1 .0 ∙ was .2,
+      kept .1 .1 .0 ∙ was .3,
+      kept .1 .1 .1 .1 .0 ∙ was .4,
+      kept .1 .1 .1 .1 .1 .0 ∙ was .5,
+      kept .1 .1 .1 .1 .1 .1 .0 ∙ was .6,
+      done .ensures .1,
+      left-less (view start) (seen-frames start) (left start 0) (start .args .cmvn .now) (was .8) (group .3) (done .ensures .0) (done .ensures .2),
+    )
+
+same-length : tie.Need-same-length Inv-loop μ-loop
+same-length c = c .before .loop .inv .1
+
+same-length-2 : tie.Need-same-length-2 Inv-loop μ-loop
+same-length-2 c = c .before .loop .inv .2
+
+same-length-3 : tie.Need-same-length-3 Inv-loop μ-loop
+same-length-3 c = c .before .loop .inv .3
+
+same-length-4 : tie.Need-same-length-4 Inv-loop μ-loop
+same-length-4 c = c .before .loop .inv .4
+
+same-length-5 : tie.Need-same-length-5 Inv-loop μ-loop
+same-length-5 c = c .before .loop .inv .5
+
+same-length-6 : tie.Need-same-length-6 Inv-loop μ-loop
+same-length-6 c = c .before .loop .inv .6
+
+returns : tie.Need-returns Inv-loop μ-loop
+returns c =
+    let at-loop = c .before in
+    let start = to-start (at-loop .before) in
+    let a = start .args in
+    let was = at-loop .loop .inv in
+    let none = none-left (a .info .opts) (a .called) (a .next) (a .n) (a .waiting-frames .now) (a .waiting-weights .now) (at-loop .loop .j) (c .loop-test .left) in
+    let all = left-none (view start) (seen-frames start) (left start 0) (a .cmvn .now) (was .8) none in
+    (all .0, was .7, all .1)
+
+pub take-batch-spec : {M : Type 1} → statement M
+take-batch-spec =
+    tie.close
+    (tie.spec
+    Inv-loop
+    μ-loop
+    loop-holds
+    batch-frame-requires
+    take-frame-requires
+    loop-less
+    loop-again
+    same-length
+    same-length-2
+    same-length-3
+    same-length-4
+    same-length-5
+    same-length-6
+    returns)
