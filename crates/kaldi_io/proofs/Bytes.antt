@@ -43,15 +43,30 @@ module _ (t : ℕ → Bool) where
       go true = refl
       go false = refl
 
-  pub run-end : (s : List ℕ) (i : ℕ) → length s ≤ i → run t (drop i s) ≡ 0
+  run-end : (s : List ℕ) (i : ℕ) → length s ≤ i → run t (drop i s) ≡ 0
   unfolding run
   run-end s i h = rw (drop-of-length-le s h)
 
-  pub run-stop : (s : List ℕ) (i : ℕ) → i < length s → t (getD s i 0) ≡ false → run t (drop i s) ≡ 0
-  run-stop s i h e = ap (run t) (drop-next 0 s i h) ∙ run-cons _ _ ∙ rw e
+  run-here : (s : List ℕ) (i : ℕ) → i < length s → run t (drop i s) ≡ (if t (getD s i 0) then suc (run t (drop (i + 1) s)) else 0)
+  run-here s i h = ap (run t) (drop-next 0 s i h) ∙ run-cons _ _
 
-  pub run-more : (s : List ℕ) (i : ℕ) → i < length s → t (getD s i 0) ≡ true → run t (drop i s) ≡ suc (run t (drop (i + 1) s))
-  run-more s i h e = ap (run t) (drop-next 0 s i h) ∙ run-cons _ _ ∙ rw e
+-- the invariant of a loop that skips such bytes: those from p on end where those from i on do
+pub record Skipped (t : ℕ → Bool) (s : List ℕ) (p i : ℕ) : Type 0 where
+  pub ends : p + run t (drop p s) ≡ i + run t (drop i s)
+
+module _ {t : ℕ → Bool} {s : List ℕ} {p i : ℕ} (o : Skipped t s p i) where
+  pub skipped-end : length s ≤ i → i ≡ p + run t (drop p s)
+  skipped-end h = omega (arith, o .ends, run-end t s i h)
+
+  -- the test of the byte at i came out as b
+  module _ (l : i < length s) {b : Bool} (is : b ≡ t (getD s i 0)) where
+    pub skipped-stop : b ≡ false → i ≡ p + run t (drop p s)
+    skipped-stop e = let h : run t (drop i s) ≡ 0 = run-here t s i l ∙ rw (← is, e) in omega (arith, o .ends, h)
+
+    pub skipped-turn : b ≡ true → Skipped t s p (i + 1)
+    skipped-turn e =
+        let h : run t (drop i s) ≡ suc (run t (drop (i + 1) s)) = run-here t s i l ∙ rw (← is, e) in
+        record { ends = omega (arith, o .ends, h) }
 
 -- ---- the mark
 

@@ -5,9 +5,9 @@ use mathlib.Core.List.{List, [], _∷_}
 use Prim.Native.Nat.{ℕ, zero, suc, _+_, _-_, _*_, _/_, _%_, _≤_, _<_}
 use native.Mathlib.Nat.{not-suc-le-zero, le-of-suc-le-suc, zero-add, suc-add, suc-mul, add-comm, le-add-right, mul-zero, mul-suc, add-zero}
 use native.Mathlib.Omega.{arith}
-use borrow.Author.Tests.{eq-eqb, ne-eqb}
+use borrow.Author.Tests.{eq-eqb, ne-eqb, not-true, not-false}
 use lib.Dec.{T, leb, eqb}
-use lib.ListN.{length, take, drop}
+use lib.ListN.{length, take, drop, set, length-set}
 use lib.Seq.{drop-drop, take-nil, take-take}
 use lib.Ieee.{Float, nan, inf, fin, Format, binary32, binary64, ofBits, ofFields, odd, nanBits, isNan, lt, hid, ones, top, prec, low}
 use lib.Ieee.Scale.{finite}
@@ -15,7 +15,7 @@ use lib.Ieee.Bits.{nanBits-is}
 use Rattle.loops.specs.Lists.{allOf}
 use Rattle.loops.specs.Steps.{fill}
 use Rattle.loops.proofs.Choose.{by-test}
-use Rattle.loops.proofs.Fill.{fill-end, fill-list}
+use Rattle.loops.proofs.Fill.{fill-none, fill-turn, fill-end, fill-list}
 use Rattle.loops.proofs.Tests.{each-at, at-each, all-turn, all-fails, all-end}
 use Rattle.floats.specs.Operators.{zero₃₂, at}
 use Rattle.definition.specs.Reader.{littleEndian, byteWidth, numbers, kept, floats, refused, read}
@@ -144,28 +144,29 @@ module _ (f : Format) (positive : Bool) (n : ℕ) (s : List ℕ) (p : ℕ) where
     unfolding floats
     floats-good e = simp (bytes-ok (n * byteWidth f) s p fits, numbers-take, e)
 
-    -- the first i are passed
-    module _ (i : ℕ) (so-far : allOf (kept positive) (drop i (numbers f n (drop p s))) ≡ allOf (kept positive) (numbers f n (drop p s))) where
-      module _ (l : i < n) {x : ℕ} (is : x ≡ littleEndian (take (byteWidth f) (drop (p + byteWidth f * i) s))) where
-        known : {b : Bool} → kept positive (ofBits f x) ≡ b → kept positive (at (numbers f n (drop p s)) i) ≡ b
-        known e = ap (kept positive) (numbers-at f n s p i l ∙ ap (ofBits f) (sym is)) ∙ e
+-- the loop's invariant: the first i of the numbers are to keep
+pub record Passed (f : Format) (positive : Bool) (n : ℕ) (s : List ℕ) (p i : ℕ) : Type 0 where
+  pub few : i ≤ n
+  pub so-far : allOf (kept positive) (drop i (numbers f n (drop p s))) ≡ allOf (kept positive) (numbers f n (drop p s))
 
-        pub floats-stop : kept positive (ofBits f x) ≡ false → refused 6 ≡ floats f positive n s p
-        floats-stop e = floats-bad (sym (all-fails (kept positive) nan _ i (rw numbers-length l) (known e) so-far))
+module _ {f : Format} {positive : Bool} {n : ℕ} {s : List ℕ} {p i : ℕ} (o : Passed f positive n s p i) (fits : n * byteWidth f ≤ length s - p) where
+  -- x is the pattern of number i, and the code's test of it came out as b
+  module _ (l : i < n) {x : ℕ} (is : x ≡ littleEndian (take (byteWidth f) (drop (p + byteWidth f * i) s))) {b : Bool} (test : b ≡ kept positive (ofBits f x)) where
+    known : {v : Bool} → b ≡ v → kept positive (at (numbers f n (drop p s)) i) ≡ v
+    known e = ap (kept positive) (numbers-at f n s p i l ∙ ap (ofBits f) (sym is)) ∙ sym test ∙ e
 
-        pub floats-turn : kept positive (ofBits f x) ≡ true → allOf (kept positive) (drop (i + 1) (numbers f n (drop p s))) ≡ allOf (kept positive) (numbers f n (drop p s))
-        floats-turn e = all-turn (kept positive) nan _ i (rw numbers-length l) (known e) so-far
+    pub passed-stop : not b ≡ true → (refused 6 ≡ floats f positive n s p) × Unit {0}
+    passed-stop e = (floats-bad f positive n s p fits (sym (all-fails (kept positive) nan _ i (rw numbers-length l) (known (not-true b e)) (o .so-far))), tt)
 
-      module _ (l : n ≤ i) where
-        passed : allOf (kept positive) (numbers f n (drop p s)) ≡ true
-        passed = sym (all-end (kept positive) _ i (rw numbers-length l) so-far)
+    pub passed-turn : not b ≡ false → Passed f positive n s p (i + 1)
+    passed-turn e = record { few = omega arith; so-far = all-turn (kept positive) nan _ i (rw numbers-length l) (known (not-false b e)) (o .so-far) }
 
-        pub floats-end : (z : ℕ) → z ≡ p + n * byteWidth f → read (numbers f n (drop p s)) z ≡ floats f positive n s p
-        floats-end z e = rw e (floats-good passed)
-
-        pub floats-ready : Ready f n s p
-        floats-ready =
-            record { inside = fits; good = at-each finite nan _ (λ k h. kept-finite positive _ (each-at (kept positive) nan _ k passed h)) }
+  pub passed-end : n ≤ i → (z : ℕ) → z ≡ p + n * byteWidth f → (read (numbers f n (drop p s)) z ≡ floats f positive n s p) × Ready f n s p
+  passed-end l z e =
+      let all : allOf (kept positive) (numbers f n (drop p s)) ≡ true = sym (all-end (kept positive) _ i (rw numbers-length l) (o .so-far)) in (
+        rw e (floats-good f positive n s p fits all),
+        record { inside = fits; good = at-each finite nan _ (λ k h. kept-finite positive _ (each-at (kept positive) nan _ k all h)) },
+      )
 
 -- ---- a number, and all of them, once they are checked
 
@@ -176,6 +177,22 @@ module _ (f : Format) (n : ℕ) (s : List ℕ) (p i : ℕ) {x : ℕ} (l : i < n)
   pub number-finite : Ready f n s p → finite (ofBits f x) ≡ true
   number-finite h = ap finite number-is ∙ each-at finite nan _ i (h .good) (rw numbers-length l)
 
-pub numbers-filled : (f : Format) (n i : ℕ) (l : List ℕ) (room : List Float) {x : List Float} → length room ≡ n → i ≤ n → n ≤ i → x ≡ fill i (at (numbers f n l)) room → x ≡ numbers f n l
-numbers-filled f n i l room e p q h =
-    fill-end _ i n room p q h ∙ ap (λ (k : ℕ). fill k (at (numbers f n l)) room) (sym (numbers-length f n l)) ∙ fill-list nan (numbers f n l) room (e ∙ sym (numbers-length f n l))
+-- the invariant of a loop that fills a room with them: the first i are in their places
+pub record Filled (f : Format) (n : ℕ) (l : List ℕ) (room out : List Float) (i : ℕ) : Type 0 where
+  pub few : i ≤ n
+  pub long : length out ≡ n
+  pub whole : n ≡ length room
+  pub so-far : out ≡ fill i (at (numbers f n l)) room
+
+pub filled-none : (f : Format) (n : ℕ) (l : List ℕ) (room : List Float) → n ≡ length room → Filled f n l room room 0
+filled-none f n l room e = record { few = omega arith; long = sym e; whole = e; so-far = fill-none _ _ }
+
+module _ {f : Format} {n : ℕ} {l : List ℕ} {room out : List Float} {i : ℕ} (o : Filled f n l room out i) where
+  pub filled-turn : i < n → {v : Float} → v ≡ at (numbers f n l) i → Filled f n l room (set out i v) (i + 1)
+  filled-turn h e =
+      record { few = omega arith; long = simp length-set (o .long); whole = o .whole; so-far = fill-turn _ _ _ (omega (arith, o .whole)) (o .so-far) e }
+
+  pub filled-end : n ≤ i → out ≡ numbers f n l
+  filled-end h =
+      let long : n ≡ length (numbers f n l) = sym (numbers-length f n l) in
+      fill-end _ i n room (o .few) h (o .so-far) ∙ ap (λ (k : ℕ). fill k (at (numbers f n l)) room) long ∙ fill-list nan (numbers f n l) room (sym (o .whole) ∙ long)

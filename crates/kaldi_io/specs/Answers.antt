@@ -1,11 +1,11 @@
 -- What the answers say: a refusal's number, or a value and the next position, as the definition's parsers have them. Numbers stay in the
 -- bytes s, and an answer says where.
 use mathlib.Core.Path.{_≡_}
-use mathlib.Core.Bool.{true}
+use mathlib.Core.Bool.{Bool, true, false}
 use mathlib.Core.List.{List}
 use Prim.Native.Nat.{ℕ, _+_, _-_, _*_, _≤_}
 use lib.ListN.{length, take, drop}
-use lib.Ieee.{Float, Format, binary64}
+use lib.Ieee.{Float, Format, binary32, binary64}
 use lib.Ieee.Scale.{finite}
 use Rattle.loops.specs.Lists.{allOf}
 use Rattle.definition.specs.Options.{maxFeat}
@@ -56,6 +56,11 @@ wordIn s (W.Is from len next) = from + len ≤ length s
 wordIn s (W.Refused r) = Unit {0}
 
 -- ---- numbers that were checked
+
+-- the format of the numbers, where a flag says whether they are doubles
+abbrev pub width : Bool → Format
+width false = binary32
+width true = binary64
 
 abbrev pub floatsOf : Format → ℕ → List ℕ → ℕ → Next → Got (List Float)
 floatsOf f n s at (N.At next) = read (numbers f n (drop at s)) next

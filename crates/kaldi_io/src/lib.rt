@@ -6,9 +6,9 @@ ghost use Prim.Native.Nat.{_+_, _-_, _≤_, _<_};
 ghost use lib.ListN.{length, take, drop};
 ghost use lib.Ieee.{binary32, binary64, ofBits};
 ghost use Rattle.floats.specs.Operators.{at};
-ghost use Rattle.definition.specs.Reader.{run, same, littleEndian, numbers, kept, floats};
-ghost use Rattle.definition.specs.Kaldi.{binary, blank, word, token, dim, vector, matrix, skipped, packedMatrix, single};
-ghost use Rattle.kaldi_io.specs.Answers.{nextOf, dimOf, wordOf, wordIn, floatsOf, floatsIn, Ready, vectorOf, vectorIn, matrixOf, matrixIn, packedOf, packedIn, numberOf};
+ghost use Rattle.definition.specs.Reader.{run, same, littleEndian, byteWidth, numbers, kept, floats};
+ghost use Rattle.definition.specs.Kaldi.{binary, blank, word, token, dim, vectorTag, matrixTag, vector, matrix, skipped, packedMatrix, single};
+ghost use Rattle.kaldi_io.specs.Answers.{width, nextOf, dimOf, wordOf, wordIn, floatsOf, floatsIn, Ready, vectorOf, vectorIn, matrixOf, matrixIn, packedOf, packedIn, numberOf};
 
 // Limits of dimensions: Gaussians, features, i-vector, LDA columns, and a block that is skipped.
 pub const MAX_GAUSS: usize = 1024;
@@ -397,6 +397,25 @@ fn check_f64s(s: &[u8], at: usize, n: usize, positive: bool) -> Next
     Next::At(at + 8 * n)
 }
 
+// The same at either width.
+fn check_floats(s: &[u8], at: usize, n: usize, double: bool, positive: bool) -> Next
+    ensures { λ r. ⌜ floatsOf (width double) n (now (s .entry)) at r ≡ floats (width double) positive n (now (s .entry)) at ⌝ }
+    ensures { λ r. ⌜ floatsIn (width double) n (now (s .entry)) at r ⌝ }
+{
+    if double {
+        check_f64s(s, at, n, positive)
+    } else {
+        check_f32s(s, at, n, positive)
+    }
+}
+
+// Bytes of a number.
+fn float_size(double: bool) -> usize
+    ensures { λ r. ⌜ (r ≡ size (width double)) × (r ≤ 8) ⌝ }
+{
+    if double { 8 } else { 4 }
+}
+
 // Number i of n that were checked.
 pub fn f32_at(s: &[u8], from: usize, n: usize, i: usize) -> f32
     requires { ⌜ Ready binary32 n (now s) from ⌝ }
@@ -459,7 +478,45 @@ pub fn check_float_vec(s: &[u8], at: usize, positive: bool, most: usize) -> Vect
     }
 }
 
-// A matrix, row after row.
+// A matrix at either width, row after row.
+fn check_matrix(
+    s: &[u8],
+    at: usize,
+    tag: &[u8],
+    double: bool,
+    positive: bool,
+    most_rows: usize,
+    most_cols: usize,
+) -> Matrix
+    requires { ⌜ now tag ≡ matrixTag (width double) ⌝ }
+    requires { ⌜ («most_rows» ≤ 1000000) × («most_cols» ≤ 1000000) ⌝ }
+    ensures { λ r. ⌜ matrixOf (width double) (now (s .entry)) r ≡ matrix (width double) positive «most_rows» «most_cols» (now (s .entry)) at ⌝ }
+    ensures { λ r. ⌜ matrixIn (width double) «most_rows» «most_cols» (now (s .entry)) r ⌝ }
+{
+    let p = match expect_token(s, at, tag) {
+        Next::At(next) => next,
+        Next::Refused(e) => return Matrix::Refused(e),
+    };
+    match read_dim(s, p, 1, most_rows) {
+        Dim::Refused(e) => Matrix::Refused(e),
+        Dim::Is { n: rows, next: q } => match read_dim(s, q, 1, most_cols) {
+            Dim::Refused(e) => Matrix::Refused(e),
+            Dim::Is {
+                n: cols,
+                next: from,
+            } => match check_floats(s, from, rows * cols, double, positive) {
+                Next::Refused(e) => Matrix::Refused(e),
+                Next::At(next) => Matrix::Is {
+                    rows,
+                    cols,
+                    from,
+                    next,
+                },
+            },
+        },
+    }
+}
+
 pub fn check_float_matrix(
     s: &[u8],
     at: usize,
@@ -471,28 +528,7 @@ pub fn check_float_matrix(
     ensures { λ r. ⌜ matrixOf binary32 (now (s .entry)) r ≡ matrix binary32 positive «most_rows» «most_cols» (now (s .entry)) at ⌝ }
     ensures { λ r. ⌜ matrixIn binary32 «most_rows» «most_cols» (now (s .entry)) r ⌝ }
 {
-    let p = match expect_token(s, at, b"FM") {
-        Next::At(next) => next,
-        Next::Refused(e) => return Matrix::Refused(e),
-    };
-    match read_dim(s, p, 1, most_rows) {
-        Dim::Refused(e) => Matrix::Refused(e),
-        Dim::Is { n: rows, next: q } => match read_dim(s, q, 1, most_cols) {
-            Dim::Refused(e) => Matrix::Refused(e),
-            Dim::Is {
-                n: cols,
-                next: from,
-            } => match check_f32s(s, from, rows * cols, positive) {
-                Next::Refused(e) => Matrix::Refused(e),
-                Next::At(next) => Matrix::Is {
-                    rows,
-                    cols,
-                    from,
-                    next,
-                },
-            },
-        },
-    }
+    check_matrix(s, at, b"FM", false, positive, most_rows, most_cols)
 }
 
 pub fn check_double_matrix(
@@ -506,28 +542,7 @@ pub fn check_double_matrix(
     ensures { λ r. ⌜ matrixOf binary64 (now (s .entry)) r ≡ matrix binary64 positive «most_rows» «most_cols» (now (s .entry)) at ⌝ }
     ensures { λ r. ⌜ matrixIn binary64 «most_rows» «most_cols» (now (s .entry)) r ⌝ }
 {
-    let p = match expect_token(s, at, b"DM") {
-        Next::At(next) => next,
-        Next::Refused(e) => return Matrix::Refused(e),
-    };
-    match read_dim(s, p, 1, most_rows) {
-        Dim::Refused(e) => Matrix::Refused(e),
-        Dim::Is { n: rows, next: q } => match read_dim(s, q, 1, most_cols) {
-            Dim::Refused(e) => Matrix::Refused(e),
-            Dim::Is {
-                n: cols,
-                next: from,
-            } => match check_f64s(s, from, rows * cols, positive) {
-                Next::Refused(e) => Matrix::Refused(e),
-                Next::At(next) => Matrix::Is {
-                    rows,
-                    cols,
-                    from,
-                    next,
-                },
-            },
-        },
-    }
+    check_matrix(s, at, b"DM", true, positive, most_rows, most_cols)
 }
 
 // A symmetric matrix: its lower triangle, row after row.
@@ -549,40 +564,35 @@ pub fn check_packed_double(s: &[u8], at: usize) -> Packed
 }
 
 // A vector that is not kept: skipped by its length.
-pub fn skip_float_vec(s: &[u8], at: usize) -> Next
-    ensures { λ r. ⌜ nextOf r ≡ skipped binary32 (now (s .entry)) at ⌝ }
+fn skip_vec(s: &[u8], at: usize, tag: &[u8], double: bool) -> Next
+    requires { ⌜ now tag ≡ vectorTag (width double) ⌝ }
+    ensures { λ r. ⌜ nextOf r ≡ skipped (width double) (now (s .entry)) at ⌝ }
 {
-    let p = match expect_token(s, at, b"FV") {
+    let p = match expect_token(s, at, tag) {
         Next::At(next) => next,
         Next::Refused(e) => return Next::Refused(e),
     };
     match read_dim(s, p, 0, MAX_SKIPPED) {
         Dim::Refused(e) => Next::Refused(e),
         Dim::Is { n, next: from } => {
-            if left(s, from) / 4 < n {
+            let len = n * float_size(double);
+            if left(s, from) < len {
                 Next::Refused(2)
             } else {
-                Next::At(from + n * 4)
+                Next::At(from + len)
             }
         }
     }
 }
 
+pub fn skip_float_vec(s: &[u8], at: usize) -> Next
+    ensures { λ r. ⌜ nextOf r ≡ skipped binary32 (now (s .entry)) at ⌝ }
+{
+    skip_vec(s, at, b"FV", false)
+}
+
 pub fn skip_double_vec(s: &[u8], at: usize) -> Next
     ensures { λ r. ⌜ nextOf r ≡ skipped binary64 (now (s .entry)) at ⌝ }
 {
-    let p = match expect_token(s, at, b"DV") {
-        Next::At(next) => next,
-        Next::Refused(e) => return Next::Refused(e),
-    };
-    match read_dim(s, p, 0, MAX_SKIPPED) {
-        Dim::Refused(e) => Next::Refused(e),
-        Dim::Is { n, next: from } => {
-            if left(s, from) / 8 < n {
-                Next::Refused(2)
-            } else {
-                Next::At(from + n * 8)
-            }
-        }
-    }
+    skip_vec(s, at, b"DV", true)
 }

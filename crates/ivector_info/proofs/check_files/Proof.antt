@@ -18,42 +18,6 @@ use Rattle.ivector_info.proofs.check_files.Tie as tie
 abbrev files : (c : tie.Start) → Files
 files c = filesOf (c .args .gmm .now) (c .args .extractor .now) (c .args .lda .now) (c .args .cmvn .now)
 
-check-gmm-requires : tie.Need-check-gmm-requires
-check-gmm-requires c κs = search needs
-
-enum-known-e : tie.Need-enum-known-e
-enum-known-e c = search needs
-
-enum-known-num-gauss : tie.Need-enum-known-num-gauss
-enum-known-num-gauss c = search needs
-
-check-extractor-requires : tie.Need-check-extractor-requires
-check-extractor-requires c κs = search needs
-
-enum-known-e-2 : tie.Need-enum-known-e-2
-enum-known-e-2 c = search needs
-
-enum-known-ext-gauss : tie.Need-enum-known-ext-gauss
-enum-known-ext-gauss c = search needs
-
-check-lda-requires : tie.Need-check-lda-requires
-check-lda-requires c κs = search needs
-
-enum-known-e-3 : tie.Need-enum-known-e-3
-enum-known-e-3 c = search needs
-
-enum-known-lda-rows : tie.Need-enum-known-lda-rows
-enum-known-lda-rows c = search needs
-
-check-cmvn-requires : tie.Need-check-cmvn-requires
-check-cmvn-requires c κs = search needs
-
-enum-known-e-4 : tie.Need-enum-known-e-4
-enum-known-e-4 c = search needs
-
-enum-known-len : tie.Need-enum-known-len
-enum-known-len c = search needs
-
 sub-t35 : tie.Need-sub-t35
 sub-t35 c =
     let at-len = c .before in
@@ -133,22 +97,6 @@ returns-5 c =
 pub check-files-spec : {M : Type 1} → statement M
 check-files-spec =
     tie.close
-    (tie.spec
-    check-gmm-requires
-    enum-known-e
-    enum-known-num-gauss
-    check-extractor-requires
-    enum-known-e-2
-    enum-known-ext-gauss
-    check-lda-requires
-    enum-known-e-3
-    enum-known-lda-rows
-    check-cmvn-requires
-    enum-known-e-4
-    enum-known-len
-    sub-t35
-    returns
-    returns-2
-    returns-3
-    returns-4
-    returns-5)
+    (tie.spec (λ c κs. search needs) (λ c. search needs) (λ c. search needs) (λ c κs. search needs) (λ c. search needs) (λ c. search needs)
+    (λ c κs. search needs) (λ c. search needs) (λ c. search needs) (λ c κs. search needs) (λ c. search needs) (λ c. search needs) sub-t35 returns
+    returns-2 returns-3 returns-4 returns-5)

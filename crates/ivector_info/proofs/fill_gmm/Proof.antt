@@ -21,15 +21,6 @@ fill-transposed-requires-2 c κs =
     let g = start .pre .gmm-in in
     (g .vars-ready, (g .gauss-high, omega (arith, g .dim-high), omega arith, start .pre .vars-fit))
 
-same-length : tie.Need-same-length
-same-length c = search needs
-
-same-length-2 : tie.Need-same-length-2
-same-length-2 c = search needs
-
-same-length-3 : tie.Need-same-length-3
-same-length-3 c = search needs
-
 returns : tie.Need-returns
 returns c =
     let at-fill-transposed2 = c .before .before in
@@ -40,11 +31,5 @@ returns c =
 pub fill-gmm-spec : {M : Type 1} → statement M
 fill-gmm-spec =
     tie.close
-    (tie.spec
-    fill-gconsts-requires
-    fill-transposed-requires
-    fill-transposed-requires-2
-    same-length
-    same-length-2
-    same-length-3
+    (tie.spec fill-gconsts-requires fill-transposed-requires fill-transposed-requires-2 (λ c. search needs) (λ c. search needs) (λ c. search needs)
     returns)

@@ -43,15 +43,6 @@ fill-global-requires c κs =
     let start = c .before .before .before .before .before .before .before .before .before .before .before .before .before .before .before .before .before .before in
     (start .pre .row-in, start .pre .row-fits)
 
-same-length : tie.Need-same-length
-same-length c = search needs
-
-same-length-2 : tie.Need-same-length-2
-same-length-2 c = search needs
-
-same-length-3 : tie.Need-same-length-3
-same-length-3 c = search needs
-
 returns : tie.Need-returns
 returns c =
     let at-fill-global = c .before .before in
@@ -62,15 +53,5 @@ returns c =
 pub fill-lda-spec : {M : Type 1} → statement M
 fill-lda-spec =
     tie.close
-    (tie.spec
-    add-spliced
-    add-spliced-2
-    mul-spliced
-    fill-transposed-requires
-    fill-offset-requires
-    add-fill-global
-    fill-global-requires
-    same-length
-    same-length-2
-    same-length-3
-    returns)
+    (tie.spec add-spliced add-spliced-2 mul-spliced fill-transposed-requires fill-offset-requires add-fill-global fill-global-requires
+    (λ c. search needs) (λ c. search needs) (λ c. search needs) returns)

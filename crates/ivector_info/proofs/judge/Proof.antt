@@ -56,23 +56,11 @@ fit c =
     let at-tables-fit = c .before in
     sym (at-tables-fit .tables-fit .ensures) ∙ not-false _ (c .if5 .left)
 
-options-in-range-requires : tie.Need-options-in-range-requires
-options-in-range-requires c κs = search needs
-
 returns : tie.Need-returns
 returns c =
     let at-options-in-range = c .before in
     let start = at-options-in-range .before .before .before .before .before in
     (options-out (start .args .opts) (start .args .z) (start .args .scratch) (files start) (sym (at-options-in-range .options-in-range .ensures) ∙ not-true _ (c .if1 .taken)), tt)
-
-check-files-requires : tie.Need-check-files-requires
-check-files-requires c κs = search needs
-
-enum-known-e : tie.Need-enum-known-e
-enum-known-e c = search needs
-
-enum-known-dims : tie.Need-enum-known-dims
-enum-known-dims c = search needs
 
 dims-agree-requires : tie.Need-dims-agree-requires
 dims-agree-requires c κs =
@@ -162,19 +150,5 @@ returns-8 c =
 pub judge-spec : {M : Type 1} → statement M
 judge-spec =
     tie.close
-    (tie.spec
-    options-in-range-requires
-    returns
-    check-files-requires
-    enum-known-e
-    enum-known-dims
-    dims-agree-requires
-    returns-2
-    returns-3
-    returns-4
-    tables-fit-requires
-    returns-5
-    load-scratch-requires
-    returns-6
-    returns-7
-    returns-8)
+    (tie.spec (λ c κs. search needs) returns (λ c κs. search needs) (λ c. search needs) (λ c. search needs) dims-agree-requires returns-2 returns-3
+    returns-4 tables-fit-requires returns-5 load-scratch-requires returns-6 returns-7 returns-8)

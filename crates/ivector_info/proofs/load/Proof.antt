@@ -28,15 +28,6 @@ judged c =
     let start = at-judge .before .before .before .before .before .before .before .before .before .before .before .before .before .before in
     subst (judgedIn (start .args .opts) (tableLengthsOf (tables start)) (length (start .args .scratch .now)) (files start)) (c .dims .given .1) (at-judge .judge .ensures .1)
 
-judge-requires : tie.Need-judge-requires
-judge-requires c κs = search needs
-
-enum-known-e : tie.Need-enum-known-e
-enum-known-e c = search needs
-
-enum-known-dims : tie.Need-enum-known-dims
-enum-known-dims c = search needs
-
 fill-gmm-requires : tie.Need-fill-gmm-requires
 fill-gmm-requires c κs =
     let at-dims = c .before .before .before .before in
@@ -61,33 +52,6 @@ returns c =
     let no = told (judgedOf (start .args .opts) (tableLengthsOf (tables start)) (files start)) (at-judge .judge .ensures .0) (at-e .e .given .1) in
     (loaded-no no, tables-same no (tables start), scratch-same no (start .args .scratch .now))
 
-same-length : tie.Need-same-length
-same-length c = search needs
-
-same-length-2 : tie.Need-same-length-2
-same-length-2 c = search needs
-
-same-length-3 : tie.Need-same-length-3
-same-length-3 c = search needs
-
-same-length-4 : tie.Need-same-length-4
-same-length-4 c = search needs
-
-same-length-5 : tie.Need-same-length-5
-same-length-5 c = search needs
-
-same-length-6 : tie.Need-same-length-6
-same-length-6 c = search needs
-
-same-length-7 : tie.Need-same-length-7
-same-length-7 c = search needs
-
-same-length-8 : tie.Need-same-length-8
-same-length-8 c = search needs
-
-same-length-9 : tie.Need-same-length-9
-same-length-9 c = search needs
-
 returns-2 : tie.Need-returns-2
 returns-2 c =
     let at-fill-lda = c .before .before .before .before .before .before in
@@ -109,21 +73,6 @@ returns-2 c =
 pub load-spec : {M : Type 1} → statement M
 load-spec =
     tie.close
-    (tie.spec
-    judge-requires
-    enum-known-e
-    enum-known-dims
-    fill-gmm-requires
-    fill-gaussians-requires
-    fill-lda-requires
-    returns
-    same-length
-    same-length-2
-    same-length-3
-    same-length-4
-    same-length-5
-    same-length-6
-    same-length-7
-    same-length-8
-    same-length-9
-    returns-2)
+    (tie.spec (λ c κs. search needs) (λ c. search needs) (λ c. search needs) fill-gmm-requires fill-gaussians-requires fill-lda-requires returns
+    (λ c. search needs) (λ c. search needs) (λ c. search needs) (λ c. search needs) (λ c. search needs) (λ c. search needs) (λ c. search needs)
+    (λ c. search needs) (λ c. search needs) returns-2)

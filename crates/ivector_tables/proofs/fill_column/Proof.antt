@@ -1,3 +1,5 @@
+-- `fill_column` meets its contract. The loop's invariant: the first r places hold the column's first r numbers, by the laws of `fill`
+-- (crate loops); that the indices stay in the matrix is `cell-below` (crate loops).
 use borrow.Author.Needs.{needs}
 use mathlib.Core.Path.{_≡_, refl, _∙_}
 use Prim.Native.Nat.{_+_, _-_, _*_, _≤_}
@@ -47,19 +49,10 @@ f32-at-requires c κs =
     let args = c .before .before .before .before .args in
     ((pre .0), cell-below ((c .before .loop) .r) (args .c) (args .rows) (args .cols) ((c .loop-test) .taken) (pre .1 .2))
 
-mul-out : tie.Need-mul-out Inv-loop μ-loop
-mul-out c = search needs
-
 slice-write-out : tie.Need-slice-write-out Inv-loop μ-loop
 slice-write-out c =
     let pre = c .before .before .before .before .before .pre in
     omega (arith, (pre .1 .3), ((c .before .loop-test) .taken), ((c .before .before .loop) .inv .1))
-
-add-r : tie.Need-add-r Inv-loop μ-loop
-add-r c = search needs
-
-loop-less : tie.Need-loop-less Inv-loop μ-loop
-loop-less c = search needs
 
 loop-again : tie.Need-loop-again Inv-loop μ-loop
 loop-again c =
@@ -67,9 +60,6 @@ loop-again c =
     let loop = c .before .before .loop in
     let pre = c .before .before .before .before .before .pre in
     (omega (arith, (loop-test .taken)), simp length-set (loop .inv .1), fill-turn _ _ _ (omega (arith, (pre .1 .3), (loop-test .taken))) (loop .inv .2) ((c .f32-at) .ensures))
-
-same-length : tie.Need-same-length Inv-loop μ-loop
-same-length c = search needs
 
 returns : tie.Need-returns Inv-loop μ-loop
 returns c =
@@ -80,18 +70,5 @@ returns c =
 pub fill-column-spec : {M : Type 1} → statement M
 fill-column-spec =
     tie.close
-    (tie.spec
-    Inv-loop
-    μ-loop
-    mul-n
-    loop-holds
-    mul-f32-at
-    add-f32-at
-    f32-at-requires
-    mul-out
-    slice-write-out
-    add-r
-    loop-less
-    loop-again
-    same-length
-    returns)
+    (tie.spec Inv-loop μ-loop mul-n loop-holds mul-f32-at add-f32-at f32-at-requires (λ c. search needs) slice-write-out (λ c. search needs)
+    (λ c. search needs) loop-again (λ c. search needs) returns)

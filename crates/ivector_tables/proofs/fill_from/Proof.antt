@@ -1,3 +1,5 @@
+-- `fill_from` meets its contract: what `read_gaussian` leaves, put into what `fill_tables` makes of it (`sigma-by`, `quadratic-by` in
+-- Rows.antt).
 use borrow.Author.Needs.{needs}
 use native.Mathlib.Omega.{arith}
 use Rattle.ivector_tables.proofs.Rows.{sigma-by, quadratic-by}
@@ -15,15 +17,6 @@ fill-tables-requires c κs =
     let read-gaussian = c .before .before .before .before .before .read-gaussian in
     ((pre .1 .1 .0), (pre .1 .1 .1), omega (arith, (read-gaussian .kept .1 .1 .1 .1 .1 .0), (pre .1 .1 .2)), (pre .1 .1 .3), (pre .1 .1 .4))
 
-same-length : tie.Need-same-length
-same-length c = search needs
-
-same-length-2 : tie.Need-same-length-2
-same-length-2 c = search needs
-
-same-length-3 : tie.Need-same-length-3
-same-length-3 c = search needs
-
 returns : tie.Need-returns
 returns c =
     let args = c .before .before .before .before .before .before .before .before .before .before .before .before .before .before .before .before .args in
@@ -33,11 +26,4 @@ returns c =
 
 pub fill-from-spec : {M : Type 1} → statement M
 fill-from-spec =
-    tie.close
-    (tie.spec
-    read-gaussian-requires
-    fill-tables-requires
-    same-length
-    same-length-2
-    same-length-3
-    returns)
+    tie.close (tie.spec read-gaussian-requires fill-tables-requires (λ c. search needs) (λ c. search needs) (λ c. search needs) returns)

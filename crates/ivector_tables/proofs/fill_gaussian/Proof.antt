@@ -1,3 +1,5 @@
+-- `fill_gaussian` meets its contract: both blocks were checked, so that neither is refused (`m-there`, `sigma-there`), and their numbers are
+-- read where they stand (the other `m-..` and `sigma-..` laws of Again.antt).
 use borrow.Author.Needs.{needs}
 use mathlib.Core.Path.{subst}
 use lib.Ieee.{binary64}
@@ -8,24 +10,6 @@ use Rattle.ivector_tables.proofs.Rows.{sigma-by, quadratic-by}
 use Rattle.ivector_tables.proofs.Again.{m-there, m-ready, m-nums, m-after, sigma-there, sigma-ready, sigma-nums, sigma-after}
 use Rattle.ivector_tables.proofs.fill_gaussian.Statement.{statement}
 use Rattle.ivector_tables.proofs.fill_gaussian.Tie as tie
-
-check-double-matrix-requires : tie.Need-check-double-matrix-requires
-check-double-matrix-requires c κs = search needs
-
-enum-told : tie.Need-enum-told
-enum-told c = search needs
-
-enum-known-a : tie.Need-enum-known-a
-enum-known-a c = search needs
-
-check-packed-double-requires : tie.Need-check-packed-double-requires
-check-packed-double-requires c κs = search needs
-
-enum-told-2 : tie.Need-enum-told-2
-enum-told-2 c = search needs
-
-enum-known-b : tie.Need-enum-known-b
-enum-known-b c = search needs
 
 fill-from-requires : tie.Need-fill-from-requires
 fill-from-requires c κs =
@@ -53,15 +37,6 @@ returns-2 c =
     let args = c .before .before .before .before .before .before .before .before .before .before .before .args in
     absurd (sigma-there (pre .1 .0) (told (packedOf (args .s .now)) ((c .before .before .check-packed-double) .ensures .0) ((c .enum-told2) .given .1)))
 
-same-length : tie.Need-same-length
-same-length c = search needs
-
-same-length-2 : tie.Need-same-length-2
-same-length-2 c = search needs
-
-same-length-3 : tie.Need-same-length-3
-same-length-3 c = search needs
-
 returns-3 : tie.Need-returns-3
 returns-3 c =
     let args = c .before .before .before .before .before .before .before .before .before .before .before .before .before .before .before .before .before .before .before .before .before .before .args in
@@ -80,17 +55,5 @@ returns-3 c =
 pub fill-gaussian-spec : {M : Type 1} → statement M
 fill-gaussian-spec =
     tie.close
-    (tie.spec
-    check-double-matrix-requires
-    enum-told
-    enum-known-a
-    check-packed-double-requires
-    enum-told-2
-    enum-known-b
-    fill-from-requires
-    returns
-    returns-2
-    same-length
-    same-length-2
-    same-length-3
-    returns-3)
+    (tie.spec (λ c κs. search needs) (λ c. search needs) (λ c. search needs) (λ c κs. search needs) (λ c. search needs) (λ c. search needs)
+    fill-from-requires returns returns-2 (λ c. search needs) (λ c. search needs) (λ c. search needs) returns-3)

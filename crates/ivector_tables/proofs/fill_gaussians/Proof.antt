@@ -1,3 +1,5 @@
+-- `fill_gaussians` meets its contract. The loop's invariant: the blocks of Gaussian i stand at the two places, and the tables of the first i
+-- stand in the rooms. The blocks, read again, are in Again.antt; rows that make a table in crate loops.
 use borrow.Author.Needs.{needs}
 use mathlib.Core.Path.{_≡_, refl, _∙_}
 use mathlib.Core.List.{List}
@@ -88,12 +90,6 @@ mul-fill-gaussian c =
     let pre = c .before .before .before .before .before .before .before .pre in
     omega (arith, row-in (loop .i) (args .num-gauss) ((args .d) * (args .n)) (length (args .sim .now)) (pre .1 .0) ((c .before .loop-test) .taken), (loop .inv .1))
 
-sub-fill-gaussian : tie.Need-sub-fill-gaussian Inv-loop μ-loop
-sub-fill-gaussian c = omega arith
-
-part-fill-gaussian-start : tie.Need-part-fill-gaussian-start Inv-loop μ-loop
-part-fill-gaussian-start c = omega arith
-
 part-fill-gaussian-end : tie.Need-part-fill-gaussian-end Inv-loop μ-loop
 part-fill-gaussian-end c =
     let loop = c .before .before .loop in
@@ -107,12 +103,6 @@ mul-fill-gaussian-2 c =
     let args = c .before .before .before .before .before .before .before .before .args in
     let pre = c .before .before .before .before .before .before .before .before .pre in
     omega (arith, row-in (loop .i) (args .num-gauss) ((args .n) * ((args .n) + 1) / 2) (length (args .u .now)) (pre .1 .1) ((c .before .before .loop-test) .taken), (loop .inv .2))
-
-sub-fill-gaussian-2 : tie.Need-sub-fill-gaussian-2 Inv-loop μ-loop
-sub-fill-gaussian-2 c = omega arith
-
-part-fill-gaussian-start-2 : tie.Need-part-fill-gaussian-start-2 Inv-loop μ-loop
-part-fill-gaussian-start-2 c = omega arith
 
 part-fill-gaussian-end-2 : tie.Need-part-fill-gaussian-end-2 Inv-loop μ-loop
 part-fill-gaussian-end-2 c =
@@ -132,12 +122,6 @@ fill-gaussian-requires c κs =
       m-at (pre .0) (loop .i) (loop-test .taken) (loop .at .m) (loop .inv .4),
       (sigma-at (pre .0) (loop .i) (loop-test .taken) (loop .at .«sigma_inv») (loop .inv .5), ((pre .0) .feat-high, (pre .0) .ivec-high, omega (arith, (loop .inv .3), (pre .1 .2)), (length-lent ((loop .i) * ((args .d) * (args .n))) ((args .d) * (args .n)) _ (loop .sim) refl (omega (arith, row-in (loop .i) (args .num-gauss) ((args .d) * (args .n)) (length (args .sim .now)) (pre .1 .0) (loop-test .taken), (loop .inv .1)))), (length-lent ((loop .i) * ((args .n) * ((args .n) + 1) / 2)) ((args .n) * ((args .n) + 1) / 2) _ (loop .u) refl (omega (arith, row-in (loop .i) (args .num-gauss) ((args .n) * ((args .n) + 1) / 2) (length (args .u .now)) (pre .1 .1) (loop-test .taken), (loop .inv .2)))))),
     )
-
-add-i : tie.Need-add-i Inv-loop μ-loop
-add-i c = search needs
-
-loop-less : tie.Need-loop-less Inv-loop μ-loop
-loop-less c = search needs
 
 loop-again : tie.Need-loop-again Inv-loop μ-loop
 loop-again c =
@@ -162,15 +146,6 @@ loop-again c =
       rows-turn g (loop .i) _ {k = ((loop .i) * ((args .n) * ((args .n) + 1) / 2)) + ((args .n) * ((args .n) + 1) / 2) - ((loop .i) * ((args .n) * ((args .n) + 1) / 2))} (length-flat ((args .n) * ((args .n) + 1) / 2) (loop .i) g (λ k l. length-quadratic (args .d) (args .n) _ _)) (loop .inv .7) (quadratic-by (args .d) (args .n) (fill-gaussian .ensures .1 .1) vs ms) ((fill-gaussian .kept .1 .1 .1 .1 .1 .1 .0) ∙ packed ∙ omega arith),
     )
 
-same-length : tie.Need-same-length Inv-loop μ-loop
-same-length c = search needs
-
-same-length-2 : tie.Need-same-length-2 Inv-loop μ-loop
-same-length-2 c = search needs
-
-same-length-3 : tie.Need-same-length-3 Inv-loop μ-loop
-same-length-3 c = search needs
-
 returns : tie.Need-returns Inv-loop μ-loop
 returns c =
     let args = c .before .before .before .before .before .before .args in
@@ -183,30 +158,6 @@ returns c =
 pub fill-gaussians-spec : {M : Type 1} → statement M
 fill-gaussians-spec =
     tie.close
-    (tie.spec
-    Inv-loop
-    μ-loop
-    mul-size
-    add-half
-    mul-half
-    loop-holds
-    mul-from
-    add-to
-    mul-start
-    add-end
-    mul-fill-gaussian
-    sub-fill-gaussian
-    part-fill-gaussian-start
-    part-fill-gaussian-end
-    mul-fill-gaussian-2
-    sub-fill-gaussian-2
-    part-fill-gaussian-start-2
-    part-fill-gaussian-end-2
-    fill-gaussian-requires
-    add-i
-    loop-less
-    loop-again
-    same-length
-    same-length-2
-    same-length-3
-    returns)
+    (tie.spec Inv-loop μ-loop mul-size add-half mul-half loop-holds mul-from add-to mul-start add-end mul-fill-gaussian (λ c. omega arith)
+    (λ c. omega arith) part-fill-gaussian-end mul-fill-gaussian-2 (λ c. omega arith) (λ c. omega arith) part-fill-gaussian-end-2
+    fill-gaussian-requires (λ c. search needs) (λ c. search needs) loop-again (λ c. search needs) (λ c. search needs) (λ c. search needs) returns)

@@ -1,3 +1,5 @@
+-- `fill_gconsts` meets its contract. The loop's invariant: the first g places hold the constants of the first g Gaussians, by the laws of
+-- `fill` (crate loops).
 use borrow.Author.Needs.{needs}
 use mathlib.Core.Path.{_≡_, refl, _∙_}
 use Prim.Native.Nat.{_-_, _≤_}
@@ -17,9 +19,6 @@ Inv-loop s gauss d weights means vars out₀ offset g₀ out g =
 abbrev μ-loop : tie.MeasureT-loop
 μ-loop s gauss d weights means vars out₀ offset g₀ out g = gauss - g
 
-gconst-offset-requires : tie.Need-gconst-offset-requires Inv-loop μ-loop
-gconst-offset-requires c κs = search needs
-
 loop-holds : tie.Need-loop-holds Inv-loop μ-loop
 loop-holds c = (omega arith, refl, fill-none _ _)
 
@@ -28,19 +27,10 @@ gconst-requires c κs =
     let pre = c .before .before .before .before .before .pre in
     ((pre .0), (((c .before .before .gconst-offset) .ensures), ((c .loop-test) .taken)))
 
-mul-out : tie.Need-mul-out Inv-loop μ-loop
-mul-out c = search needs
-
 slice-write-out : tie.Need-slice-write-out Inv-loop μ-loop
 slice-write-out c =
     let pre = c .before .before .before .before .before .before .pre in
     omega (arith, (pre .1), ((c .before .loop-test) .taken), ((c .before .before .loop) .inv .1))
-
-add-g : tie.Need-add-g Inv-loop μ-loop
-add-g c = search needs
-
-loop-less : tie.Need-loop-less Inv-loop μ-loop
-loop-less c = search needs
 
 loop-again : tie.Need-loop-again Inv-loop μ-loop
 loop-again c =
@@ -48,9 +38,6 @@ loop-again c =
     let loop = c .before .before .loop in
     let pre = c .before .before .before .before .before .before .pre in
     (omega (arith, (loop-test .taken)), simp length-set (loop .inv .1), fill-turn _ _ _ (omega (arith, (pre .1), (loop-test .taken))) (loop .inv .2) ((c .gconst) .ensures))
-
-same-length : tie.Need-same-length Inv-loop μ-loop
-same-length c = search needs
 
 returns : tie.Need-returns Inv-loop μ-loop
 returns c =
@@ -60,16 +47,5 @@ returns c =
 pub fill-gconsts-spec : {M : Type 1} → statement M
 fill-gconsts-spec =
     tie.close
-    (tie.spec
-    Inv-loop
-    μ-loop
-    gconst-offset-requires
-    loop-holds
-    gconst-requires
-    mul-out
-    slice-write-out
-    add-g
-    loop-less
-    loop-again
-    same-length
-    returns)
+    (tie.spec Inv-loop μ-loop (λ c κs. search needs) loop-holds gconst-requires (λ c. search needs) slice-write-out (λ c. search needs)
+    (λ c. search needs) loop-again (λ c. search needs) returns)

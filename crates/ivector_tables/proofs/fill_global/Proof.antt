@@ -1,3 +1,4 @@
+-- `fill_global` meets its contract: the front of the room is lent to `fill_row`, and what is past it stays (`lent-over`, crate loops).
 use mathlib.Core.Path.{sym, _∙_, subst}
 use Prim.Native.Nat.{ℕ}
 use lib.Seq.{length-take-le}
@@ -37,10 +38,4 @@ returns c =
 
 pub fill-global-spec : {M : Type 1} → statement M
 fill-global-spec =
-    tie.close
-    (tie.spec
-    slice-relend-prefix-fill-row
-    slice-aggregate-fill-row
-    fill-row-requires
-    same-length
-    returns)
+    tie.close (tie.spec slice-relend-prefix-fill-row slice-aggregate-fill-row fill-row-requires same-length returns)

@@ -1,3 +1,5 @@
+-- `fill_offset` meets its contract. The loop's invariant: the first r places hold the offset's first r numbers, by the laws of `fill`
+-- (crate loops).
 use borrow.Author.Needs.{needs}
 use mathlib.Core.Path.{_≡_, refl, _∙_}
 use Prim.Native.Nat.{_-_, _≤_}
@@ -24,19 +26,10 @@ offset-at-requires c κs =
     let pre = c .before .before .before .before .pre in
     ((pre .0), ((pre .1 .0), (pre .1 .1), ((c .loop-test) .taken)))
 
-mul-out : tie.Need-mul-out Inv-loop μ-loop
-mul-out c = search needs
-
 slice-write-out : tie.Need-slice-write-out Inv-loop μ-loop
 slice-write-out c =
     let pre = c .before .before .before .before .before .pre in
     omega (arith, (pre .1 .2), ((c .before .loop-test) .taken), ((c .before .before .loop) .inv .1))
-
-add-r : tie.Need-add-r Inv-loop μ-loop
-add-r c = search needs
-
-loop-less : tie.Need-loop-less Inv-loop μ-loop
-loop-less c = search needs
 
 loop-again : tie.Need-loop-again Inv-loop μ-loop
 loop-again c =
@@ -44,9 +37,6 @@ loop-again c =
     let loop = c .before .before .loop in
     let pre = c .before .before .before .before .before .pre in
     (omega (arith, (loop-test .taken)), simp length-set (loop .inv .1), fill-turn _ _ _ (omega (arith, (pre .1 .2), (loop-test .taken))) (loop .inv .2) ((c .offset-at) .ensures))
-
-same-length : tie.Need-same-length Inv-loop μ-loop
-same-length c = search needs
 
 returns : tie.Need-returns Inv-loop μ-loop
 returns c =
@@ -56,15 +46,5 @@ returns c =
 pub fill-offset-spec : {M : Type 1} → statement M
 fill-offset-spec =
     tie.close
-    (tie.spec
-    Inv-loop
-    μ-loop
-    loop-holds
-    offset-at-requires
-    mul-out
-    slice-write-out
-    add-r
-    loop-less
-    loop-again
-    same-length
-    returns)
+    (tie.spec Inv-loop μ-loop loop-holds offset-at-requires (λ c. search needs) slice-write-out (λ c. search needs) (λ c. search needs) loop-again
+    (λ c. search needs) returns)

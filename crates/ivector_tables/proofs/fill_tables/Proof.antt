@@ -1,3 +1,5 @@
+-- `fill_tables` meets its contract: Σ⁻¹ and M are the two parts of what `read_gaussian` wrote, and each table is by its call's contract
+-- (`sigma-by`, `quadratic-by` in Rows.antt).
 use borrow.Author.Needs.{needs}
 use mathlib.Core.Path.{refl, sym, ap, _∙_}
 use Prim.Native.Nat.{_+_, _*_}
@@ -40,15 +42,6 @@ slice-aggregate-sigma-inv-m c =
     let pre = c .before .before .before .before .pre in
     sym (length-take-le (triangle (args .d)) (args .numbers .now) (omega (arith, (pre .2))))
 
-mul-sigma-inv-m : tie.Need-mul-sigma-inv-m
-mul-sigma-inv-m c = search needs
-
-sub-sigma-inv-m : tie.Need-sub-sigma-inv-m
-sub-sigma-inv-m c = omega arith
-
-part-sigma-inv-m-start : tie.Need-part-sigma-inv-m-start
-part-sigma-inv-m-start c = omega arith
-
 part-sigma-inv-m-end : tie.Need-part-sigma-inv-m-end
 part-sigma-inv-m-end c =
     let pre = c .before .before .before .before .pre in
@@ -59,15 +52,6 @@ sigma-inv-m-requires c κs =
     let pre = c .before .before .before .before .before .before .pre in
     let args = c .before .before .before .before .before .before .args in
     ((pre .0), omega (arith, (length-take-le (triangle (args .d)) (args .numbers .now) (omega (arith, (pre .2))))), omega (arith, (length-lent (triangle (args .d)) ((args .d) * (args .n)) ((triangle (args .d)) + (args .d) * (args .n)) (args .numbers .now) refl (pre .2))), (pre .3))
-
-mul-quadratic-term : tie.Need-mul-quadratic-term
-mul-quadratic-term c = search needs
-
-sub-quadratic-term : tie.Need-sub-quadratic-term
-sub-quadratic-term c = omega arith
-
-part-quadratic-term-start : tie.Need-part-quadratic-term-start
-part-quadratic-term-start c = omega arith
 
 part-quadratic-term-end : tie.Need-part-quadratic-term-end
 part-quadratic-term-end c =
@@ -81,12 +65,6 @@ quadratic-term-requires c κs =
     let sigma-inv-m = c .before .before .before .before .before .sigma-inv-m in
     ((pre .1), omega (arith, (length-lent (triangle (args .d)) ((args .d) * (args .n)) ((triangle (args .d)) + (args .d) * (args .n)) (args .numbers .now) refl (pre .2))), omega (arith, (sigma-inv-m .kept .1 .1 .1 .1 .0), (pre .3)), (pre .4))
 
-same-length : tie.Need-same-length
-same-length c = search needs
-
-same-length-2 : tie.Need-same-length-2
-same-length-2 c = search needs
-
 returns : tie.Need-returns
 returns c =
     let args = c .before .before .before .before .before .before .before .before .before .before .before .before .before .before .before .args in
@@ -98,22 +76,6 @@ returns c =
 pub fill-tables-spec : {M : Type 1} → statement M
 fill-tables-spec =
     tie.close
-    (tie.spec
-    add-start
-    mul-start
-    mul-end
-    add-end
-    slice-aggregate-sigma-inv-m
-    mul-sigma-inv-m
-    sub-sigma-inv-m
-    part-sigma-inv-m-start
-    part-sigma-inv-m-end
-    sigma-inv-m-requires
-    mul-quadratic-term
-    sub-quadratic-term
-    part-quadratic-term-start
-    part-quadratic-term-end
-    quadratic-term-requires
-    same-length
-    same-length-2
-    returns)
+    (tie.spec add-start mul-start mul-end add-end slice-aggregate-sigma-inv-m (λ c. search needs) (λ c. omega arith) (λ c. omega arith)
+    part-sigma-inv-m-end sigma-inv-m-requires (λ c. search needs) (λ c. omega arith) (λ c. omega arith) part-quadratic-term-end
+    quadratic-term-requires (λ c. search needs) (λ c. search needs) returns)

@@ -1,3 +1,5 @@
+-- `fill_transposed` meets its contract. The loop's invariant: the first c columns stand in the room as rows, by the laws of rows that make a
+-- table (crate loops); that this is the definition's `transposed` is `transposed-whole` (Rows.antt).
 use borrow.Author.Needs.{needs}
 use mathlib.Core.Path.{_≡_, refl, _∙_}
 use Prim.Native.Nat.{_+_, _-_, _*_, _≤_}
@@ -45,12 +47,6 @@ mul-fill-column c =
     let pre = c .before .before .before .before .pre in
     omega (arith, row-in (loop .c) (args .kept) (args .rows) (length (args .out .now)) (pre .1 .3) ((c .loop-test) .taken), (loop .inv .1))
 
-sub-fill-column : tie.Need-sub-fill-column Inv-loop μ-loop
-sub-fill-column c = search needs
-
-part-fill-column-start : tie.Need-part-fill-column-start Inv-loop μ-loop
-part-fill-column-start c = search needs
-
 part-fill-column-end : tie.Need-part-fill-column-end Inv-loop μ-loop
 part-fill-column-end c =
     let loop = c .before .loop in
@@ -66,12 +62,6 @@ fill-column-requires c κs =
     let args = c .before .before .before .before .before .args in
     ((pre .0), ((pre .1 .0), (pre .1 .1), omega (arith, (loop-test .taken), (pre .1 .2)), length-lent ((loop .c) * (args .rows)) (args .rows) _ (loop .out) refl (omega (arith, row-in (loop .c) (args .kept) (args .rows) (length (args .out .now)) (pre .1 .3) (loop-test .taken), (loop .inv .1)))))
 
-add-c : tie.Need-add-c Inv-loop μ-loop
-add-c c = search needs
-
-loop-less : tie.Need-loop-less Inv-loop μ-loop
-loop-less c = search needs
-
 loop-again : tie.Need-loop-again Inv-loop μ-loop
 loop-again c =
     let loop-test = c .before .before .before .before .loop-test in
@@ -84,9 +74,6 @@ loop-again c =
       rows-turn (λ k. build (args .rows) (λ r. at (numbers binary32 ((args .rows) * (args .cols)) (drop (args .from) (args .s .now))) (r * (args .cols) + k))) (loop .c) _ {k = ((loop .c) * (args .rows)) + (args .rows) - ((loop .c) * (args .rows))} (length-cells (loop .c) (args .rows) _) (loop .inv .2) (fill-column .ensures) ((fill-column .kept .1 .1 .1 .1 .1 .0) ∙ length-lent ((loop .c) * (args .rows)) (args .rows) _ (loop .out) refl (omega (arith, row-in (loop .c) (args .kept) (args .rows) (length (args .out .now)) (pre .1 .3) (loop-test .taken), (loop .inv .1))) ∙ omega arith),
     )
 
-same-length : tie.Need-same-length Inv-loop μ-loop
-same-length c = search needs
-
 returns : tie.Need-returns Inv-loop μ-loop
 returns c =
     let args = c .before .before .before .before .args in
@@ -96,19 +83,5 @@ returns c =
 pub fill-transposed-spec : {M : Type 1} → statement M
 fill-transposed-spec =
     tie.close
-    (tie.spec
-    Inv-loop
-    μ-loop
-    loop-holds
-    mul-start
-    add-end
-    mul-fill-column
-    sub-fill-column
-    part-fill-column-start
-    part-fill-column-end
-    fill-column-requires
-    add-c
-    loop-less
-    loop-again
-    same-length
-    returns)
+    (tie.spec Inv-loop μ-loop loop-holds mul-start add-end mul-fill-column (λ c. search needs) (λ c. search needs) part-fill-column-end
+    fill-column-requires (λ c. search needs) (λ c. search needs) loop-again (λ c. search needs) returns)

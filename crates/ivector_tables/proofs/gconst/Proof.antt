@@ -1,3 +1,5 @@
+-- `gconst` meets its contract. The loop's invariant: the sum of the first k terms; that the whole is the definition's constant is `gconst-is`,
+-- and that every product of indices is small is `few` (both in Gmm.antt).
 use borrow.Author.Needs.{needs}
 use mathlib.Core.Path.{_≡_, refl, ap, _∙_}
 use Prim.Native.Nat.{_-_, _*_, _≤_}
@@ -36,12 +38,6 @@ f32-at-requires c κs =
     let pre = c .before .pre in
     ((pre .0) .weights-ready, (pre .1 .1))
 
-f32-to-f64-with-nan-requires : tie.Need-f32-to-f64-with-nan-requires Inv-loop μ-loop
-f32-to-f64-with-nan-requires c κs = search needs
-
-ln-requires : tie.Need-ln-requires Inv-loop μ-loop
-ln-requires c κs = search needs
-
 loop-holds : tie.Need-loop-holds Inv-loop μ-loop
 loop-holds c = (omega arith, iter-none _ _)
 
@@ -69,23 +65,11 @@ f32-at-requires-3 c κs =
     let args = c .before .before .before .before .before .before .before .args in
     ((pre .0) .vars-ready, cell-below (args .g) ((c .before .before .loop) .k) (args .num-gauss) (args .d) (pre .1 .1) ((c .before .loop-test) .taken))
 
-gconst-term-requires : tie.Need-gconst-term-requires Inv-loop μ-loop
-gconst-term-requires c κs = search needs
-
-add-k : tie.Need-add-k Inv-loop μ-loop
-add-k c = search needs
-
-loop-less : tie.Need-loop-less Inv-loop μ-loop
-loop-less c = search needs
-
 loop-again : tie.Need-loop-again Inv-loop μ-loop
 loop-again c =
     let loop-test = c .before .before .before .loop-test in
     let loop = c .before .before .before .before .loop in
     (omega (arith, (loop-test .taken)), iter-step _ _ _ (loop .inv .1) (ap (λ (x : Float). (loop .gc) +₆₄ x) (((c .gconst-term) .ensures) ∙ term-is refl ((c .before .before .f32-at2) .ensures) ((c .before .f32-at3) .ensures))))
-
-narrow-requires : tie.Need-narrow-requires Inv-loop μ-loop
-narrow-requires c κs = search needs
 
 returns : tie.Need-returns Inv-loop μ-loop
 returns c =
@@ -100,22 +84,5 @@ returns c =
 pub gconst-spec : {M : Type 1} → statement M
 gconst-spec =
     tie.close
-    (tie.spec
-    Inv-loop
-    μ-loop
-    mul-n
-    mul-start
-    f32-at-requires
-    f32-to-f64-with-nan-requires
-    ln-requires
-    loop-holds
-    add-f32-at
-    f32-at-requires-2
-    add-f32-at-2
-    f32-at-requires-3
-    gconst-term-requires
-    add-k
-    loop-less
-    loop-again
-    narrow-requires
-    returns)
+    (tie.spec Inv-loop μ-loop mul-n mul-start f32-at-requires (λ c κs. search needs) (λ c κs. search needs) loop-holds add-f32-at f32-at-requires-2
+    add-f32-at-2 f32-at-requires-3 (λ c κs. search needs) (λ c. search needs) (λ c. search needs) loop-again (λ c κs. search needs) returns)

@@ -1,3 +1,4 @@
+-- `offset_at` meets its contract: there is a column after the spliced ones, or there is none (`offset-there`, `offset-none` in Gmm.antt).
 use native.Mathlib.Omega.{arith}
 use Rattle.loops.proofs.Cells.{cell-below}
 use Rattle.ivector_tables.specs.Steps.{floatMatrix}
@@ -41,11 +42,4 @@ returns-2 c =
 
 pub offset-at-spec : {M : Type 1} → statement M
 offset-at-spec =
-    tie.close
-    (tie.spec
-    mul-f32-at
-    mul-f32-at-2
-    add-f32-at
-    f32-at-requires
-    returns
-    returns-2)
+    tie.close (tie.spec mul-f32-at mul-f32-at-2 add-f32-at f32-at-requires returns returns-2)

@@ -1,3 +1,5 @@
+-- `quadratic_row` meets its contract. The loop's invariant: each place holds the sum over the first b rows of Σ⁻¹ M, by the laws of columns
+-- summed row after row (`scaled-none`, `scaled-turn`, `scaled-end` in Rows.antt).
 use borrow.Author.Needs.{needs}
 use mathlib.Core.Path.{_≡_, refl, sym, _∙_}
 use Prim.Native.Nat.{_+_, _-_, _*_, _≤_}
@@ -78,12 +80,6 @@ mul-add-scaled-2 c =
     let fits = c .before .before .before .before .before .before .before .before .before .before .fits in
     omega (arith, row-in ((c .before .before .loop) .b) (args .d) (args .s) (length (args .sigma-inv-m .now)) (pre .2) ((c .before .loop-test) .taken), (pre .0), (fits))
 
-sub-add-scaled : tie.Need-sub-add-scaled Inv-loop μ-loop
-sub-add-scaled c = omega arith
-
-part-add-scaled-start : tie.Need-part-add-scaled-start Inv-loop μ-loop
-part-add-scaled-start c = omega arith
-
 part-add-scaled-end : tie.Need-part-add-scaled-end Inv-loop μ-loop
 part-add-scaled-end c =
     let args = c .before .before .before .before .before .before .before .before .before .before .args in
@@ -99,12 +95,6 @@ add-scaled-requires c κs =
     let clear = c .before .before .before .before .before .before .before .clear in
     le-of-eq (sym (length-lent ((loop .b) * (args .s)) ((args .p) + 1) _ (args .sigma-inv-m .now) (omega arith) (omega (arith, row-in (loop .b) (args .d) (args .s) (length (args .sigma-inv-m .now)) (pre .2) (loop-test .taken), (pre .0))) ∙ omega (arith, (loop .inv .1), (clear .kept .0), (pre .3))))
 
-add-b : tie.Need-add-b Inv-loop μ-loop
-add-b c = search needs
-
-loop-less : tie.Need-loop-less Inv-loop μ-loop
-loop-less c = search needs
-
 loop-again : tie.Need-loop-again Inv-loop μ-loop
 loop-again c =
     let loop-test = c .before .before .before .before .before .before .loop-test in
@@ -112,9 +102,6 @@ loop-again c =
     let loop = c .before .before .before .before .before .before .before .loop in
     let args = c .before .before .before .before .before .before .before .before .before .before .before .before .before .before .before .args in
     (omega (arith, (loop-test .taken)), (add-scaled .kept .1 .1 .0) ∙ (loop .inv .1), scaled-turn ((args .p) + 1) (args .s) (args .sigma-inv-m .now) (λ b. at (args .m .now) (b * (args .s) + (args .p))) (loop .b) (omega arith) refl (loop .inv .2) (add-scaled .ensures))
-
-same-length : tie.Need-same-length Inv-loop μ-loop
-same-length c = search needs
 
 returns : tie.Need-returns Inv-loop μ-loop
 returns c =
@@ -125,25 +112,6 @@ returns c =
 pub quadratic-row-spec : {M : Type 1} → statement M
 quadratic-row-spec =
     tie.close
-    (tie.spec
-    Inv-loop
-    μ-loop
-    add-clear
-    clear-requires
-    loop-holds
-    mul-start
-    add-end
-    add-end-2
-    add-add-scaled
-    mul-add-scaled
-    shared-slice-read-add-scaled
-    mul-add-scaled-2
-    sub-add-scaled
-    part-add-scaled-start
-    part-add-scaled-end
-    add-scaled-requires
-    add-b
-    loop-less
-    loop-again
-    same-length
-    returns)
+    (tie.spec Inv-loop μ-loop add-clear clear-requires loop-holds mul-start add-end add-end-2 add-add-scaled mul-add-scaled
+    shared-slice-read-add-scaled mul-add-scaled-2 (λ c. omega arith) (λ c. omega arith) part-add-scaled-end add-scaled-requires (λ c. search needs)
+    (λ c. search needs) loop-again (λ c. search needs) returns)

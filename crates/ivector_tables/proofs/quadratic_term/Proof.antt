@@ -1,3 +1,5 @@
+-- `quadratic_term` meets its contract. The loop's invariant: the first p rows of the triangle stand in the room, which ends at p (p + 1) / 2;
+-- that this is the definition's `quadraticTerm` is `quadratic-whole` (Rows.antt).
 use borrow.Author.Needs.{needs}
 use mathlib.Core.Path.{_≡_, refl, sym, _∙_}
 use Prim.Native.Nat.{_+_, _-_, _*_, _/_, _≤_}
@@ -45,12 +47,6 @@ mul-quadratic-row c =
     let pre = c .before .before .before .before .before .pre in
     omega (arith, triangle-below (loop .p) (loop .p) (args .s) (omega arith) ((c .loop-test) .taken), (loop .inv .1), (pre .3), (loop .inv .2))
 
-sub-quadratic-row : tie.Need-sub-quadratic-row Inv-loop μ-loop
-sub-quadratic-row c = omega arith
-
-part-quadratic-row-start : tie.Need-part-quadratic-row-start Inv-loop μ-loop
-part-quadratic-row-start c = omega arith
-
 part-quadratic-row-end : tie.Need-part-quadratic-row-end Inv-loop μ-loop
 part-quadratic-row-end c =
     let loop = c .before .loop in
@@ -66,12 +62,6 @@ quadratic-row-requires c κs =
     let args = c .before .before .before .before .before .before .args in
     ((loop-test .taken), (pre .1), (pre .2), length-lent (loop .start) ((loop .p) + 1) ((loop .start) + (loop .p) + 1) (loop .out) (omega arith) (omega (arith, triangle-below (loop .p) (loop .p) (args .s) (omega arith) (loop-test .taken), (loop .inv .1), (pre .3), (loop .inv .2))))
 
-add-p : tie.Need-add-p Inv-loop μ-loop
-add-p c = search needs
-
-loop-less : tie.Need-loop-less Inv-loop μ-loop
-loop-less c = search needs
-
 loop-again : tie.Need-loop-again Inv-loop μ-loop
 loop-again c =
     let loop-test = c .before .before .before .before .loop-test in
@@ -85,9 +75,6 @@ loop-again c =
       rows-turn (λ p. build (p + 1) (quadraticRow (args .d) (args .s) (args .m .now) (args .sigma-inv-m .now) p)) (loop .p) _ {k = ((loop .start) + (loop .p) + 1) - (loop .start)} (length-triangle (quadraticRow (args .d) (args .s) (args .m .now) (args .sigma-inv-m .now)) (loop .p) ∙ sym (loop .inv .1)) (loop .inv .3) (quadratic-row .ensures) ((quadratic-row .kept .1 .1 .1 .1 .1 .0) ∙ length-lent (loop .start) ((loop .p) + 1) ((loop .start) + (loop .p) + 1) (loop .out) (omega arith) (omega (arith, triangle-below (loop .p) (loop .p) (args .s) (omega arith) (loop-test .taken), (loop .inv .1), (pre .3), (loop .inv .2))) ∙ omega arith),
     )
 
-same-length : tie.Need-same-length Inv-loop μ-loop
-same-length c = search needs
-
 returns : tie.Need-returns Inv-loop μ-loop
 returns c =
     let args = c .before .before .before .before .before .args in
@@ -98,19 +85,5 @@ returns c =
 pub quadratic-term-spec : {M : Type 1} → statement M
 quadratic-term-spec =
     tie.close
-    (tie.spec
-    Inv-loop
-    μ-loop
-    loop-holds
-    add-end
-    add-end-2
-    mul-quadratic-row
-    sub-quadratic-row
-    part-quadratic-row-start
-    part-quadratic-row-end
-    quadratic-row-requires
-    add-p
-    loop-less
-    loop-again
-    same-length
-    returns)
+    (tie.spec Inv-loop μ-loop loop-holds add-end add-end-2 mul-quadratic-row (λ c. omega arith) (λ c. omega arith) part-quadratic-row-end
+    quadratic-row-requires (λ c. search needs) (λ c. search needs) loop-again (λ c. search needs) returns)

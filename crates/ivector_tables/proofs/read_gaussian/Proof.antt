@@ -1,3 +1,5 @@
+-- `read_gaussian` meets its contract: two parts of the scratch are filled one after the other, and the second leaves the first as it is
+-- (`first-part`, `second-part` in Rows.antt).
 use mathlib.Core.Path.{_≡_, refl, sym, ap, _∙_, subst}
 use mathlib.Core.List.{_++_}
 use Prim.Native.Nat.{ℕ, _+_, _-_, _*_}
@@ -59,12 +61,6 @@ mul-fill-f64s c =
     let pre = c .before .before .before .before .before .before .pre in
     omega (arith, lent-length (triangle (args .d)) (args .scratch .now) (fill-f64s .last .1 .1 .0) ((fill-f64s .kept .1 .1 .0) ∙ (length-take-le (triangle (args .d)) (args .scratch .now) (omega (arith, (pre .1 .1 .2))))) (omega (arith, (pre .1 .1 .2))))
 
-sub-fill-f64s : tie.Need-sub-fill-f64s
-sub-fill-f64s c = omega arith
-
-part-fill-f64s-start : tie.Need-part-fill-f64s-start
-part-fill-f64s-start c = omega arith
-
 part-fill-f64s-end : tie.Need-part-fill-f64s-end
 part-fill-f64s-end c =
     let args = c .before .before .before .before .before .before .args in
@@ -108,18 +104,5 @@ returns c =
 pub read-gaussian-spec : {M : Type 1} → statement M
 read-gaussian-spec =
     tie.close
-    (tie.spec
-    add-start
-    mul-start
-    mul-end
-    add-end
-    slice-relend-prefix-fill-f64s
-    slice-aggregate-fill-f64s
-    fill-f64s-requires
-    mul-fill-f64s
-    sub-fill-f64s
-    part-fill-f64s-start
-    part-fill-f64s-end
-    fill-f64s-requires-2
-    same-length
-    returns)
+    (tie.spec add-start mul-start mul-end add-end slice-relend-prefix-fill-f64s slice-aggregate-fill-f64s fill-f64s-requires mul-fill-f64s
+    (λ c. omega arith) (λ c. omega arith) part-fill-f64s-end fill-f64s-requires-2 same-length returns)

@@ -1,3 +1,5 @@
+-- `sigma_inv_m` meets its contract. The loop's invariant: the first a rows of Σ⁻¹ M stand in the room, by the laws of rows that make a table
+-- (crate loops); that this is the definition's `sigmaInvM` is `sigma-whole` (Rows.antt).
 use borrow.Author.Needs.{needs}
 use mathlib.Core.Path.{_≡_, refl, _∙_}
 use Prim.Native.Nat.{_+_, _-_, _*_, _≤_}
@@ -43,12 +45,6 @@ mul-sigma-inv-m-row c =
     let pre = c .before .before .before .before .before .pre in
     omega (arith, row-in (loop .a) (args .d) (args .s) (length (args .out .now)) (omega (arith, (pre .3))) ((c .loop-test) .taken), (loop .inv .1))
 
-sub-sigma-inv-m-row : tie.Need-sub-sigma-inv-m-row Inv-loop μ-loop
-sub-sigma-inv-m-row c = search needs
-
-part-sigma-inv-m-row-start : tie.Need-part-sigma-inv-m-row-start Inv-loop μ-loop
-part-sigma-inv-m-row-start c = search needs
-
 part-sigma-inv-m-row-end : tie.Need-part-sigma-inv-m-row-end Inv-loop μ-loop
 part-sigma-inv-m-row-end c =
     let loop = c .before .loop in
@@ -64,12 +60,6 @@ sigma-inv-m-row-requires c κs =
     let args = c .before .before .before .before .before .before .args in
     ((pre .0), (loop-test .taken), (pre .1), (pre .2), length-lent ((loop .a) * (args .s)) (args .s) _ (loop .out) refl (omega (arith, row-in (loop .a) (args .d) (args .s) (length (args .out .now)) (omega (arith, (pre .3))) (loop-test .taken), (loop .inv .1))))
 
-add-a : tie.Need-add-a Inv-loop μ-loop
-add-a c = search needs
-
-loop-less : tie.Need-loop-less Inv-loop μ-loop
-loop-less c = search needs
-
 loop-again : tie.Need-loop-again Inv-loop μ-loop
 loop-again c =
     let loop-test = c .before .before .before .before .loop-test in
@@ -82,9 +72,6 @@ loop-again c =
       rows-turn (λ a. build (args .s) (sigmaRow (args .d) (args .s) (args .sigma-inv .now) (args .m .now) a)) (loop .a) _ {k = ((loop .a) * (args .s)) + (args .s) - ((loop .a) * (args .s))} (length-cells (loop .a) (args .s) _) (loop .inv .2) (sigma-inv-m-row .ensures) ((sigma-inv-m-row .kept .1 .1 .1 .1 .1 .0) ∙ length-lent ((loop .a) * (args .s)) (args .s) _ (loop .out) refl (omega (arith, row-in (loop .a) (args .d) (args .s) (length (args .out .now)) (omega (arith, (pre .3))) (loop-test .taken), (loop .inv .1))) ∙ omega arith),
     )
 
-same-length : tie.Need-same-length Inv-loop μ-loop
-same-length c = search needs
-
 returns : tie.Need-returns Inv-loop μ-loop
 returns c =
     let args = c .before .before .before .before .before .args in
@@ -95,19 +82,5 @@ returns c =
 pub sigma-inv-m-spec : {M : Type 1} → statement M
 sigma-inv-m-spec =
     tie.close
-    (tie.spec
-    Inv-loop
-    μ-loop
-    loop-holds
-    mul-start
-    add-end
-    mul-sigma-inv-m-row
-    sub-sigma-inv-m-row
-    part-sigma-inv-m-row-start
-    part-sigma-inv-m-row-end
-    sigma-inv-m-row-requires
-    add-a
-    loop-less
-    loop-again
-    same-length
-    returns)
+    (tie.spec Inv-loop μ-loop loop-holds mul-start add-end mul-sigma-inv-m-row (λ c. search needs) (λ c. search needs) part-sigma-inv-m-row-end
+    sigma-inv-m-row-requires (λ c. search needs) (λ c. search needs) loop-again (λ c. search needs) returns)

@@ -1,3 +1,5 @@
+-- `sigma_inv_m_row` meets its contract. The loop's invariant: each place holds the sum over the first b rows of M, by the laws of columns
+-- summed row after row (`scaled-none`, `scaled-turn`, `scaled-end` in Rows.antt).
 use borrow.Author.Needs.{needs}
 use mathlib.Core.Path.{_≡_, refl, sym, ap, _∙_}
 use Prim.Native.Nat.{_+_, _-_, _*_, _≤_}
@@ -69,12 +71,6 @@ mul-add-scaled-2 c =
     let fits = c .before .before .before .before .before .before .before .before .before .before .before .fits in
     omega (arith, row-in (loop .b) (args .d) (args .s) (length (args .m .now)) (pre .3) ((c .before .before .loop-test) .taken), (fits))
 
-sub-add-scaled : tie.Need-sub-add-scaled Inv-loop μ-loop
-sub-add-scaled c = search needs
-
-part-add-scaled-start : tie.Need-part-add-scaled-start Inv-loop μ-loop
-part-add-scaled-start c = search needs
-
 part-add-scaled-end : tie.Need-part-add-scaled-end Inv-loop μ-loop
 part-add-scaled-end c =
     let loop = c .before .before .before .loop in
@@ -91,12 +87,6 @@ add-scaled-requires c κs =
     let clear = c .before .before .before .before .before .before .before .before .clear in
     le-of-eq (sym (length-lent ((loop .b) * (args .s)) (args .s) _ (args .m .now) refl (row-in (loop .b) (args .d) (args .s) (length (args .m .now)) (pre .3) (loop-test .taken)) ∙ omega (arith, (loop .inv .1), (clear .kept .0), (pre .4))))
 
-add-b : tie.Need-add-b Inv-loop μ-loop
-add-b c = search needs
-
-loop-less : tie.Need-loop-less Inv-loop μ-loop
-loop-less c = search needs
-
 loop-again : tie.Need-loop-again Inv-loop μ-loop
 loop-again c =
     let loop-test = c .before .before .before .before .before .before .before .loop-test in
@@ -105,9 +95,6 @@ loop-again c =
     let args = c .before .before .before .before .before .before .before .before .before .before .before .before .before .before .before .before .args in
     let packed-index = c .before .before .before .before .before .before .packed-index in
     (omega (arith, (loop-test .taken)), (add-scaled .kept .1 .1 .0) ∙ (loop .inv .1), scaled-turn (args .s) (args .s) (args .m .now) (λ b. at (args .sigma-inv .now) (packed (args .a) b)) (loop .b) refl (ap (at (args .sigma-inv .now)) (packed-index .ensures)) (loop .inv .2) (add-scaled .ensures))
-
-same-length : tie.Need-same-length Inv-loop μ-loop
-same-length c = search needs
 
 returns : tie.Need-returns Inv-loop μ-loop
 returns c =
@@ -118,23 +105,6 @@ returns c =
 pub sigma-inv-m-row-spec : {M : Type 1} → statement M
 sigma-inv-m-row-spec =
     tie.close
-    (tie.spec
-    Inv-loop
-    μ-loop
-    clear-requires
-    loop-holds
-    mul-start
-    add-end
-    packed-index-requires
-    mul-add-scaled
-    shared-slice-read-add-scaled
-    mul-add-scaled-2
-    sub-add-scaled
-    part-add-scaled-start
-    part-add-scaled-end
-    add-scaled-requires
-    add-b
-    loop-less
-    loop-again
-    same-length
-    returns)
+    (tie.spec Inv-loop μ-loop clear-requires loop-holds mul-start add-end packed-index-requires mul-add-scaled shared-slice-read-add-scaled
+    mul-add-scaled-2 (λ c. search needs) (λ c. search needs) part-add-scaled-end add-scaled-requires (λ c. search needs) (λ c. search needs)
+    loop-again (λ c. search needs) returns)

@@ -1,3 +1,5 @@
+-- `check_extractor` meets its contract: heading, matrices M, inverses, offset, then the test of all lengths. Each way out is a chain of
+-- `step` (Chain.antt of kaldi_io); how the functions' parts make the definition's `extractor`, and what is known in the end, is in ExtractorParts.antt.
 use mathlib.Core.Path.{refl, sym, _∙_, subst}
 use mathlib.Core.Bool.{true}
 use borrow.Author.Needs.{needs}
@@ -11,15 +13,6 @@ use Rattle.kaldi_files.proofs.ExtractorParts.{past-counted, past-closin
 use Rattle.kaldi_files.proofs.check_extractor.Statement.{statement}
 use Rattle.kaldi_files.proofs.check_extractor.Tie as tie
 
-expect-heading-requires : tie.Need-expect-heading-requires
-expect-heading-requires c κs = search needs
-
-enum-known-next : tie.Need-enum-known-next
-enum-known-next c = search needs
-
-enum-known-e : tie.Need-enum-known-e
-enum-known-e c = search needs
-
 returns : tie.Need-returns
 unfolding extractor
 returns c =
@@ -27,27 +20,6 @@ returns c =
       step nextOf _ _ (expect-heading .ensures) (c .before .e .given .1) refl,
       tt,
     )
-
-check-means-requires : tie.Need-check-means-requires
-check-means-requires c κs = search needs
-
-enum-known-e-2 : tie.Need-enum-known-e-2
-enum-known-e-2 c = search needs
-
-enum-known-count : tie.Need-enum-known-count
-enum-known-count c = search needs
-
-slice-aggregate-expect-token : tie.Need-slice-aggregate-expect-token
-slice-aggregate-expect-token c = search needs
-
-expect-token-requires : tie.Need-expect-token-requires
-expect-token-requires c κs = search needs
-
-enum-known-next-2 : tie.Need-enum-known-next-2
-enum-known-next-2 c = search needs
-
-enum-known-e-3 : tie.Need-enum-known-e-3
-enum-known-e-3 c = search needs
 
 returns-2 : tie.Need-returns-2
 unfolding extractor
@@ -64,27 +36,6 @@ returns-2 c =
           (step nextOf _ _ (expect-token .ensures) (c .before .e3 .given .1) refl))),
       tt,
     )
-
-check-packeds-requires : tie.Need-check-packeds-requires
-check-packeds-requires c κs = search needs
-
-enum-known-e-4 : tie.Need-enum-known-e-4
-enum-known-e-4 c = search needs
-
-enum-known-square : tie.Need-enum-known-square
-enum-known-square c = search needs
-
-read-offset-requires : tie.Need-read-offset-requires
-read-offset-requires c κs = search needs
-
-enum-known-e-5 : tie.Need-enum-known-e-5
-enum-known-e-5 c = search needs
-
-enum-known-x : tie.Need-enum-known-x
-enum-known-x c = search needs
-
-both-requires : tie.Need-both-requires
-both-requires c κs = search needs
 
 returns-3 : tie.Need-returns-3
 unfolding extractor
@@ -197,28 +148,7 @@ returns-7 c =
 pub check-extractor-spec : {M : Type 1} → statement M
 check-extractor-spec =
     tie.close
-    (tie.spec
-    expect-heading-requires
-    enum-known-next
-    enum-known-e
-    returns
-    check-means-requires
-    enum-known-e-2
-    enum-known-count
-    slice-aggregate-expect-token
-    expect-token-requires
-    enum-known-next-2
-    enum-known-e-3
-    returns-2
-    check-packeds-requires
-    enum-known-e-4
-    enum-known-square
-    read-offset-requires
-    enum-known-e-5
-    enum-known-x
-    both-requires
-    returns-3
-    returns-4
-    returns-5
-    returns-6
+    (tie.spec (λ c κs. search needs) (λ c. search needs) (λ c. search needs) returns (λ c κs. search needs) (λ c. search needs) (λ c. search needs)
+    (λ c. search needs) (λ c κs. search needs) (λ c. search needs) (λ c. search needs) returns-2 (λ c κs. search needs) (λ c. search needs)
+    (λ c. search needs) (λ c κs. search needs) (λ c. search needs) (λ c. search needs) (λ c κs. search needs) returns-3 returns-4 returns-5 returns-6
     returns-7)

@@ -1,3 +1,5 @@
+-- `check_gmm` meets its contract: the file's items one after the other, as in the definition's `gmm`. Each way out is a chain of `step`
+-- (Chain.antt of kaldi_io); the tests across the blocks, and what is known once they pass, are in GmmDims.antt.
 use mathlib.Core.Path.{refl, sym, _∙_, subst}
 use borrow.Author.Needs.{needs}
 use lib.Ieee.{binary32}
@@ -9,15 +11,6 @@ use Rattle.kaldi_files.proofs.GmmDims.{rows-differ, cols-differ, weight
 use Rattle.kaldi_files.proofs.check_gmm.Statement.{statement}
 use Rattle.kaldi_files.proofs.check_gmm.Tie as tie
 
-open-binary-requires : tie.Need-open-binary-requires
-open-binary-requires c κs = search needs
-
-enum-known-next : tie.Need-enum-known-next
-enum-known-next c = search needs
-
-enum-known-e : tie.Need-enum-known-e
-enum-known-e c = search needs
-
 returns : tie.Need-returns
 unfolding gmm
 returns c =
@@ -25,18 +18,6 @@ returns c =
       step nextOf _ _ (open-binary .ensures) (c .before .e .given .1) refl,
       tt,
     )
-
-slice-aggregate-expect-token : tie.Need-slice-aggregate-expect-token
-slice-aggregate-expect-token c = search needs
-
-expect-token-requires : tie.Need-expect-token-requires
-expect-token-requires c κs = search needs
-
-enum-known-next-2 : tie.Need-enum-known-next-2
-enum-known-next-2 c = search needs
-
-enum-known-e-2 : tie.Need-enum-known-e-2
-enum-known-e-2 c = search needs
 
 returns-2 : tie.Need-returns-2
 unfolding gmm
@@ -48,15 +29,6 @@ returns-2 c =
           (step nextOf _ _ (expect-token .ensures) (c .before .e2 .given .1) refl),
       tt,
     )
-
-expect-weights-requires : tie.Need-expect-weights-requires
-expect-weights-requires c κs = search needs
-
-enum-known-next-3 : tie.Need-enum-known-next-3
-enum-known-next-3 c = search needs
-
-enum-known-e-3 : tie.Need-enum-known-e-3
-enum-known-e-3 c = search needs
 
 returns-3 : tie.Need-returns-3
 unfolding gmm
@@ -71,27 +43,6 @@ returns-3 c =
           (step nextOf _ _ (expect-weights .ensures) (c .before .e3 .given .1) refl)),
       tt,
     )
-
-check-float-vec-requires : tie.Need-check-float-vec-requires
-check-float-vec-requires c κs = search needs
-
-enum-known-e-4 : tie.Need-enum-known-e-4
-enum-known-e-4 c = search needs
-
-enum-known-len : tie.Need-enum-known-len
-enum-known-len c = search needs
-
-slice-aggregate-expect-token-2 : tie.Need-slice-aggregate-expect-token-2
-slice-aggregate-expect-token-2 c = search needs
-
-expect-token-requires-2 : tie.Need-expect-token-requires-2
-expect-token-requires-2 c κs = search needs
-
-enum-known-next-4 : tie.Need-enum-known-next-4
-enum-known-next-4 c = search needs
-
-enum-known-e-5 : tie.Need-enum-known-e-5
-enum-known-e-5 c = search needs
 
 returns-4 : tie.Need-returns-4
 unfolding gmm
@@ -113,27 +64,6 @@ returns-4 c =
           (step nextOf _ _ (expect-token2 .ensures) (c .before .e5 .given .1) refl)))),
       tt,
     )
-
-check-float-matrix-requires : tie.Need-check-float-matrix-requires
-check-float-matrix-requires c κs = search needs
-
-enum-known-e-6 : tie.Need-enum-known-e-6
-enum-known-e-6 c = search needs
-
-enum-known-rows : tie.Need-enum-known-rows
-enum-known-rows c = search needs
-
-slice-aggregate-expect-token-3 : tie.Need-slice-aggregate-expect-token-3
-slice-aggregate-expect-token-3 c = search needs
-
-expect-token-requires-3 : tie.Need-expect-token-requires-3
-expect-token-requires-3 c κs = search needs
-
-enum-known-next-5 : tie.Need-enum-known-next-5
-enum-known-next-5 c = search needs
-
-enum-known-e-7 : tie.Need-enum-known-e-7
-enum-known-e-7 c = search needs
 
 returns-5 : tie.Need-returns-5
 unfolding gmm
@@ -161,15 +91,6 @@ returns-5 c =
           (step nextOf _ _ (expect-token3 .ensures) (c .before .e7 .given .1) refl)))))),
       tt,
     )
-
-check-float-matrix-requires-2 : tie.Need-check-float-matrix-requires-2
-check-float-matrix-requires-2 c κs = search needs
-
-enum-known-e-8 : tie.Need-enum-known-e-8
-enum-known-e-8 c = search needs
-
-enum-known-rows2 : tie.Need-enum-known-rows2
-enum-known-rows2 c = search needs
 
 returns-6 : tie.Need-returns-6
 unfolding gmm
@@ -377,43 +298,8 @@ returns-12 c =
 pub check-gmm-spec : {M : Type 1} → statement M
 check-gmm-spec =
     tie.close
-    (tie.spec
-    open-binary-requires
-    enum-known-next
-    enum-known-e
-    returns
-    slice-aggregate-expect-token
-    expect-token-requires
-    enum-known-next-2
-    enum-known-e-2
-    returns-2
-    expect-weights-requires
-    enum-known-next-3
-    enum-known-e-3
-    returns-3
-    check-float-vec-requires
-    enum-known-e-4
-    enum-known-len
-    slice-aggregate-expect-token-2
-    expect-token-requires-2
-    enum-known-next-4
-    enum-known-e-5
-    returns-4
-    check-float-matrix-requires
-    enum-known-e-6
-    enum-known-rows
-    slice-aggregate-expect-token-3
-    expect-token-requires-3
-    enum-known-next-5
-    enum-known-e-7
-    returns-5
-    check-float-matrix-requires-2
-    enum-known-e-8
-    enum-known-rows2
-    returns-6
-    returns-7
-    returns-8
-    returns-9
-    returns-10
-    returns-11
-    returns-12)
+    (tie.spec (λ c κs. search needs) (λ c. search needs) (λ c. search needs) returns (λ c. search needs) (λ c κs. search needs) (λ c. search needs)
+    (λ c. search needs) returns-2 (λ c κs. search needs) (λ c. search needs) (λ c. search needs) returns-3 (λ c κs. search needs) (λ c. search needs)
+    (λ c. search needs) (λ c. search needs) (λ c κs. search needs) (λ c. search needs) (λ c. search needs) returns-4 (λ c κs. search needs)
+    (λ c. search needs) (λ c. search needs) (λ c. search needs) (λ c κs. search needs) (λ c. search needs) (λ c. search needs) returns-5
+    (λ c κs. search needs) (λ c. search needs) (λ c. search needs) returns-6 returns-7 returns-8 returns-9 returns-10 returns-11 returns-12)

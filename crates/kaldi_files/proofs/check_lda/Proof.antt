@@ -1,3 +1,4 @@
+-- `check_lda` meets its contract: the mark, then a matrix, by `step` (Chain.antt of kaldi_io) and what `check_float_matrix` ensures.
 use mathlib.Core.Path.{refl}
 use borrow.Author.Needs.{needs}
 use Rattle.definition.specs.Kaldi.{lda}
@@ -5,18 +6,6 @@ use Rattle.kaldi_io.specs.Answers.{nextOf}
 use Rattle.kaldi_io.proofs.Chain.{step}
 use Rattle.kaldi_files.proofs.check_lda.Statement.{statement}
 use Rattle.kaldi_files.proofs.check_lda.Tie as tie
-
-open-binary-requires : tie.Need-open-binary-requires
-open-binary-requires c κs = search needs
-
-enum-known-e : tie.Need-enum-known-e
-enum-known-e c = search needs
-
-enum-known-next : tie.Need-enum-known-next
-enum-known-next c = search needs
-
-check-float-matrix-requires : tie.Need-check-float-matrix-requires
-check-float-matrix-requires c κs = search needs
 
 returns : tie.Need-returns
 unfolding lda
@@ -38,11 +27,4 @@ returns-2 c =
 
 pub check-lda-spec : {M : Type 1} → statement M
 check-lda-spec =
-    tie.close
-    (tie.spec
-    open-binary-requires
-    enum-known-e
-    enum-known-next
-    check-float-matrix-requires
-    returns
-    returns-2)
+    tie.close (tie.spec (λ c κs. search needs) (λ c. search needs) (λ c. search needs) (λ c κs. search needs) returns returns-2)

@@ -1,3 +1,4 @@
+-- `check_matrices` meets its contract: the loop of `check_packeds` over matrices, by the same laws of a run's tally (Runs.antt).
 use mathlib.Core.Path.{_≡_, ap, _∙_}
 use mathlib.Core.Bool.{Bool, true, false, _&&_}
 use Prim.Native.Nat.{_-_}
@@ -24,33 +25,12 @@ abbrev μ-loop : tie.MeasureT-loop
 loop-holds : tie.Need-loop-holds Inv-loop μ-loop
 loop-holds c = tally-start _ _ _ _ _
 
-check-double-matrix-requires : tie.Need-check-double-matrix-requires Inv-loop μ-loop
-check-double-matrix-requires c κs = search needs
-
-enum-known-e : tie.Need-enum-known-e Inv-loop μ-loop
-enum-known-e c = search needs
-
 returns : tie.Need-returns Inv-loop μ-loop
 returns c =
     let a = c .before .before .before .before .before .before .before .args in
     let loop = c .before .before .before .before .before .loop in
     let check-double-matrix = c .before .before .before .check-double-matrix in
     tally-stop (sizedAs (a .rows) (a .cols)) (matrix binary64 false maxFeat maxIvector) (a .s .now) (a .at) (a .count) (loop .alike) (loop .p) (loop .i) (loop .inv) (omega arith) (told (matrixOf binary64 (a .s .now)) (check-double-matrix .ensures .0) (c .before .e .given .1))
-
-enum-known-r : tie.Need-enum-known-r Inv-loop μ-loop
-enum-known-r c = search needs
-
-both-requires : tie.Need-both-requires Inv-loop μ-loop
-both-requires c κs = search needs
-
-both-requires-2 : tie.Need-both-requires-2 Inv-loop μ-loop
-both-requires-2 c κs = search needs
-
-add-i : tie.Need-add-i Inv-loop μ-loop
-add-i c = search needs
-
-loop-less : tie.Need-loop-less Inv-loop μ-loop
-loop-less c = search needs
 
 loop-again : tie.Need-loop-again Inv-loop μ-loop
 loop-again c =
@@ -69,17 +49,5 @@ returns-2 c =
 pub check-matrices-spec : {M : Type 1} → statement M
 check-matrices-spec =
     tie.close
-    (tie.spec
-    Inv-loop
-    μ-loop
-    loop-holds
-    check-double-matrix-requires
-    enum-known-e
-    returns
-    enum-known-r
-    both-requires
-    both-requires-2
-    add-i
-    loop-less
-    loop-again
-    returns-2)
+    (tie.spec Inv-loop μ-loop loop-holds (λ c κs. search needs) (λ c. search needs) returns (λ c. search needs) (λ c κs. search needs)
+    (λ c κs. search needs) (λ c. search needs) (λ c. search needs) loop-again returns-2)

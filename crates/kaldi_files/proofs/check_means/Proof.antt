@@ -1,3 +1,5 @@
+-- `check_means` meets its contract: the number of Gaussians, the first M, and the others, which are to have the first one's lengths.
+-- A run by its first item and its rest is in Runs.antt, what is known of all of them is `means-in` (ExtractorParts.antt).
 use mathlib.Core.Path.{refl, subst}
 use mathlib.Core.Bool.{true, false}
 use Prim.Native.Nat.{_-_}
@@ -16,39 +18,12 @@ use Rattle.kaldi_files.proofs.ExtractorParts.{means-in}
 use Rattle.kaldi_files.proofs.check_means.Statement.{statement}
 use Rattle.kaldi_files.proofs.check_means.Tie as tie
 
-read-dim-requires : tie.Need-read-dim-requires
-read-dim-requires c κs = search needs
-
-enum-known-e : tie.Need-enum-known-e
-enum-known-e c = search needs
-
-enum-known-count : tie.Need-enum-known-count
-enum-known-count c = search needs
-
-check-double-matrix-requires : tie.Need-check-double-matrix-requires
-check-double-matrix-requires c κs = search needs
-
-enum-known-e-2 : tie.Need-enum-known-e-2
-enum-known-e-2 c = search needs
-
-enum-known-rows : tie.Need-enum-known-rows
-enum-known-rows c = search needs
-
 sub-check-matrices : tie.Need-sub-check-matrices
 sub-check-matrices c =
     let a = c .before .before .before .before .before .before .before .before .before .args in
     let read-dim = c .before .before .before .before .before .before .before .read-dim in
     let count = c .before .before .before .before .before .count in
     omega (arith, (dim-in 1 1024 (a .s .now) _ (told dimOf (read-dim .ensures) (count .given .1))) .0)
-
-check-matrices-requires : tie.Need-check-matrices-requires
-check-matrices-requires c κs = search needs
-
-enum-known-e-3 : tie.Need-enum-known-e-3
-enum-known-e-3 c = search needs
-
-enum-known-alike : tie.Need-enum-known-alike
-enum-known-alike c = search needs
 
 returns : tie.Need-returns
 unfolding counted
@@ -102,18 +77,5 @@ returns-4 c =
 pub check-means-spec : {M : Type 1} → statement M
 check-means-spec =
     tie.close
-    (tie.spec
-    read-dim-requires
-    enum-known-e
-    enum-known-count
-    check-double-matrix-requires
-    enum-known-e-2
-    enum-known-rows
-    sub-check-matrices
-    check-matrices-requires
-    enum-known-e-3
-    enum-known-alike
-    returns
-    returns-2
-    returns-3
-    returns-4)
+    (tie.spec (λ c κs. search needs) (λ c. search needs) (λ c. search needs) (λ c κs. search needs) (λ c. search needs) (λ c. search needs)
+    sub-check-matrices (λ c κs. search needs) (λ c. search needs) (λ c. search needs) returns returns-2 returns-3 returns-4)

@@ -1,3 +1,5 @@
+-- `check_packeds` meets its contract. The loop's invariant: the tally of the whole run is that of the rest, begun with what was seen so far.
+-- A turn and the two ways out are `tally-turn`, `tally-stop` and `tally-end` (Runs.antt), which hold of any block.
 use mathlib.Core.Path.{_≡_}
 use mathlib.Core.Bool.{true}
 use Prim.Native.Nat.{_-_}
@@ -22,30 +24,12 @@ abbrev μ-loop : tie.MeasureT-loop
 loop-holds : tie.Need-loop-holds Inv-loop μ-loop
 loop-holds c = tally-start _ _ _ _ _
 
-check-packed-double-requires : tie.Need-check-packed-double-requires Inv-loop μ-loop
-check-packed-double-requires c κs = search needs
-
-enum-known-e : tie.Need-enum-known-e Inv-loop μ-loop
-enum-known-e c = search needs
-
 returns : tie.Need-returns Inv-loop μ-loop
 returns c =
     let a = c .before .before .before .before .before .before .before .args in
     let loop = c .before .before .before .before .before .loop in
     let check-packed-double = c .before .before .before .check-packed-double in
     tally-stop (squareAs (a .dim)) packedMatrix (a .s .now) (a .at) (a .count) (loop .alike) (loop .p) (loop .i) (loop .inv) (omega arith) (told (packedOf (a .s .now)) (check-packed-double .ensures .0) (c .before .e .given .1))
-
-enum-known-d : tie.Need-enum-known-d Inv-loop μ-loop
-enum-known-d c = search needs
-
-both-requires : tie.Need-both-requires Inv-loop μ-loop
-both-requires c κs = search needs
-
-add-i : tie.Need-add-i Inv-loop μ-loop
-add-i c = search needs
-
-loop-less : tie.Need-loop-less Inv-loop μ-loop
-loop-less c = search needs
 
 loop-again : tie.Need-loop-again Inv-loop μ-loop
 loop-again c =
@@ -63,16 +47,5 @@ returns-2 c =
 pub check-packeds-spec : {M : Type 1} → statement M
 check-packeds-spec =
     tie.close
-    (tie.spec
-    Inv-loop
-    μ-loop
-    loop-holds
-    check-packed-double-requires
-    enum-known-e
-    returns
-    enum-known-d
-    both-requires
-    add-i
-    loop-less
-    loop-again
-    returns-2)
+    (tie.spec Inv-loop μ-loop loop-holds (λ c κs. search needs) (λ c. search needs) returns (λ c. search needs) (λ c κs. search needs)
+    (λ c. search needs) (λ c. search needs) loop-again returns-2)

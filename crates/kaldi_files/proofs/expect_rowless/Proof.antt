@@ -1,3 +1,5 @@
+-- `expect_rowless` meets its contract: both lengths are read before the rows are judged, as in the definition's `rowless`. Each way out is
+-- a chain of `step` (Chain.antt of kaldi_io).
 use mathlib.Core.Path.{refl}
 use borrow.Author.Needs.{needs}
 use borrow.Author.Tests.{eq-eqb, ne-eqb}
@@ -7,41 +9,11 @@ use Rattle.kaldi_io.proofs.Chain.{step, met, unmet}
 use Rattle.kaldi_files.proofs.expect_rowless.Statement.{statement}
 use Rattle.kaldi_files.proofs.expect_rowless.Tie as tie
 
-slice-aggregate-expect-token : tie.Need-slice-aggregate-expect-token
-slice-aggregate-expect-token c = search needs
-
-expect-token-requires : tie.Need-expect-token-requires
-expect-token-requires c κs = search needs
-
-enum-known-next : tie.Need-enum-known-next
-enum-known-next c = search needs
-
-enum-known-e : tie.Need-enum-known-e
-enum-known-e c = search needs
-
 returns : tie.Need-returns
 unfolding rowless
 returns c =
     let expect-token = c .before .before .before .expect-token in
     step nextOf _ _ (expect-token .ensures) (c .before .e .given .1) refl
-
-read-dim-requires : tie.Need-read-dim-requires
-read-dim-requires c κs = search needs
-
-enum-known-e-2 : tie.Need-enum-known-e-2
-enum-known-e-2 c = search needs
-
-enum-known-rows : tie.Need-enum-known-rows
-enum-known-rows c = search needs
-
-read-dim-requires-2 : tie.Need-read-dim-requires-2
-read-dim-requires-2 c κs = search needs
-
-enum-known-e-3 : tie.Need-enum-known-e-3
-enum-known-e-3 c = search needs
-
-enum-known-next-2 : tie.Need-enum-known-next-2
-enum-known-next-2 c = search needs
 
 returns-2 : tie.Need-returns-2
 unfolding rowless
@@ -93,19 +65,5 @@ returns-5 c =
 pub expect-rowless-spec : {M : Type 1} → statement M
 expect-rowless-spec =
     tie.close
-    (tie.spec
-    slice-aggregate-expect-token
-    expect-token-requires
-    enum-known-next
-    enum-known-e
-    returns
-    read-dim-requires
-    enum-known-e-2
-    enum-known-rows
-    read-dim-requires-2
-    enum-known-e-3
-    enum-known-next-2
-    returns-2
-    returns-3
-    returns-4
-    returns-5)
+    (tie.spec (λ c. search needs) (λ c κs. search needs) (λ c. search needs) (λ c. search needs) returns (λ c κs. search needs) (λ c. search needs)
+    (λ c. search needs) (λ c κs. search needs) (λ c. search needs) (λ c. search needs) returns-2 returns-3 returns-4 returns-5)

@@ -1,3 +1,5 @@
+-- `expect_weights` meets its contract: the first word decides between the two branches of the definition's `weightsHeading` (`first-one`,
+-- `other-one`), and each way out is a chain of `step` (Chain.antt of kaldi_io).
 use mathlib.Core.Path.{refl, sym, _∙_, subst}
 use borrow.Author.Needs.{needs}
 use Rattle.definition.specs.Kaldi.{weightsHeading}
@@ -6,41 +8,11 @@ use Rattle.kaldi_io.proofs.Chain.{step, met, unmet, first-one, other-one}
 use Rattle.kaldi_files.proofs.expect_weights.Statement.{statement}
 use Rattle.kaldi_files.proofs.expect_weights.Tie as tie
 
-read-token-requires : tie.Need-read-token-requires
-read-token-requires c κs = search needs
-
-enum-known-e : tie.Need-enum-known-e
-enum-known-e c = search needs
-
-enum-known-from : tie.Need-enum-known-from
-enum-known-from c = search needs
-
-slice-aggregate-same-at : tie.Need-slice-aggregate-same-at
-slice-aggregate-same-at c = search needs
-
 same-at-requires : tie.Need-same-at-requires
 same-at-requires c κs =
     let a = c .before .before .before .before .before .before .args in
     let read-token = c .before .before .before .before .read-token in
     subst (wordIn (a .s .now)) (c .before .before .from .given .1) (read-token .ensures .1)
-
-skip-float-vec-requires : tie.Need-skip-float-vec-requires
-skip-float-vec-requires c κs = search needs
-
-enum-known-e-2 : tie.Need-enum-known-e-2
-enum-known-e-2 c = search needs
-
-enum-known-p : tie.Need-enum-known-p
-enum-known-p c = search needs
-
-slice-aggregate-expect-token : tie.Need-slice-aggregate-expect-token
-slice-aggregate-expect-token c = search needs
-
-expect-token-requires : tie.Need-expect-token-requires
-expect-token-requires c κs = search needs
-
-slice-aggregate-same-at-2 : tie.Need-slice-aggregate-same-at-2
-slice-aggregate-same-at-2 c = search needs
 
 same-at-requires-2 : tie.Need-same-at-requires-2
 same-at-requires-2 c κs =
@@ -111,21 +83,6 @@ returns-5 c =
 pub expect-weights-spec : {M : Type 1} → statement M
 expect-weights-spec =
     tie.close
-    (tie.spec
-    read-token-requires
-    enum-known-e
-    enum-known-from
-    slice-aggregate-same-at
-    same-at-requires
-    skip-float-vec-requires
-    enum-known-e-2
-    enum-known-p
-    slice-aggregate-expect-token
-    expect-token-requires
-    slice-aggregate-same-at-2
-    same-at-requires-2
-    returns
-    returns-2
-    returns-3
-    returns-4
-    returns-5)
+    (tie.spec (λ c κs. search needs) (λ c. search needs) (λ c. search needs) (λ c. search needs) same-at-requires (λ c κs. search needs)
+    (λ c. search needs) (λ c. search needs) (λ c. search needs) (λ c κs. search needs) (λ c. search needs) same-at-requires-2 returns returns-2
+    returns-3 returns-4 returns-5)

@@ -1,3 +1,5 @@
+-- `read_offset` meets its contract: a token, a number, the last token, one parser after the other as in `closing` (specs/Steps.antt). Each
+-- way out is a chain of `step` (Chain.antt of kaldi_io).
 use mathlib.Core.Path.{refl}
 use borrow.Author.Needs.{needs}
 use Rattle.kaldi_io.specs.Answers.{nextOf, numberOf}
@@ -6,44 +8,11 @@ use Rattle.kaldi_files.specs.Steps.{closing}
 use Rattle.kaldi_files.proofs.read_offset.Statement.{statement}
 use Rattle.kaldi_files.proofs.read_offset.Tie as tie
 
-slice-aggregate-expect-token : tie.Need-slice-aggregate-expect-token
-slice-aggregate-expect-token c = search needs
-
-expect-token-requires : tie.Need-expect-token-requires
-expect-token-requires c κs = search needs
-
-enum-known-next : tie.Need-enum-known-next
-enum-known-next c = search needs
-
-enum-known-e : tie.Need-enum-known-e
-enum-known-e c = search needs
-
 returns : tie.Need-returns
 unfolding closing
 returns c =
     let expect-token = c .before .before .before .expect-token in
     step nextOf _ _ (expect-token .ensures) (c .before .e .given .1) refl
-
-read-f64-requires : tie.Need-read-f64-requires
-read-f64-requires c κs = search needs
-
-enum-known-e-2 : tie.Need-enum-known-e-2
-enum-known-e-2 c = search needs
-
-enum-known-x : tie.Need-enum-known-x
-enum-known-x c = search needs
-
-slice-aggregate-expect-token-2 : tie.Need-slice-aggregate-expect-token-2
-slice-aggregate-expect-token-2 c = search needs
-
-expect-token-requires-2 : tie.Need-expect-token-requires-2
-expect-token-requires-2 c κs = search needs
-
-enum-known-e-3 : tie.Need-enum-known-e-3
-enum-known-e-3 c = search needs
-
-enum-known-next-2 : tie.Need-enum-known-next-2
-enum-known-next-2 c = search needs
 
 returns-2 : tie.Need-returns-2
 unfolding closing
@@ -81,19 +50,5 @@ returns-4 c =
 pub read-offset-spec : {M : Type 1} → statement M
 read-offset-spec =
     tie.close
-    (tie.spec
-    slice-aggregate-expect-token
-    expect-token-requires
-    enum-known-next
-    enum-known-e
-    returns
-    read-f64-requires
-    enum-known-e-2
-    enum-known-x
-    slice-aggregate-expect-token-2
-    expect-token-requires-2
-    enum-known-e-3
-    enum-known-next-2
-    returns-2
-    returns-3
-    returns-4)
+    (tie.spec (λ c. search needs) (λ c κs. search needs) (λ c. search needs) (λ c. search needs) returns (λ c κs. search needs) (λ c. search needs)
+    (λ c. search needs) (λ c. search needs) (λ c κs. search needs) (λ c. search needs) (λ c. search needs) returns-2 returns-3 returns-4)

@@ -1,3 +1,5 @@
+-- `expect_binary` meets its contract: two bytes are asked for before either is judged, and each way out is a case of the definition's
+-- `binary` (`binary-first`, `binary-second`, `binary-yes` in Bytes.antt).
 use mathlib.Core.Path.{refl}
 use native.Mathlib.Omega.{arith}
 use borrow.Author.Needs.{needs}
@@ -7,30 +9,15 @@ use Rattle.kaldi_io.proofs.Bytes.{bytes-short, binary-first, binary-sec
 use Rattle.kaldi_io.proofs.expect_binary.Statement.{statement}
 use Rattle.kaldi_io.proofs.expect_binary.Tie as tie
 
-left-requires : tie.Need-left-requires
-left-requires c κs = search needs
-
 returns : tie.Need-returns
 unfolding binary
 returns c = stops _ _ (bytes-short 2 _ _ (omega arith)) refl
 
-shared-slice-read-if2 : tie.Need-shared-slice-read-if2
-shared-slice-read-if2 c = search needs
-
 returns-2 : tie.Need-returns-2
 returns-2 c = binary-first _ _ (omega arith) (c .if2 .taken)
 
-add-if3 : tie.Need-add-if3
-add-if3 c = search needs
-
-shared-slice-read-if3 : tie.Need-shared-slice-read-if3
-shared-slice-read-if3 c = search needs
-
 returns-3 : tie.Need-returns-3
 returns-3 c = binary-second _ _ (omega arith) (c .before .before .if2 .left) (c .if3 .taken)
-
-add-t3 : tie.Need-add-t3
-add-t3 c = search needs
 
 returns-4 : tie.Need-returns-4
 returns-4 c = binary-yes _ _ (omega arith) (c .before .before .if2 .left) (c .if3 .left)
@@ -38,13 +25,5 @@ returns-4 c = binary-yes _ _ (omega arith) (c .before .before .if2 .left) (c .if
 pub expect-binary-spec : {M : Type 1} → statement M
 expect-binary-spec =
     tie.close
-    (tie.spec
-    left-requires
-    returns
-    shared-slice-read-if2
-    returns-2
-    add-if3
-    shared-slice-read-if3
-    returns-3
-    add-t3
+    (tie.spec (λ c κs. search needs) returns (λ c. search needs) returns-2 (λ c. search needs) (λ c. search needs) returns-3 (λ c. search needs)
     returns-4)

@@ -1,3 +1,4 @@
+-- `f64_at` meets its contract: `number-is` and `number-finite` of Numbers.antt, at the wider format.
 use native.Mathlib.Omega.{arith}
 use lib.Ieee.{binary64}
 use Rattle.kaldi_io.proofs.Numbers.{finite-pattern, number-is, number-finite}
@@ -15,21 +16,17 @@ u64-at-requires c κs = omega (arith, c .before .pre .0 .inside)
 
 float-from-bits-result : tie.Need-float-from-bits-result
 float-from-bits-result c =
-    let a = c .before .before .args in
-    let pre = c .before .before .pre in
+    let start = c .before .before in
+    let a = start .args in
+    let pre = start .pre in
     finite-pattern binary64 _ (number-finite binary64 (a .n) (a .s .now) (a .from) (a .i) (pre .1) (c .u64-at .ensures) (pre .0))
 
 returns : tie.Need-returns
 returns c =
-    let a = c .before .before .args in
-    number-is binary64 (a .n) (a .s .now) (a .from) (a .i) (c .before .before .pre .1) (c .u64-at .ensures)
+    let start = c .before .before in
+    let a = start .args in
+    number-is binary64 (a .n) (a .s .now) (a .from) (a .i) (start .pre .1) (c .u64-at .ensures)
 
 pub f64-at-spec : {M : Type 1} → statement M
 f64-at-spec =
-    tie.close
-    (tie.spec
-    mul-u64-at
-    add-u64-at
-    u64-at-requires
-    float-from-bits-result
-    returns)
+    tie.close (tie.spec mul-u64-at add-u64-at u64-at-requires float-from-bits-result returns)

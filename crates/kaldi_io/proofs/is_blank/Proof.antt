@@ -1,3 +1,4 @@
+-- `is_blank` meets its contract: the arms of the `match` against the three bytes of the definition's `blank`, by the laws of Bytes.antt.
 use native.Mathlib.Omega.{arith}
 use Rattle.kaldi_io.proofs.Bytes.{blank-space, blank-control, blank-not}
 use Rattle.kaldi_io.proofs.is_blank.Statement.{statement}
@@ -17,9 +18,4 @@ returns-4 c = blank-control _ (omega arith) (omega arith)
 
 pub is-blank-spec : {M : Type 1} → statement M
 is-blank-spec =
-    tie.close
-    (tie.spec
-    returns
-    returns-2
-    returns-3
-    returns-4)
+    tie.close (tie.spec returns returns-2 returns-3 returns-4)

@@ -1,3 +1,5 @@
+-- `kept_f32` meets its contract: the test of the exponent's bits is the definition's `finite` by the laws of patterns, which hold at either
+-- width (`pattern-out`, `pattern-positive`, `pattern-any` in Numbers.antt).
 use lib.Ieee.{binary32}
 use Rattle.kaldi_io.proofs.Numbers.{finite-pattern, pattern-out, pattern-finite, pattern-any, pattern-positive}
 use Rattle.kaldi_io.proofs.kept_f32.Statement.{statement}
@@ -17,9 +19,4 @@ returns-3 c = pattern-any binary32 _ _ (c .before .if1 .left) (c .if2 .left)
 
 pub kept-f32-spec : {M : Type 1} → statement M
 kept-f32-spec =
-    tie.close
-    (tie.spec
-    returns
-    float-from-bits-result
-    returns-2
-    returns-3)
+    tie.close (tie.spec returns float-from-bits-result returns-2 returns-3)

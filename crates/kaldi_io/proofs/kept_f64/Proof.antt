@@ -1,3 +1,4 @@
+-- `kept_f64` meets its contract: the laws of patterns of Numbers.antt, at the wider format.
 use lib.Ieee.{binary64}
 use Rattle.kaldi_io.proofs.Numbers.{finite-pattern, pattern-out, pattern-finite, pattern-any, pattern-positive}
 use Rattle.kaldi_io.proofs.kept_f64.Statement.{statement}
@@ -17,9 +18,4 @@ returns-3 c = pattern-any binary64 _ _ (c .before .if1 .left) (c .if2 .left)
 
 pub kept-f64-spec : {M : Type 1} → statement M
 kept-f64-spec =
-    tie.close
-    (tie.spec
-    returns
-    float-from-bits-result
-    returns-2
-    returns-3)
+    tie.close (tie.spec returns float-from-bits-result returns-2 returns-3)

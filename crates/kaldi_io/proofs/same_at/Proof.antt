@@ -1,3 +1,5 @@
+-- `same_at` meets its contract. The loop's invariant: the rests from i on are equal exactly where the whole lists are. A turn, a way out
+-- and the end are `same-turn`, `same-stop` and `same-end` (Bytes.antt); uneven lengths are `same-uneven`.
 use mathlib.Core.Path.{_≡_, refl}
 use Prim.Native.Nat.{_-_, _≤_}
 use borrow.Author.Needs.{needs}
@@ -22,31 +24,20 @@ returns c =
 loop-holds : tie.Need-loop-holds Inv-loop μ-loop
 loop-holds c = (search needs, refl)
 
-add-if2 : tie.Need-add-if2 Inv-loop μ-loop
-add-if2 c = search needs
-
-shared-slice-read-if2 : tie.Need-shared-slice-read-if2 Inv-loop μ-loop
-shared-slice-read-if2 c = search needs
-
-shared-slice-read-if2-2 : tie.Need-shared-slice-read-if2-2 Inv-loop μ-loop
-shared-slice-read-if2-2 c = search needs
-
 returns-2 : tie.Need-returns-2 Inv-loop μ-loop
 returns-2 c =
-    let a = c .before .before .before .before .before .before .args in
-    let loop = c .before .before .before .before .loop in
+    let at-loop = c .before .before .before .before in
+    let start = at-loop .before .before in
+    let a = start .args in
+    let loop = at-loop .loop in
     same-stop (a .s .now) (a .want .now) (a .from) (a .len) (search needs) (search needs) (loop .i) (loop .inv .1) (search needs) (c .if2 .taken)
-
-add-i : tie.Need-add-i Inv-loop μ-loop
-add-i c = search needs
-
-loop-less : tie.Need-loop-less Inv-loop μ-loop
-loop-less c = search needs
 
 loop-again : tie.Need-loop-again Inv-loop μ-loop
 loop-again c =
-    let a = c .before .before .before .before .before .before .args in
-    let loop = c .before .before .before .before .loop in
+    let at-loop = c .before .before .before .before in
+    let start = at-loop .before .before in
+    let a = start .args in
+    let loop = at-loop .loop in
     (search needs, same-turn (a .s .now) (a .want .now) (a .from) (a .len) (search needs) (search needs) (loop .i) (loop .inv .1) (search needs) (c .if2 .left))
 
 returns-3 : tie.Need-returns-3 Inv-loop μ-loop
@@ -58,16 +49,5 @@ returns-3 c =
 pub same-at-spec : {M : Type 1} → statement M
 same-at-spec =
     tie.close
-    (tie.spec
-    Inv-loop
-    μ-loop
-    returns
-    loop-holds
-    add-if2
-    shared-slice-read-if2
-    shared-slice-read-if2-2
-    returns-2
-    add-i
-    loop-less
-    loop-again
-    returns-3)
+    (tie.spec Inv-loop μ-loop returns loop-holds (λ c. search needs) (λ c. search needs) (λ c. search needs) returns-2 (λ c. search needs)
+    (λ c. search needs) loop-again returns-3)

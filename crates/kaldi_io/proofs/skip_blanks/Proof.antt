@@ -1,65 +1,39 @@
-use mathlib.Core.Path.{_≡_, refl, sym, _∙_}
-use Prim.Native.Nat.{_+_, _-_}
+-- `skip_blanks` meets its contract. The loop's invariant is `Skipped`: the blanks from `at` on end where those from i on do. Its turn and
+-- its two ways out are laws of any test (Bytes.antt).
+use mathlib.Core.Path.{refl}
+use Prim.Native.Nat.{_-_}
 use native.Mathlib.Omega.{arith}
 use borrow.Author.Needs.{needs}
-use lib.ListN.{length, drop}
-use Rattle.floats.specs.Operators.{at}
-use Rattle.definition.specs.Reader.{run}
+use lib.ListN.{length}
 use Rattle.definition.specs.Kaldi.{blank}
-use Rattle.kaldi_io.proofs.Bytes.{run-end, run-stop, run-more}
+use Rattle.kaldi_io.proofs.Bytes.{Skipped, skipped-turn, skipped-stop, skipped-end}
 use Rattle.kaldi_io.proofs.skip_blanks.Statement.{statement}
 use Rattle.kaldi_io.proofs.skip_blanks.Tie as tie
 
 abbrev Inv-loop : tie.InvT-loop
-Inv-loop s at i₀ i =
-    at + run blank (drop at s) ≡ i + run blank (drop i s)
+Inv-loop s at i₀ i = Skipped blank s at i
 
 abbrev μ-loop : tie.MeasureT-loop
 μ-loop s at i₀ i = length s - i
 
 loop-holds : tie.Need-loop-holds Inv-loop μ-loop
-loop-holds c = refl
-
-shared-slice-read-is-blank : tie.Need-shared-slice-read-is-blank Inv-loop μ-loop
-shared-slice-read-is-blank c = search needs
-
-is-blank-requires : tie.Need-is-blank-requires Inv-loop μ-loop
-is-blank-requires c κs = search needs
-
-add-i : tie.Need-add-i Inv-loop μ-loop
-add-i c = search needs
-
-loop-less : tie.Need-loop-less Inv-loop μ-loop
-loop-less c = search needs
+loop-holds c = record { ends = refl }
 
 loop-again : tie.Need-loop-again Inv-loop μ-loop
 loop-again c =
-    let a = c .before .before .before .before .before .before .args in
-    let loop = c .before .before .before .before .loop in
-    omega (arith, run-more blank (a .s .now) (loop .i) (omega arith) (sym (c .before .is-blank .ensures) ∙ c .if1 .taken))
+    let at-loop = c .before .before .before .before in
+    skipped-turn (at-loop .loop .inv) (omega arith) (c .before .is-blank .ensures) (c .if1 .taken)
 
 returns : tie.Need-returns Inv-loop μ-loop
 returns c =
-    let a = c .before .before .before .before .before .before .args in
-    let loop = c .before .before .before .before .loop in
-    omega (arith, run-stop blank (a .s .now) (loop .i) (omega arith) (sym (c .before .is-blank .ensures) ∙ c .if1 .left))
+    let at-loop = c .before .before .before .before in
+    skipped-stop (at-loop .loop .inv) (omega arith) (c .before .is-blank .ensures) (c .if1 .left)
 
 returns-2 : tie.Need-returns-2 Inv-loop μ-loop
-returns-2 c =
-    let a = c .before .before .before .args in
-    omega (arith, run-end blank (a .s .now) (c .before .loop .i) (c .loop-test .left))
+returns-2 c = skipped-end (c .before .loop .inv) (c .loop-test .left)
 
 pub skip-blanks-spec : {M : Type 1} → statement M
 skip-blanks-spec =
     tie.close
-    (tie.spec
-    Inv-loop
-    μ-loop
-    loop-holds
-    shared-slice-read-is-blank
-    is-blank-requires
-    add-i
-    loop-less
-    loop-again
-    returns
+    (tie.spec Inv-loop μ-loop loop-holds (λ c. search needs) (λ c κs. search needs) (λ c. search needs) (λ c. search needs) loop-again returns
     returns-2)

@@ -5,18 +5,6 @@ use Rattle.kaldi_io.proofs.Bytes.{word-short, word-yes}
 use Rattle.kaldi_io.proofs.word_at.Statement.{statement}
 use Rattle.kaldi_io.proofs.word_at.Tie as tie
 
-skip-blanks-requires : tie.Need-skip-blanks-requires
-skip-blanks-requires c κs = search needs
-
-skip-word-requires : tie.Need-skip-word-requires
-skip-word-requires c κs = search needs
-
-sub-t8 : tie.Need-sub-t8
-sub-t8 c = search needs
-
-add-t9 : tie.Need-add-t9
-add-t9 c = search needs
-
 returns : tie.Need-returns
 returns c = (word-yes _ _ _ _ (c .before .before .skip-blanks .ensures) (c .before .skip-word .ensures) (omega arith), search needs)
 
@@ -25,11 +13,4 @@ returns-2 c = (word-short _ _ _ _ (c .before .before .skip-blanks .ensures) (c .
 
 pub word-at-spec : {M : Type 1} → statement M
 word-at-spec =
-    tie.close
-    (tie.spec
-    skip-blanks-requires
-    skip-word-requires
-    sub-t8
-    add-t9
-    returns
-    returns-2)
+    tie.close (tie.spec (λ c κs. search needs) (λ c κs. search needs) (λ c. search needs) (λ c. search needs) returns returns-2)

@@ -1,3 +1,4 @@
+-- `check_cmvn` meets its contract: the text's length is judged first (`met`, `unmet` in Chain.antt of kaldi_io), then it is `check_rows`.
 use mathlib.Core.Path.{refl, sym}
 use borrow.Author.Needs.{needs}
 use borrow.Author.Tests.{le-leb, lt-leb}
@@ -10,9 +11,6 @@ returns : tie.Need-returns
 unfolding cmvn
 returns c = (stops _ _ (sym (unmet 7 _ _ (lt-leb _ _ (c .if1 .taken)))) refl, tt)
 
-check-rows-requires : tie.Need-check-rows-requires
-check-rows-requires c κs = search needs
-
 returns-2 : tie.Need-returns-2
 unfolding cmvn
 returns-2 c =
@@ -21,8 +19,4 @@ returns-2 c =
 
 pub check-cmvn-spec : {M : Type 1} → statement M
 check-cmvn-spec =
-    tie.close
-    (tie.spec
-    returns
-    check-rows-requires
-    returns-2)
+    tie.close (tie.spec returns (λ c κs. search needs) returns-2)

@@ -1,3 +1,4 @@
+-- `check_line` meets its contract: blanks are skipped, then it is a row (`line-is` in Rows.antt).
 use mathlib.Core.Path.{ap, _∙_}
 use native.Mathlib.Omega.{arith}
 use borrow.Author.Needs.{needs}
@@ -8,9 +9,6 @@ use Rattle.kaldi_text.proofs.Numbers.{run-within}
 use Rattle.kaldi_text.proofs.Rows.{line-is}
 use Rattle.kaldi_text.proofs.check_line.Statement.{statement}
 use Rattle.kaldi_text.proofs.check_line.Tie as tie
-
-skip-spaces-requires : tie.Need-skip-spaces-requires
-skip-spaces-requires c κs = search needs
 
 check-row-requires : tie.Need-check-row-requires
 check-row-requires c κs =
@@ -25,8 +23,4 @@ returns c =
 
 pub check-line-spec : {M : Type 1} → statement M
 check-line-spec =
-    tie.close
-    (tie.spec
-    skip-spaces-requires
-    check-row-requires
-    returns)
+    tie.close (tie.spec (λ c κs. search needs) check-row-requires returns)

@@ -1,3 +1,5 @@
+-- `check_row` meets its contract. The loop's invariant: the outline of the whole row is that of the rest from p on, with the numbers counted
+-- so far and the last of them. A turn and each way out are the `outline-..` laws of Rows.antt.
 use mathlib.Core.Path.{_≡_, refl, sym, _∙_}
 use mathlib.Core.Bool.{not, _&&_}
 use Prim.Native.Nat.{_-_, _≤_}
@@ -26,12 +28,6 @@ abbrev μ-loop : tie.MeasureT-loop
 loop-holds : tie.Need-loop-holds Inv-loop μ-loop
 loop-holds c = (c .before .pre .0, refl)
 
-skip-gaps-requires : tie.Need-skip-gaps-requires Inv-loop μ-loop
-skip-gaps-requires c κs = search needs
-
-stop-here-requires : tie.Need-stop-here-requires Inv-loop μ-loop
-stop-here-requires c κs = search needs
-
 returns : tie.Need-returns Inv-loop μ-loop
 returns c =
     let a = c .before .before .before .before .before .before .args in
@@ -49,9 +45,6 @@ read-number-requires c κs =
     let pre = c .before .before .before .before .before .before .pre in
     (omega (arith, c .before .before .skip-gaps .ensures, run-within (λ b. not (eqb b 10) && space b) (a .s .now) (loop .p) (loop .inv .0)), pre .1)
 
-enum-known-e : tie.Need-enum-known-e Inv-loop μ-loop
-enum-known-e c = search needs
-
 returns-2 : tie.Need-returns-2 Inv-loop μ-loop
 returns-2 c =
     let a = c .before .before .before .before .before .before .before .before .before .before .args in
@@ -62,12 +55,6 @@ returns-2 c =
     let if1 = c .before .before .before .before .if1 in
     let read-number = c .before .before .before .read-number in
     (outline-bad (a .s .now) (a .at) (loop .len) (loop .last) (loop .p) (loop .inv .1) (loop-test .taken) (skip-gaps .ensures) (sym (stop-here .ensures) ∙ if1 .left) (told numberOf (read-number .ensures) (c .before .e .given .1)), tt)
-
-enum-known-x : tie.Need-enum-known-x Inv-loop μ-loop
-enum-known-x c = search needs
-
-end-here-requires : tie.Need-end-here-requires Inv-loop μ-loop
-end-here-requires c κs = search needs
 
 returns-3 : tie.Need-returns-3 Inv-loop μ-loop
 returns-3 c =
@@ -80,12 +67,6 @@ returns-3 c =
     let read-number = c .before .before .before .before .before .read-number in
     let x = c .before .before .before .x in
     (outline-joined (a .s .now) (a .at) (loop .len) (loop .last) (loop .p) (loop .inv .1) (loop-test .taken) (skip-gaps .ensures) (sym (stop-here .ensures) ∙ if1 .left) (told numberOf (read-number .ensures) (x .given .1)) (sym (c .before .end-here .ensures) ∙ c .if2 .left), tt)
-
-add-len : tie.Need-add-len Inv-loop μ-loop
-add-len c = search needs
-
-loop-less : tie.Need-loop-less Inv-loop μ-loop
-loop-less c = search needs
 
 loop-again : tie.Need-loop-again Inv-loop μ-loop
 loop-again c =
@@ -110,20 +91,5 @@ returns-4 c =
 pub check-row-spec : {M : Type 1} → statement M
 check-row-spec =
     tie.close
-    (tie.spec
-    Inv-loop
-    μ-loop
-    loop-holds
-    skip-gaps-requires
-    stop-here-requires
-    returns
-    read-number-requires
-    enum-known-e
-    returns-2
-    enum-known-x
-    end-here-requires
-    returns-3
-    add-len
-    loop-less
-    loop-again
-    returns-4)
+    (tie.spec Inv-loop μ-loop loop-holds (λ c κs. search needs) (λ c κs. search needs) returns read-number-requires (λ c. search needs) returns-2
+    (λ c. search needs) (λ c κs. search needs) returns-3 (λ c. search needs) (λ c. search needs) loop-again returns-4)

@@ -1,3 +1,5 @@
+-- `check_rows` meets its contract: bracket, two rows, bracket, end, then the test of the rows, one parser after the other as in the
+-- definition's `rows`. Each way out is a chain of `step` (Chain.antt of kaldi_io); what a check keeps of a row, and the test by it, is in Rows.antt.
 use mathlib.Core.Path.{refl, sym, subst}
 use borrow.Author.Needs.{needs}
 use Rattle.floats.specs.Operators.{zero₆₄}
@@ -8,15 +10,6 @@ use Rattle.kaldi_text.specs.Steps.{nextIn, rowOf, rowIn}
 use Rattle.kaldi_text.proofs.Rows.{outline-refused, row-stands, row-is, too-few, uneven, even}
 use Rattle.kaldi_text.proofs.check_rows.Statement.{statement}
 use Rattle.kaldi_text.proofs.check_rows.Tie as tie
-
-expect-bracket-requires : tie.Need-expect-bracket-requires
-expect-bracket-requires c κs = search needs
-
-enum-known-next : tie.Need-enum-known-next
-enum-known-next c = search needs
-
-enum-known-e : tie.Need-enum-known-e
-enum-known-e c = search needs
 
 returns : tie.Need-returns
 unfolding cmvnRows
@@ -33,33 +26,12 @@ check-line-requires c κs =
     let pre = c .before .before .before .before .before .pre in
     ((subst (nextIn (a .s .now)) (c .before .next .given .1) (expect-bracket .ensures .1)), pre)
 
-enum-known-e-2 : tie.Need-enum-known-e-2
-enum-known-e-2 c = search needs
-
-enum-known-len : tie.Need-enum-known-len
-enum-known-len c = search needs
-
 check-line-requires-2 : tie.Need-check-line-requires-2
 check-line-requires-2 c κs =
     let a = c .before .before .before .before .before .before .before .before .before .args in
     let check-line = c .before .before .before .check-line in
     let pre = c .before .before .before .before .before .before .before .before .before .pre in
     ((subst (rowIn (a .s .now)) (c .before .len .given .1) (check-line .ensures .1)) .0, pre)
-
-enum-known-e-3 : tie.Need-enum-known-e-3
-enum-known-e-3 c = search needs
-
-enum-known-len2 : tie.Need-enum-known-len2
-enum-known-len2 c = search needs
-
-expect-bracket-requires-2 : tie.Need-expect-bracket-requires-2
-expect-bracket-requires-2 c κs = search needs
-
-enum-known-next-2 : tie.Need-enum-known-next-2
-enum-known-next-2 c = search needs
-
-enum-known-e-4 : tie.Need-enum-known-e-4
-enum-known-e-4 c = search needs
 
 returns-2 : tie.Need-returns-2
 unfolding cmvnRows
@@ -78,15 +50,6 @@ returns-2 c =
           (step nextOf _ _ (expect-bracket2 .ensures .0) (c .before .e4 .given .1) refl))),
       tt,
     )
-
-expect-end-requires : tie.Need-expect-end-requires
-expect-end-requires c κs = search needs
-
-enum-known-next-3 : tie.Need-enum-known-next-3
-enum-known-next-3 c = search needs
-
-enum-known-e-5 : tie.Need-enum-known-e-5
-enum-known-e-5 c = search needs
 
 returns-3 : tie.Need-returns-3
 unfolding cmvnRows
@@ -232,28 +195,6 @@ returns-9 c =
 pub check-rows-spec : {M : Type 1} → statement M
 check-rows-spec =
     tie.close
-    (tie.spec
-    expect-bracket-requires
-    enum-known-next
-    enum-known-e
-    returns
-    check-line-requires
-    enum-known-e-2
-    enum-known-len
-    check-line-requires-2
-    enum-known-e-3
-    enum-known-len2
-    expect-bracket-requires-2
-    enum-known-next-2
-    enum-known-e-4
-    returns-2
-    expect-end-requires
-    enum-known-next-3
-    enum-known-e-5
-    returns-3
-    returns-4
-    returns-5
-    returns-6
-    returns-7
-    returns-8
-    returns-9)
+    (tie.spec (λ c κs. search needs) (λ c. search needs) (λ c. search needs) returns check-line-requires (λ c. search needs) (λ c. search needs)
+    check-line-requires-2 (λ c. search needs) (λ c. search needs) (λ c κs. search needs) (λ c. search needs) (λ c. search needs) returns-2
+    (λ c κs. search needs) (λ c. search needs) (λ c. search needs) returns-3 returns-4 returns-5 returns-6 returns-7 returns-8 returns-9)

@@ -1,14 +1,9 @@
+-- `end_here` meets its contract: the definition's `here` with the test of `is_end` (`here-in`, `here-past` in Sorting.antt).
 use mathlib.Core.Path.{_∙_}
 use borrow.Author.Needs.{needs}
 use Rattle.kaldi_text.proofs.Sorting.{here-in, here-past}
 use Rattle.kaldi_text.proofs.end_here.Statement.{statement}
 use Rattle.kaldi_text.proofs.end_here.Tie as tie
-
-shared-slice-read-is-end : tie.Need-shared-slice-read-is-end
-shared-slice-read-is-end c = search needs
-
-is-end-requires : tie.Need-is-end-requires
-is-end-requires c κs = search needs
 
 returns : tie.Need-returns
 returns c = c .is-end .ensures ∙ here-in _ _ _ (c .before .before .if1 .taken)
@@ -18,9 +13,4 @@ returns-2 c = here-past _ _ _ (c .if1 .left)
 
 pub end-here-spec : {M : Type 1} → statement M
 end-here-spec =
-    tie.close
-    (tie.spec
-    shared-slice-read-is-end
-    is-end-requires
-    returns
-    returns-2)
+    tie.close (tie.spec (λ c. search needs) (λ c κs. search needs) returns returns-2)

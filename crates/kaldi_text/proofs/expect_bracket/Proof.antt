@@ -1,3 +1,5 @@
+-- `expect_bracket` meets its contract: after the blanks the byte is there or not, the two cases of the definition's `bracket` (Rows.antt); where
+-- it is there, so is the place behind it (`here-inside`).
 use mathlib.Core.Path.{sym, _∙_}
 use native.Mathlib.Omega.{arith}
 use borrow.Author.Needs.{needs}
@@ -5,12 +7,6 @@ use Rattle.kaldi_text.proofs.Sorting.{here-inside}
 use Rattle.kaldi_text.proofs.Rows.{bracket-yes, bracket-no}
 use Rattle.kaldi_text.proofs.expect_bracket.Statement.{statement}
 use Rattle.kaldi_text.proofs.expect_bracket.Tie as tie
-
-skip-spaces-requires : tie.Need-skip-spaces-requires
-skip-spaces-requires c κs = search needs
-
-byte-here-requires : tie.Need-byte-here-requires
-byte-here-requires c κs = search needs
 
 add-t7 : tie.Need-add-t7
 add-t7 c =
@@ -30,10 +26,4 @@ returns-2 c = (bracket-no _ _ (c .before .before .skip-spaces .ensures) _ (sym (
 
 pub expect-bracket-spec : {M : Type 1} → statement M
 expect-bracket-spec =
-    tie.close
-    (tie.spec
-    skip-spaces-requires
-    byte-here-requires
-    add-t7
-    returns
-    returns-2)
+    tie.close (tie.spec (λ c κs. search needs) (λ c κs. search needs) add-t7 returns returns-2)

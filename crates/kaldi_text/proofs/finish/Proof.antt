@@ -1,3 +1,5 @@
+-- `finish` meets its contract: the tests of the size and of the two powers in the definition's order (`finished-..` in Numbers.antt), then
+-- what `floats::decimal` ensures.
 use mathlib.Core.Path.{ap, _∙_}
 use native.Mathlib.Omega.{arith}
 use borrow.Author.Needs.{needs}
@@ -10,20 +12,11 @@ use Rattle.kaldi_text.proofs.finish.Tie as tie
 returns : tie.Need-returns
 returns c = finished-big _ _ _ _ _ _ (c .if1 .taken)
 
-add-if2 : tie.Need-add-if2
-add-if2 c = search needs
-
 returns-2 : tie.Need-returns-2
 returns-2 c = finished-high _ _ _ _ _ _ (omega arith) (omega arith)
 
-add-if3 : tie.Need-add-if3
-add-if3 c = search needs
-
 returns-3 : tie.Need-returns-3
 returns-3 c = finished-low _ _ _ _ _ _ (omega arith) (omega arith) (omega arith)
-
-decimal-requires : tie.Need-decimal-requires
-decimal-requires c κs = search needs
 
 returns-4 : tie.Need-returns-4
 returns-4 c =
@@ -32,12 +25,4 @@ returns-4 c =
 
 pub finish-spec : {M : Type 1} → statement M
 finish-spec =
-    tie.close
-    (tie.spec
-    returns
-    add-if2
-    returns-2
-    add-if3
-    returns-3
-    decimal-requires
-    returns-4)
+    tie.close (tie.spec returns (λ c. search needs) returns-2 (λ c. search needs) returns-3 (λ c κs. search needs) returns-4)

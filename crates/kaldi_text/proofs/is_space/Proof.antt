@@ -1,3 +1,4 @@
+-- `is_space` meets its contract: what `kind_of` says of blanks, for the arm `Blank`, and for the other arms by `is-kind` (Sorting.antt).
 use mathlib.Core.Path.{sym, ap, _∙_}
 use mathlib.Core.List.{[], _∷_}
 use types.Run.{miss}
@@ -9,12 +10,6 @@ use Rattle.kaldi_text.specs.declared.Kind.{Kind}
 use Rattle.kaldi_text.proofs.is_space.Statement.{statement}
 use Rattle.kaldi_text.proofs.is_space.Tie as tie
 
-kind-of-requires : tie.Need-kind-of-requires
-kind-of-requires c κs = search needs
-
-enum-told : tie.Need-enum-told
-enum-told c = search needs
-
 returns : tie.Need-returns
 returns c = sym (sym (c .before .before .kind-of .ensures .blank) ∙ ap (λ (k : Kind). eqb (tag k) 4) (c .enum-told .given .1))
 
@@ -25,9 +20,4 @@ returns-2 c =
 
 pub is-space-spec : {M : Type 1} → statement M
 is-space-spec =
-    tie.close
-    (tie.spec
-    kind-of-requires
-    enum-told
-    returns
-    returns-2)
+    tie.close (tie.spec (λ c κs. search needs) (λ c. search needs) returns returns-2)

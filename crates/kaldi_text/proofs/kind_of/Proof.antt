@@ -1,3 +1,5 @@
+-- `kind_of` meets its contract: for each arm of the `match` the six tests of the definition come out as the kind says (`Sorted`), by the
+-- `kind-..` laws of Sorting.antt.
 use mathlib.Core.Logic.{inl, inr}
 use native.Mathlib.Omega.{arith}
 use Rattle.kaldi_io.proofs.Bytes.{too-low, too-high, in-range}
@@ -48,15 +50,4 @@ returns-10 c =
 
 pub kind-of-spec : {M : Type 1} → statement M
 kind-of-spec =
-    tie.close
-    (tie.spec
-    returns
-    returns-2
-    returns-3
-    returns-4
-    returns-5
-    returns-6
-    returns-7
-    returns-8
-    returns-9
-    returns-10)
+    tie.close (tie.spec returns returns-2 returns-3 returns-4 returns-5 returns-6 returns-7 returns-8 returns-9 returns-10)

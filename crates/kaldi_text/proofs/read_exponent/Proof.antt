@@ -1,3 +1,5 @@
+-- `read_exponent` meets its contract: no exponent, one without digits, one with digits are the three cases of the definition's `exponent`,
+-- the size at most 100,000 (`exponent-none`, `power-none`, `power-some` in Numbers.antt).
 use mathlib.Core.Path.{sym, ap, _∙_}
 use mathlib.Core.List.{[], _∷_}
 use Prim.Native.Nat.{_+_}
@@ -13,12 +15,6 @@ use Rattle.kaldi_text.specs.declared.Kind.{Kind}
 use Rattle.kaldi_text.proofs.read_exponent.Statement.{statement}
 use Rattle.kaldi_text.proofs.read_exponent.Tie as tie
 
-kind-at-requires : tie.Need-kind-at-requires
-kind-at-requires c κs = search needs
-
-enum-told : tie.Need-enum-told
-enum-told c = search needs
-
 add-read-sign : tie.Need-add-read-sign
 add-read-sign c =
     let a = c .before .before .before .before .args in
@@ -28,9 +24,6 @@ read-sign-requires : tie.Need-read-sign-requires
 read-sign-requires c κs =
     let a = c .before .before .before .before .args in
     omega (arith, here-inside _ (a .s .now) (a .at) (sym (c .before .before .kind-at .ensures .exponent) ∙ ap (λ (k : Kind). eqb (tag k) 3) (c .enum-told .given .1)))
-
-skip-digits-requires : tie.Need-skip-digits-requires
-skip-digits-requires c κs = search needs
 
 returns : tie.Need-returns
 returns c =
@@ -62,13 +55,5 @@ returns-3 c =
 pub read-exponent-spec : {M : Type 1} → statement M
 read-exponent-spec =
     tie.close
-    (tie.spec
-    kind-at-requires
-    enum-told
-    add-read-sign
-    read-sign-requires
-    skip-digits-requires
-    returns
-    decimal-of-requires
-    returns-2
+    (tie.spec (λ c κs. search needs) (λ c. search needs) add-read-sign read-sign-requires (λ c κs. search needs) returns decimal-of-requires returns-2
     returns-3)

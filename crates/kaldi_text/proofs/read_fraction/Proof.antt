@@ -1,3 +1,5 @@
+-- `read_fraction` meets its contract: after a point the run of digits, else nothing (`fraction-some`, `fraction-none` in Numbers.antt), and
+-- in both cases a part of the bytes (`run-within`).
 use mathlib.Core.Path.{sym, ap, _∙_}
 use mathlib.Core.List.{[], _∷_}
 use Prim.Native.Nat.{_+_}
@@ -13,19 +15,10 @@ use Rattle.kaldi_text.specs.declared.Kind.{Kind}
 use Rattle.kaldi_text.proofs.read_fraction.Statement.{statement}
 use Rattle.kaldi_text.proofs.read_fraction.Tie as tie
 
-kind-at-requires : tie.Need-kind-at-requires
-kind-at-requires c κs = search needs
-
-enum-told : tie.Need-enum-told
-enum-told c = search needs
-
 add-from : tie.Need-add-from
 add-from c =
     let a = c .before .before .before .before .args in
     omega (arith, here-inside _ (a .s .now) (a .at) (sym (c .before .before .kind-at .ensures .point) ∙ ap (λ (k : Kind). eqb (tag k) 2) (c .enum-told .given .1)))
-
-skip-digits-requires : tie.Need-skip-digits-requires
-skip-digits-requires c κs = search needs
 
 returns : tie.Need-returns
 returns c =
@@ -41,11 +34,4 @@ returns-2 c =
 
 pub read-fraction-spec : {M : Type 1} → statement M
 read-fraction-spec =
-    tie.close
-    (tie.spec
-    kind-at-requires
-    enum-told
-    add-from
-    skip-digits-requires
-    returns
-    returns-2)
+    tie.close (tie.spec (λ c κs. search needs) (λ c. search needs) add-from (λ c κs. search needs) returns returns-2)

@@ -1,3 +1,5 @@
+-- `read_number` meets its contract: sign, digits, fraction and exponent make the definition's `number`; a number without digits, one with a
+-- faulty exponent, and one of either sign of exponent are the four ways out (`number-..` in Numbers.antt).
 use mathlib.Core.Path.{_∙_, subst}
 use native.Mathlib.Omega.{arith}
 use borrow.Author.Needs.{needs}
@@ -8,23 +10,11 @@ use Rattle.kaldi_text.proofs.Numbers.{run-within, number-empty, number-
 use Rattle.kaldi_text.proofs.read_number.Statement.{statement}
 use Rattle.kaldi_text.proofs.read_number.Tie as tie
 
-read-sign-requires : tie.Need-read-sign-requires
-read-sign-requires c κs = search needs
-
-skip-digits-requires : tie.Need-skip-digits-requires
-skip-digits-requires c κs = search needs
-
 read-fraction-requires : tie.Need-read-fraction-requires
 read-fraction-requires c κs =
     let a = c .before .before .before .args in
     let read-sign = c .before .read-sign in
     omega (arith, run-within (within 48 57) (a .s .now) (read-sign .result .next) (read-sign .ensures .0))
-
-sub-behind : tie.Need-sub-behind
-sub-behind c = search needs
-
-sub-if1 : tie.Need-sub-if1
-sub-if1 c = search needs
 
 add-if1 : tie.Need-add-if1
 add-if1 c =
@@ -39,23 +29,11 @@ returns c =
     let read-fraction = c .before .read-fraction in
     number-empty (a .s .now) (a .at) (read-sign .ensures .1) (c .before .before .skip-digits .ensures) (omega (arith, run-within (within 48 57) (a .s .now) (read-sign .result .next) (read-sign .ensures .0))) (read-fraction .ensures .0) (read-fraction .ensures .1 .0) (read-fraction .ensures .1 .1) (c .if1 .taken)
 
-read-exponent-requires : tie.Need-read-exponent-requires
-read-exponent-requires c κs = search needs
-
-enum-known-e : tie.Need-enum-known-e
-enum-known-e c = search needs
-
-enum-known-under : tie.Need-enum-known-under
-enum-known-under c = search needs
-
 decimal-of-requires : tie.Need-decimal-of-requires
 decimal-of-requires c κs =
     let a = c .before .before .before .before .before .before .before .before .before .args in
     let read-sign = c .before .before .before .before .before .before .before .read-sign in
     ((omega (arith, run-within (within 48 57) (a .s .now) (read-sign .result .next) (read-sign .ensures .0))), omega arith)
-
-decimal-of-requires-2 : tie.Need-decimal-of-requires-2
-decimal-of-requires-2 c κs = search needs
 
 add-finish : tie.Need-add-finish
 add-finish c =
@@ -120,22 +98,6 @@ returns-4 c =
 pub read-number-spec : {M : Type 1} → statement M
 read-number-spec =
     tie.close
-    (tie.spec
-    read-sign-requires
-    skip-digits-requires
-    read-fraction-requires
-    sub-behind
-    sub-if1
-    add-if1
-    returns
-    read-exponent-requires
-    enum-known-e
-    enum-known-under
-    decimal-of-requires
-    decimal-of-requires-2
-    add-finish
-    finish-requires
-    finish-requires-2
-    returns-2
-    returns-3
-    returns-4)
+    (tie.spec (λ c κs. search needs) (λ c κs. search needs) read-fraction-requires (λ c. search needs) (λ c. search needs) add-if1 returns
+    (λ c κs. search needs) (λ c. search needs) (λ c. search needs) decimal-of-requires (λ c κs. search needs) add-finish finish-requires
+    finish-requires-2 returns-2 returns-3 returns-4)

@@ -1,3 +1,5 @@
+-- `read_sign` meets its contract: a kind `Sign` is the definition's case of a sign, any other the case of none (`sign-some`, `sign-none` in
+-- Numbers.antt); a sign stands inside the bytes, so the next place is too.
 use mathlib.Core.Path.{sym, ap, _∙_}
 use mathlib.Core.List.{[], _∷_}
 use native.Mathlib.Omega.{arith}
@@ -10,12 +12,6 @@ use Rattle.kaldi_text.proofs.Numbers.{sign-some, sign-none}
 use Rattle.kaldi_text.specs.declared.Kind.{Kind}
 use Rattle.kaldi_text.proofs.read_sign.Statement.{statement}
 use Rattle.kaldi_text.proofs.read_sign.Tie as tie
-
-kind-at-requires : tie.Need-kind-at-requires
-kind-at-requires c κs = search needs
-
-enum-known-minus : tie.Need-enum-known-minus
-enum-known-minus c = search needs
 
 add-t6 : tie.Need-add-t6
 add-t6 c =
@@ -38,10 +34,4 @@ returns-2 c =
 
 pub read-sign-spec : {M : Type 1} → statement M
 read-sign-spec =
-    tie.close
-    (tie.spec
-    kind-at-requires
-    enum-known-minus
-    add-t6
-    returns
-    returns-2)
+    tie.close (tie.spec (λ c κs. search needs) (λ c. search needs) add-t6 returns returns-2)

@@ -1,3 +1,5 @@
+-- `skip_digits` meets its contract. The loop's invariant: the digits from `at` on end where those from i on do, by the laws of a run of
+-- bytes (`run-more`, `run-stop`, `run-end` in Bytes.antt of kaldi_io).
 use mathlib.Core.Path.{_≡_, refl, sym, _∙_}
 use Prim.Native.Nat.{_+_, _-_}
 use native.Mathlib.Omega.{arith}
@@ -16,21 +18,6 @@ Inv-loop s at i₀ i =
 
 abbrev μ-loop : tie.MeasureT-loop
 μ-loop s at i₀ i = length s - i
-
-loop-holds : tie.Need-loop-holds Inv-loop μ-loop
-loop-holds c = refl
-
-shared-slice-read-is-digit : tie.Need-shared-slice-read-is-digit Inv-loop μ-loop
-shared-slice-read-is-digit c = search needs
-
-is-digit-requires : tie.Need-is-digit-requires Inv-loop μ-loop
-is-digit-requires c κs = search needs
-
-add-i : tie.Need-add-i Inv-loop μ-loop
-add-i c = search needs
-
-loop-less : tie.Need-loop-less Inv-loop μ-loop
-loop-less c = search needs
 
 loop-again : tie.Need-loop-again Inv-loop μ-loop
 loop-again c =
@@ -52,14 +39,5 @@ returns-2 c =
 pub skip-digits-spec : {M : Type 1} → statement M
 skip-digits-spec =
     tie.close
-    (tie.spec
-    Inv-loop
-    μ-loop
-    loop-holds
-    shared-slice-read-is-digit
-    is-digit-requires
-    add-i
-    loop-less
-    loop-again
-    returns
+    (tie.spec Inv-loop μ-loop (λ c. refl) (λ c. search needs) (λ c κs. search needs) (λ c. search needs) (λ c. search needs) loop-again returns
     returns-2)

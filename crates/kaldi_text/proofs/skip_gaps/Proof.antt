@@ -1,3 +1,4 @@
+-- `skip_gaps` meets its contract: as `skip_spaces`, for blanks that end no row, by the same laws of a run of bytes (Bytes.antt of kaldi_io).
 use mathlib.Core.Path.{_≡_, refl, sym, _∙_}
 use mathlib.Core.Bool.{not, _&&_}
 use Prim.Native.Nat.{_+_, _-_}
@@ -19,21 +20,6 @@ Inv-loop s at i₀ i =
 abbrev μ-loop : tie.MeasureT-loop
 μ-loop s at i₀ i = length s - i
 
-loop-holds : tie.Need-loop-holds Inv-loop μ-loop
-loop-holds c = refl
-
-shared-slice-read-is-gap : tie.Need-shared-slice-read-is-gap Inv-loop μ-loop
-shared-slice-read-is-gap c = search needs
-
-is-gap-requires : tie.Need-is-gap-requires Inv-loop μ-loop
-is-gap-requires c κs = search needs
-
-add-i : tie.Need-add-i Inv-loop μ-loop
-add-i c = search needs
-
-loop-less : tie.Need-loop-less Inv-loop μ-loop
-loop-less c = search needs
-
 loop-again : tie.Need-loop-again Inv-loop μ-loop
 loop-again c =
     let a = c .before .before .before .before .before .before .args in
@@ -54,14 +40,5 @@ returns-2 c =
 pub skip-gaps-spec : {M : Type 1} → statement M
 skip-gaps-spec =
     tie.close
-    (tie.spec
-    Inv-loop
-    μ-loop
-    loop-holds
-    shared-slice-read-is-gap
-    is-gap-requires
-    add-i
-    loop-less
-    loop-again
-    returns
+    (tie.spec Inv-loop μ-loop (λ c. refl) (λ c. search needs) (λ c κs. search needs) (λ c. search needs) (λ c. search needs) loop-again returns
     returns-2)
