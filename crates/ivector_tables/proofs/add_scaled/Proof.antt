@@ -24,9 +24,10 @@ loop-holds c = (omega arith, refl, refl, fill-none _ _)
 
 loop-again : tie.Need-loop-again Inv-loop μ-loop
 loop-again c =
+    let start = c .before .before .before .before in
     let loop-test = c .before .before .loop-test in
     let loop = c .before .before .before .loop in
-    let args = c .before .before .before .before .args in
+    let args = start .args in
     (omega (arith, (loop-test .taken)), (loop .inv .1), simp length-set (loop .inv .2), fill-turn _ _ _ (omega (arith, (loop .inv .1), (loop-test .taken))) (loop .inv .3) (ap (λ (x : Float). x +₆₄ (args .v) *₆₄ at (args .row .now) (loop .c)) (fill-ahead nan _ _ _ (loop .inv .3))))
 
 returns : tie.Need-returns Inv-loop μ-loop
