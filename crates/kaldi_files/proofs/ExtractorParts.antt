@@ -1,4 +1,4 @@
--- The extractor's parts: how they stand in its file, and whether their lengths agree.
+-- The extractor's parts: how they stand in its file, whether their lengths agree, and each way out as a case of the definition's `extractor`.
 use mathlib.Core.Path.{_≡_, refl, sym, ap, _∙_}
 use mathlib.Core.Bool.{Bool, true, false, _&&_}
 use mathlib.Core.List.{List, _∷_}
@@ -8,9 +8,10 @@ use lib.Ieee.{Float, binary64}
 use Rattle.loops.specs.Lists.{allOf}
 use Rattle.definition.specs.Options.{maxGauss, maxFeat, maxIvector}
 use Rattle.definition.specs.Reader.{Got, Parser, after, give, times, text, refused, read}
-use Rattle.definition.specs.Kaldi.{token, dim, Matrix, matrix, single, matrixAt, alike}
+use Rattle.definition.specs.Kaldi.{token, dim, Matrix, Packed, Extractor, matrix, single, matrixAt, alike, extractorHeading, extractor}
 use Rattle.kaldi_io.specs.Answers.{MatrixIn}
 use Rattle.kaldi_io.proofs.Bytes.{both-true}
+use Rattle.kaldi_io.proofs.Chain.{goes, stops, met, unmet}
 use Rattle.kaldi_files.specs.Answers.{means, inverses, items, extractorOf, sizedAs, squareAs, ExtractorIn}
 use Rattle.kaldi_files.specs.Steps.{tally, Counted, counted, MeansIn, closing}
 use Rattle.kaldi_files.proofs.Runs.{rest-read, tally-stands, tally-value}
@@ -127,6 +128,55 @@ module _ (s : List ℕ) {count rows cols : ℕ} {even : Bool} {m next : ℕ} (o 
         ivec-low = o .cols-low;
         ivec-high = o .cols-high;
       }
+
+-- ---- each way out of the file, by what the items before it said
+
+module _ (s : List ℕ) where
+  pub no-heading : {r : ℕ} → extractorHeading s 0 ≡ refused r → refused r ≡ extractor s 0
+  unfolding extractor
+  no-heading e = stops _ s e refl
+
+  module _ {p : ℕ} (h : extractorHeading s 0 ≡ read tt p) where
+    pub no-means : {r : ℕ} → counted s p ≡ refused r → refused r ≡ extractor s 0
+    unfolding extractor
+    no-means e = goes _ s h (past-counted s p _ (stops _ s e refl))
+
+    module _ {m : Counted} {q : ℕ} (i : counted s p ≡ read m q) where
+      pub no-token : {r : ℕ} → token (text "<SigmaInv>") s q ≡ refused r → refused r ≡ extractor s 0
+      unfolding extractor
+      no-token e = goes _ s h (past-counted s p _ (goes _ s i (stops _ s e refl)))
+
+      module _ {t : ℕ} (j : token (text "<SigmaInv>") s q ≡ read tt t) where
+        pub no-inverses : {r : ℕ} → inverses s (m .count) t ≡ refused r → refused r ≡ extractor s 0
+        unfolding extractor
+        no-inverses e = goes _ s h (past-counted s p _ (goes _ s i (goes _ s j (stops _ s e refl))))
+
+        module _ {vs : List Packed} {u : ℕ} (k : inverses s (m .count) t ≡ read vs u) where
+          pub no-closing : {r : ℕ} → closing s u ≡ refused r → refused r ≡ extractor s 0
+          unfolding extractor
+          no-closing e = goes _ s h (past-counted s p _ (goes _ s i (goes _ s j (goes _ s k (past-closing s u _ (stops _ s e refl))))))
+
+          module _ {y : Float} {z : ℕ} (l : closing s u ≡ read y z) where
+            pub not-alike : alike (m .list) vs ≡ false → refused 5 ≡ extractor s 0
+            unfolding extractor
+            not-alike e =
+                goes _ s h (past-counted s p _ (goes _ s i (goes _ s j (goes _ s k (past-closing s u _ (goes _ s l (stops _ s (sym (unmet 5 s z e)) refl)))))))
+
+            pub all-alike : alike (m .list) vs ≡ true → {x : Got Extractor}
+                → x ≡ read
+                (record {
+                  num-gauss = m .count;
+                  feat-dim = matrixAt (m .list) 0 .rows;
+                  ivector-dim = matrixAt (m .list) 0 .cols;
+                  m = m .list;
+                  sigma-inv = vs;
+                  prior-offset = y;
+                })
+                z
+                → x ≡ extractor s 0
+            unfolding extractor
+            all-alike e d =
+                goes _ s h (past-counted s p _ (goes _ s i (goes _ s j (goes _ s k (past-closing s u _ (goes _ s l (goes _ s (sym (met 5 s z e)) d)))))))
 
 -- ---- what the tests of a block say
 

@@ -1,18 +1,35 @@
--- Parts of the extractor's file that have a function of their own, and what their answers say.
+-- Parts of the files that have a function of their own, and what their answers say.
 use mathlib.Core.Path.{_≡_}
 use mathlib.Core.Bool.{Bool, false, _&&_}
 use mathlib.Core.List.{List}
 use Prim.Native.Nat.{ℕ, _≤_}
-use lib.Ieee.{Float, binary64}
+use lib.Ieee.{Float, binary32, binary64}
 use Rattle.loops.specs.Lists.{allOf}
 use Rattle.definition.specs.Options.{maxGauss, maxFeat, maxIvector}
 use Rattle.definition.specs.Reader.{Got, read, refused, Parser, _>>=_, _>>_, give, times, text}
-use Rattle.definition.specs.Kaldi.{Matrix, matrixAt, token, dim, matrix, single}
+use Rattle.definition.specs.Kaldi.{Matrix, matrixAt, binary, token, dim, matrix, skipped, rowless, single}
 use Rattle.kaldi_files.specs.Answers.{means, items, sizedAs}
 use Rattle.kaldi_files.specs.declared.Run.{Run}
 use Rattle.kaldi_files.specs.declared.Run.the-variants as R
 use Rattle.kaldi_files.specs.declared.Means.{Means}
 use Rattle.kaldi_files.specs.declared.Means.the-variants as M
+
+-- ---- two items that one function reads
+
+-- a file's mark and its first token
+abbrev pub opening : List ℕ → Parser (Unit {0})
+opening tag = binary >> token tag
+
+-- a token and the GMM's matrix behind it
+abbrev pub headed : List ℕ → Bool → Parser Matrix
+headed tag positive = token tag >> matrix binary32 positive maxGauss maxFeat
+
+-- the extractor's `<w>` and `<w_vec>`, with their tokens
+abbrev pub rowlessW : Parser (Unit {0})
+rowlessW = token (text "<w>") >> rowless
+
+abbrev pub skippedW : Parser (Unit {0})
+skippedW = token (text "<w_vec>") >> skipped binary64
 
 -- ---- runs of blocks
 

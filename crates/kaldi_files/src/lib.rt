@@ -24,15 +24,26 @@ use kaldi_io::read_token;
 use kaldi_io::same_at;
 use kaldi_io::skip_double_vec;
 use kaldi_io::skip_float_vec;
+use kaldi_io::tagged_dim;
 ghost use mathlib.Core.Path.{_≡_};
 ghost use mathlib.Core.Bool.{true, false, _&&_};
 ghost use lib.Ieee.{binary32, binary64};
-ghost use Rattle.definition.specs.Options.{maxFeat, maxIvector, maxColumns};
+ghost use Rattle.definition.specs.Options.{maxGauss, maxFeat, maxIvector, maxColumns};
 ghost use Rattle.definition.specs.Reader.{times};
 ghost use Rattle.definition.specs.Kaldi.{matrix, packedMatrix, weightsHeading, gmm, rowless, extractorHeading, extractor, lda};
 ghost use Rattle.kaldi_io.specs.Answers.{nextOf, numberOf, matrixOf, matrixIn};
 ghost use Rattle.kaldi_files.specs.Answers.{gmmOf, gmmIn, extractorOf, extractorIn, sizedAs, squareAs};
-ghost use Rattle.kaldi_files.specs.Steps.{tally, runOf, meansOf, meansIn, counted, closing};
+ghost use Rattle.kaldi_files.specs.Steps.{opening, headed, rowlessW, skippedW, tally, runOf, meansOf, meansIn, counted, closing};
+
+// The mark at the start of a file, and its first token.
+fn open_file(s: &[u8], tag: &[u8]) -> Next
+    ensures { λ r. ⌜ nextOf r ≡ opening (now (tag .entry)) (now (s .entry)) 0 ⌝ }
+{
+    match open_binary(s) {
+        Next::Refused(e) => Next::Refused(e),
+        Next::At(next) => expect_token(s, next, tag),
+    }
+}
 
 // ---- the GMM
 
@@ -70,75 +81,70 @@ pub enum Gmm {
     Refused(usize),
 }
 
+// A token, and the matrix that it stands before.
+fn check_headed(s: &[u8], at: usize, tag: &[u8], positive: bool) -> Matrix
+    ensures { λ r. ⌜ matrixOf binary32 (now (s .entry)) r ≡ headed (now (tag .entry)) positive (now (s .entry)) at ⌝ }
+    ensures { λ r. ⌜ matrixIn binary32 maxGauss maxFeat (now (s .entry)) r ⌝ }
+{
+    match expect_token(s, at, tag) {
+        Next::Refused(e) => Matrix::Refused(e),
+        Next::At(next) => check_float_matrix(s, next, positive, MAX_GAUSS, MAX_FEAT),
+    }
+}
+
 pub fn check_gmm(s: &[u8]) -> Gmm
     ensures { λ r. ⌜ gmmOf (now (s .entry)) r ≡ gmm (now (s .entry)) 0 ⌝ }
     ensures { λ r. ⌜ gmmIn (now (s .entry)) r ⌝ }
 {
-    let a = match open_binary(s) {
+    let a = match open_file(s, b"<DiagGMM>") {
         Next::At(next) => next,
         Next::Refused(e) => return Gmm::Refused(e),
     };
-    let b = match expect_token(s, a, b"<DiagGMM>") {
+    let b = match expect_weights(s, a) {
         Next::At(next) => next,
         Next::Refused(e) => return Gmm::Refused(e),
     };
-    let c = match expect_weights(s, b) {
-        Next::At(next) => next,
-        Next::Refused(e) => return Gmm::Refused(e),
-    };
-    match check_float_vec(s, c, true, MAX_GAUSS) {
+    match check_float_vec(s, b, true, MAX_GAUSS) {
         Vector::Refused(e) => Gmm::Refused(e),
         Vector::Is {
             len,
             from: weights,
-            next: d,
-        } => {
-            let f = match expect_token(s, d, b"<MEANS_INVVARS>") {
-                Next::At(next) => next,
-                Next::Refused(e) => return Gmm::Refused(e),
-            };
-            match check_float_matrix(s, f, false, MAX_GAUSS, MAX_FEAT) {
+            next: c,
+        } => match check_headed(s, c, b"<MEANS_INVVARS>", false) {
+            Matrix::Refused(e) => Gmm::Refused(e),
+            Matrix::Is {
+                rows,
+                cols,
+                from: means,
+                next: d,
+            } => match check_headed(s, d, b"<INV_VARS>", true) {
                 Matrix::Refused(e) => Gmm::Refused(e),
                 Matrix::Is {
-                    rows,
-                    cols,
-                    from: means,
-                    next: g,
+                    rows: rows2,
+                    cols: cols2,
+                    from: vars,
+                    next,
                 } => {
-                    let h = match expect_token(s, g, b"<INV_VARS>") {
-                        Next::At(next) => next,
-                        Next::Refused(e) => return Gmm::Refused(e),
-                    };
-                    match check_float_matrix(s, h, true, MAX_GAUSS, MAX_FEAT) {
-                        Matrix::Refused(e) => Gmm::Refused(e),
-                        Matrix::Is {
-                            rows: rows2,
-                            cols: cols2,
-                            from: vars,
-                            next,
-                        } => {
-                            if rows != rows2 {
-                                return Gmm::Refused(5);
-                            }
-                            if cols != cols2 {
-                                return Gmm::Refused(5);
-                            }
-                            if len != rows {
-                                return Gmm::Refused(5);
-                            }
-                            Gmm::Is {
-                                num_gauss: rows,
-                                dim: cols,
-                                weights,
-                                means_invvars: means,
-                                inv_vars: vars,
-                                next,
-                            }
-                        }
+                    if rows != rows2 {
+                        return Gmm::Refused(5);
+                    }
+                    if cols != cols2 {
+                        return Gmm::Refused(5);
+                    }
+                    if len != rows {
+                        return Gmm::Refused(5);
+                    }
+                    Gmm::Is {
+                        num_gauss: rows,
+                        dim: cols,
+                        weights,
+                        means_invvars: means,
+                        inv_vars: vars,
+                        next,
                     }
                 }
-            }
-        }
+            },
+        },
     }
 }
 
@@ -148,11 +154,7 @@ pub fn check_gmm(s: &[u8]) -> Gmm
 fn expect_rowless(s: &[u8], at: usize) -> Next
     ensures { λ r. ⌜ nextOf r ≡ rowless (now (s .entry)) at ⌝ }
 {
-    let p = match expect_token(s, at, b"DM") {
-        Next::At(next) => next,
-        Next::Refused(e) => return Next::Refused(e),
-    };
-    match read_dim(s, p, 0, MAX_SKIPPED) {
+    match tagged_dim(s, at, b"DM", 0, MAX_SKIPPED) {
         Dim::Refused(e) => Next::Refused(e),
         Dim::Is { n: rows, next: q } => match read_dim(s, q, 0, MAX_SKIPPED) {
             Dim::Refused(e) => Next::Refused(e),
@@ -167,35 +169,42 @@ fn expect_rowless(s: &[u8], at: usize) -> Next
     }
 }
 
+// The token `<w>` and its matrix.
+fn expect_w(s: &[u8], at: usize) -> Next
+    ensures { λ r. ⌜ nextOf r ≡ rowlessW (now (s .entry)) at ⌝ }
+{
+    match expect_token(s, at, b"<w>") {
+        Next::Refused(e) => Next::Refused(e),
+        Next::At(next) => expect_rowless(s, next),
+    }
+}
+
+// The token `<w_vec>` and its vector.
+fn skip_w_vec(s: &[u8], at: usize) -> Next
+    ensures { λ r. ⌜ nextOf r ≡ skippedW (now (s .entry)) at ⌝ }
+{
+    match expect_token(s, at, b"<w_vec>") {
+        Next::Refused(e) => Next::Refused(e),
+        Next::At(next) => skip_double_vec(s, next),
+    }
+}
+
 // What stands before the matrices M.
 fn expect_heading(s: &[u8]) -> Next
     ensures { λ r. ⌜ nextOf r ≡ extractorHeading (now (s .entry)) 0 ⌝ }
 {
-    let a = match open_binary(s) {
+    let a = match open_file(s, b"<IvectorExtractor>") {
         Next::At(next) => next,
         Next::Refused(e) => return Next::Refused(e),
     };
-    let b = match expect_token(s, a, b"<IvectorExtractor>") {
+    let b = match expect_w(s, a) {
         Next::At(next) => next,
         Next::Refused(e) => return Next::Refused(e),
     };
-    let c = match expect_token(s, b, b"<w>") {
-        Next::At(next) => next,
-        Next::Refused(e) => return Next::Refused(e),
-    };
-    let d = match expect_rowless(s, c) {
-        Next::At(next) => next,
-        Next::Refused(e) => return Next::Refused(e),
-    };
-    let f = match expect_token(s, d, b"<w_vec>") {
-        Next::At(next) => next,
-        Next::Refused(e) => return Next::Refused(e),
-    };
-    let g = match skip_double_vec(s, f) {
-        Next::At(next) => next,
-        Next::Refused(e) => return Next::Refused(e),
-    };
-    expect_token(s, g, b"<M>")
+    match skip_w_vec(s, b) {
+        Next::Refused(e) => Next::Refused(e),
+        Next::At(next) => expect_token(s, next, b"<M>"),
+    }
 }
 
 fn both(a: bool, b: bool) -> bool

@@ -15,8 +15,9 @@ use Rattle.loops.specs.Lists.{if_then_else_}
 use Rattle.loops.proofs.Choose.{by-test}
 use Rattle.loops.proofs.Parts.{drop-next, length-part, at-part}
 use Rattle.definition.specs.Options.{within}
-use Rattle.definition.specs.Reader.{Parser, _>>=_, _>>_, give, need, bytes, run, same, littleEndian, refused, read}
-use Rattle.definition.specs.Kaldi.{binary, blank, word, dim}
+use Rattle.definition.specs.Reader.{Got, Parser, after, _>>=_, _>>_, give, need, bytes, run, same, littleEndian, refused, read}
+use Rattle.definition.specs.Kaldi.{binary, blank, word, token, dim}
+use Rattle.kaldi_io.specs.Answers.{tagged}
 use Rattle.kaldi_io.proofs.Chain.{not-read, same-value}
 
 -- ---- the next bytes
@@ -224,6 +225,14 @@ unfolding dim
 dim-in low high s at e =
     let h = sized-in 4 (within low high) 4 (λ n. n) s at e in
     subst (λ (n : ℕ). (low ≤ n) × (n ≤ high)) (h .1) (range-of low high _ (h .0))
+
+-- and so is one behind a tag
+pub tagged-in : (tag : List ℕ) (low high : ℕ) (s : List ℕ) (at : ℕ) {n z : ℕ} → tagged tag low high s at ≡ read n z → (low ≤ n) × (n ≤ high)
+tagged-in tag low high s at {n} {z} = go (token tag s at)
+  where
+    go : (g : Got (Unit {0})) → after g (λ _. dim low high) s ≡ read n z → (low ≤ n) × (n ≤ high)
+    go (refused r) e = absurd (not-read e)
+    go (read u p) e = dim-in low high s p e
 
 -- two lengths of at most a million: their product fits
 pub product-fits : (a b : ℕ) → a ≤ 1000000 → b ≤ 1000000 → Fits w64 (a * b)

@@ -1,11 +1,13 @@
 -- Parsers one after the other, as code meets them: a call answers r, which says `of r`, and a `match` shows that r is its case c.
-use mathlib.Core.Path.{_≡_, sym, ap, _∙_, subst}
+use mathlib.Core.Path.{_≡_, refl, sym, ap, _∙_, subst}
 use mathlib.Core.Bool.{Bool, true, false}
 use mathlib.Core.List.{List}
 use Prim.Native.Nat.{ℕ}
 use Rattle.loops.specs.Lists.{if_then_else_}
 use Rattle.definition.specs.Reader.{Got, Parser, after, need, refused, read}
-use Rattle.kaldi_io.specs.Answers.{placeOf}
+use Rattle.definition.specs.Kaldi.{token, dim}
+use Rattle.kaldi_io.specs.declared.Dim.{Dim}
+use Rattle.kaldi_io.specs.Answers.{placeOf, dimOf, tagged}
 
 module _ {R A : Type 0} (of : R → Got A) {r c : R} {g : Got A} where
   -- what the last answer says
@@ -27,6 +29,27 @@ module _ {A B : Type 0} {x : Got B} (k : A → Parser B) (s : List ℕ) where
 
   pub stops : {g : Got A} {n : ℕ} → g ≡ refused n → x ≡ refused n → x ≡ after g k s
   stops e t = t ∙ sym (ap (λ (y : Got A). after y k s) e)
+
+-- past two items that one call reads, the first without a value
+module _ {A B : Type 0} (p : Parser (Unit {0})) (q : Parser A) (k : A → Parser B) (s : List ℕ) (at : ℕ) where
+  parted : (g : Got (Unit {0})) → after (after g (λ _. q) s) k s ≡ after g (λ _ t z. after (q t z) k t) s
+  parted (refused n) = refl
+  parted (read u z) = refl
+
+  pub both-step : {R : Type 0} (of : R → Got A) {r c : R} {x : Got B} → of r ≡ after (p s at) (λ _. q) s → r ≡ c → x ≡ after (of c) k s
+      → x ≡ after (p s at) (λ _ t z. after (q t z) k t) s
+  both-step of e h t = step of k s e h t ∙ parted (p s at)
+
+  pub both-go : {a : A} {z : ℕ} {x : Got B} → after (p s at) (λ _. q) s ≡ read a z → x ≡ k a s z → x ≡ after (p s at) (λ _ t z. after (q t z) k t) s
+  both-go e t = goes k s e t ∙ parted (p s at)
+
+  pub both-stop : {n : ℕ} {x : Got B} → after (p s at) (λ _. q) s ≡ refused n → x ≡ refused n → x ≡ after (p s at) (λ _ t z. after (q t z) k t) s
+  both-stop e t = stops k s e t ∙ parted (p s at)
+
+-- a tag and the number behind it
+pub tag-step : {B : Type 0} {x : Got B} (tag : List ℕ) (low high : ℕ) (k : ℕ → Parser B) (s : List ℕ) (at : ℕ) {r c : Dim}
+    → dimOf r ≡ tagged tag low high s at → r ≡ c → x ≡ after (dimOf c) k s → x ≡ after (token tag s at) (λ _ t p. after (dim low high t p) k t) s
+tag-step tag low high k s at = both-step (token tag) (dim low high) k s at dimOf
 
 -- a test
 pub met : {t : Bool} (n : ℕ) (s : List ℕ) (p : ℕ) → t ≡ true → read tt p ≡ need t n s p

@@ -9,9 +9,9 @@ use lib.Ieee.{Float, Format, binary32, binary64}
 use lib.Ieee.Scale.{finite}
 use Rattle.loops.specs.Lists.{allOf}
 use Rattle.definition.specs.Options.{maxFeat}
-use Rattle.definition.specs.Reader.{Got, read, refused, byteWidth, numbers}
+use Rattle.definition.specs.Reader.{Got, Parser, _>>_, read, refused, byteWidth, numbers}
 use Rattle.definition.specs.Kaldi as K
-use Rattle.definition.specs.Kaldi.{triangle}
+use Rattle.definition.specs.Kaldi.{token, dim, triangle}
 use Rattle.kaldi_io.specs.declared.Next.{Next}
 use Rattle.kaldi_io.specs.declared.Next.the-variants as N
 use Rattle.kaldi_io.specs.declared.Dim.{Dim}
@@ -41,6 +41,10 @@ nextOf (N.Refused n) = refused n
 abbrev pub dimOf : Dim → Got ℕ
 dimOf (D.Is n next) = read n next
 dimOf (D.Refused r) = refused r
+
+-- a block's tag, and a number behind it
+abbrev pub tagged : List ℕ → ℕ → ℕ → Parser ℕ
+tagged tag low high = token tag >> dim low high
 
 abbrev pub numberOf : Number → Got Float
 numberOf (X.Is x next) = read x next

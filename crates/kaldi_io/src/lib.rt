@@ -8,7 +8,7 @@ ghost use lib.Ieee.{binary32, binary64, ofBits};
 ghost use Rattle.floats.specs.Operators.{at};
 ghost use Rattle.definition.specs.Reader.{run, same, littleEndian, byteWidth, numbers, kept, floats};
 ghost use Rattle.definition.specs.Kaldi.{binary, blank, word, token, dim, vectorTag, matrixTag, vector, matrix, skipped, packedMatrix, single};
-ghost use Rattle.kaldi_io.specs.Answers.{width, nextOf, dimOf, wordOf, wordIn, floatsOf, floatsIn, Ready, vectorOf, vectorIn, matrixOf, matrixIn, packedOf, packedIn, numberOf};
+ghost use Rattle.kaldi_io.specs.Answers.{width, nextOf, dimOf, tagged, wordOf, wordIn, floatsOf, floatsIn, Ready, vectorOf, vectorIn, matrixOf, matrixIn, packedOf, packedIn, numberOf};
 
 // Limits of dimensions: Gaussians, features, i-vector, LDA columns, and a block that is skipped.
 pub const MAX_GAUSS: usize = 1024;
@@ -310,6 +310,16 @@ pub fn read_dim(s: &[u8], at: usize, low: usize, high: usize) -> Dim
     Dim::Is { n, next: at + 5 }
 }
 
+// A block's tag, and a number from `low` to `high` behind it.
+pub fn tagged_dim(s: &[u8], at: usize, tag: &[u8], low: usize, high: usize) -> Dim
+    ensures { λ r. ⌜ dimOf r ≡ tagged (now (tag .entry)) low high (now (s .entry)) at ⌝ }
+{
+    match expect_token(s, at, tag) {
+        Next::Refused(e) => Dim::Refused(e),
+        Next::At(next) => read_dim(s, next, low, high),
+    }
+}
+
 // Whether a pattern is that of a number to keep: finite, and above 0 where that is asked. The exponent's bits are looked at first, so that
 // no pattern of a NaN becomes a float.
 fn kept_f32(bits: u32, positive: bool) -> bool
@@ -411,7 +421,7 @@ fn check_floats(s: &[u8], at: usize, n: usize, double: bool, positive: bool) -> 
 
 // Bytes of a number.
 fn float_size(double: bool) -> usize
-    ensures { λ r. ⌜ (r ≡ size (width double)) × (r ≤ 8) ⌝ }
+    ensures { λ r. ⌜ (r ≡ byteWidth (width double)) × (r ≤ 8) ⌝ }
 {
     if double { 8 } else { 4 }
 }
@@ -465,11 +475,7 @@ pub fn check_float_vec(s: &[u8], at: usize, positive: bool, most: usize) -> Vect
     ensures { λ r. ⌜ vectorOf binary32 (now (s .entry)) r ≡ vector binary32 positive most (now (s .entry)) at ⌝ }
     ensures { λ r. ⌜ vectorIn binary32 most (now (s .entry)) r ⌝ }
 {
-    let p = match expect_token(s, at, b"FV") {
-        Next::At(next) => next,
-        Next::Refused(e) => return Vector::Refused(e),
-    };
-    match read_dim(s, p, 1, most) {
+    match tagged_dim(s, at, b"FV", 1, most) {
         Dim::Refused(e) => Vector::Refused(e),
         Dim::Is { n, next: from } => match check_f32s(s, from, n, positive) {
             Next::Refused(e) => Vector::Refused(e),
@@ -493,11 +499,7 @@ fn check_matrix(
     ensures { λ r. ⌜ matrixOf (width double) (now (s .entry)) r ≡ matrix (width double) positive «most_rows» «most_cols» (now (s .entry)) at ⌝ }
     ensures { λ r. ⌜ matrixIn (width double) «most_rows» «most_cols» (now (s .entry)) r ⌝ }
 {
-    let p = match expect_token(s, at, tag) {
-        Next::At(next) => next,
-        Next::Refused(e) => return Matrix::Refused(e),
-    };
-    match read_dim(s, p, 1, most_rows) {
+    match tagged_dim(s, at, tag, 1, most_rows) {
         Dim::Refused(e) => Matrix::Refused(e),
         Dim::Is { n: rows, next: q } => match read_dim(s, q, 1, most_cols) {
             Dim::Refused(e) => Matrix::Refused(e),
@@ -550,11 +552,7 @@ pub fn check_packed_double(s: &[u8], at: usize) -> Packed
     ensures { λ r. ⌜ packedOf (now (s .entry)) r ≡ packedMatrix (now (s .entry)) at ⌝ }
     ensures { λ r. ⌜ packedIn (now (s .entry)) r ⌝ }
 {
-    let p = match expect_token(s, at, b"DP") {
-        Next::At(next) => next,
-        Next::Refused(e) => return Packed::Refused(e),
-    };
-    match read_dim(s, p, 1, MAX_FEAT) {
+    match tagged_dim(s, at, b"DP", 1, MAX_FEAT) {
         Dim::Refused(e) => Packed::Refused(e),
         Dim::Is { n, next: from } => match check_f64s(s, from, n * (n + 1) / 2, false) {
             Next::Refused(e) => Packed::Refused(e),
@@ -568,11 +566,7 @@ fn skip_vec(s: &[u8], at: usize, tag: &[u8], double: bool) -> Next
     requires { ⌜ now tag ≡ vectorTag (width double) ⌝ }
     ensures { λ r. ⌜ nextOf r ≡ skipped (width double) (now (s .entry)) at ⌝ }
 {
-    let p = match expect_token(s, at, tag) {
-        Next::At(next) => next,
-        Next::Refused(e) => return Next::Refused(e),
-    };
-    match read_dim(s, p, 0, MAX_SKIPPED) {
+    match tagged_dim(s, at, tag, 0, MAX_SKIPPED) {
         Dim::Refused(e) => Next::Refused(e),
         Dim::Is { n, next: from } => {
             let len = n * float_size(double);

@@ -162,9 +162,16 @@ cap-power minus m false e n s next h =
     let z : (x : ℕ) → toNearest minus m x (0 + n) s next ≡ toNearest minus m x n s next = λ x. ap (λ (k : ℕ). toNearest minus m x k s next) (zero-add n) in
     z (min e 100000) ∙ cap-up minus s next m e n h ∙ sym (z e)
 
-module _ (s : List ℕ) (at : ℕ) {minus : Bool} {from to start stop : ℕ}
-    (lead : read minus from ≡ sign s at) (ends : to ≡ from + run (within 48 57) (drop from s)) (inside : to ≤ length s)
-    (part : read (take (stop - start) (drop start s)) stop ≡ fraction s to) (order : start ≤ stop) (fits : stop ≤ length s) where
+-- the parts of a number, as the code reads them: the sign, the digits from `from` to `to`, and those of the fraction from `start` to `stop`
+pub record Parts (s : List ℕ) (at : ℕ) (minus : Bool) (from to start stop : ℕ) : Type 0 where
+  pub lead : read minus from ≡ sign s at
+  pub ends : to ≡ from + run (within 48 57) (drop from s)
+  pub inside : to ≤ length s
+  pub part : read (take (stop - start) (drop start s)) stop ≡ fraction s to
+  pub order : start ≤ stop
+  pub fits : stop ≤ length s
+
+module _ {s : List ℕ} {at : ℕ} {minus : Bool} {from to start stop : ℕ} (o : Parts s at minus from to start stop) where
   abbrev A : List ℕ
   A = take (to - from) (drop from s)
 
@@ -172,16 +179,16 @@ module _ (s : List ℕ) (at : ℕ) {minus : Bool} {from to start stop : ℕ}
   B = take (stop - start) (drop start s)
 
   count : length (A ++ B) ≡ (to - from) + (stop - start)
-  count = length-append A B ∙ ap (λ (n : ℕ). n + length B) (part-length s from to (omega arith) inside) ∙ ap (λ (n : ℕ). (to - from) + n) (part-length s start stop order fits)
+  count = length-append A B ∙ ap (λ (n : ℕ). n + length B) (part-length s from to (omega arith) (o .inside)) ∙ ap (λ (n : ℕ). (to - from) + n) (part-length s start stop (o .order) (o .fits))
 
   pub number-empty : (to - from) + (stop - start) ≡ 0 → refused 7 ≡ number s at
   unfolding number
-  number-empty e = let z : length (A ++ B) ≡ 0 = count ∙ e in simp (← lead, ← (digits-are s from ends), ← part, z)
+  number-empty e = let z : length (A ++ B) ≡ 0 = count ∙ e in simp (← (o .lead), ← (digits-are s from (o .ends)), ← (o .part), z)
 
   module _ (some : (to - from) + (stop - start) ≡ 0 → ⊥) where
     number-tail : number s at ≡ tail minus A B s (exponent s stop)
     unfolding number
-    number-tail = let z : ltb 0 (length (A ++ B)) ≡ true = lt-ltb 0 (length (A ++ B)) (rw count (omega arith)) in simp (← lead, ← (digits-are s from ends), ← part, z)
+    number-tail = let z : ltb 0 (length (A ++ B)) ≡ true = lt-ltb 0 (length (A ++ B)) (rw count (omega arith)) in simp (← (o .lead), ← (digits-are s from (o .ends)), ← (o .part), z)
 
     pub number-refused : {e : ℕ} → refused e ≡ capped (exponent s stop) → refused e ≡ number s at
     number-refused {e} h = go (exponent s stop) h ∙ sym number-tail
@@ -201,7 +208,7 @@ module _ (s : List ℕ) (at : ℕ) {minus : Bool} {from to start stop : ℕ}
       number-read l = go (exponent s stop) held ∙ sym number-tail
         where
           n-is : stop - start ≡ length B
-          n-is = sym (part-length s start stop order fits)
+          n-is = sym (part-length s start stop (o .order) (o .fits))
 
           go : (g : Got Power) → read (record { under = u; magnitude = z }) next ≡ capped g → scaledBy minus m u z (stop - start) s next ≡ tail minus A B s g
           go (refused n) h = absurd (not-read (sym h))

@@ -26,8 +26,12 @@ in-range c =
     let at-options-in-range = c .before in
     sym (at-options-in-range .options-in-range .ensures) ∙ not-false _ (c .if1 .left)
 
+-- the start, from where the files are read
+abbrev start-of : tie.After-dims → tie.Start
+start-of c = c .before .before .before .before .before .before .before .before .before
+
 read : (c : tie.After-dims) →
-    let start = c .before .before .before .before .before .before .before .before .before in
+    let start = start-of c in
     let (d, (dim, (rows, (prior, (at, _))))) = c .dims .given .0 in
     FilesRead (start .args .opts) (files start) d dim rows prior at
 read c =
@@ -42,7 +46,7 @@ read c =
 
 agree : (c : tie.Else2) →
     let at-dims = c .before .before .before in
-    let start = at-dims .before .before .before .before .before .before .before .before .before in
+    let start = start-of at-dims in
     dimsAgree (start .args .opts) (at-dims .dims .given .0 .0) ≡ true
 agree c =
     let at-dims-agree = c .before in
@@ -50,7 +54,7 @@ agree c =
 
 fit : (c : tie.Else5) →
     let at-dims = c .before .before .before .before .before .before .before .before .before in
-    let start = at-dims .before .before .before .before .before .before .before .before .before in
+    let start = start-of at-dims in
     tablesFit (start .args .opts) (at-dims .dims .given .0 .0) (start .args .z) ≡ true
 fit c =
     let at-tables-fit = c .before in
@@ -72,14 +76,14 @@ returns-2 : tie.Need-returns-2
 returns-2 c =
     let at-dims-agree = c .before in
     let at-dims = at-dims-agree .before .before in
-    let start = at-dims .before .before .before .before .before .before .before .before .before in
+    let start = start-of at-dims in
     (dims-apart (start .args .z) (start .args .scratch) (read at-dims) (sym (at-dims-agree .dims-agree .ensures) ∙ not-true _ (c .if2 .taken)), tt)
 
 returns-3 : tie.Need-returns-3
 returns-3 c =
     let at-if2 = c .before .before in
     let at-dims = at-if2 .before .before .before in
-    let start = at-dims .before .before .before .before .before .before .before .before .before in
+    let start = start-of at-dims in
     (rows-apart (start .args .z) (start .args .scratch) (read at-dims) (agree at-if2) (c .if3 .taken), tt)
 
 returns-4 : tie.Need-returns-4
@@ -87,7 +91,7 @@ returns-4 c =
     let at-if3 = c .before .before in
     let at-if2 = at-if3 .before .before in
     let at-dims = at-if2 .before .before .before in
-    let start = at-dims .before .before .before .before .before .before .before .before .before in
+    let start = start-of at-dims in
     (dim-apart (start .args .z) (start .args .scratch) (read at-dims) (agree at-if2) (at-if3 .if3 .left) (c .if4 .taken), tt)
 
 tables-fit-requires : tie.Need-tables-fit-requires
@@ -103,7 +107,7 @@ returns-5 c =
     let at-if3 = at-if4 .before .before in
     let at-if2 = at-if3 .before .before in
     let at-dims = at-if2 .before .before .before in
-    let start = at-dims .before .before .before .before .before .before .before .before .before in
+    let start = start-of at-dims in
     let short = sym (at-tables-fit .tables-fit .ensures) ∙ not-true _ (c .if5 .taken) in
     (tables-short (start .args .z) (start .args .scratch) (read at-dims) (agree at-if2) (at-if3 .if3 .left) (at-if4 .if4 .left) short, tt)
 
@@ -120,7 +124,7 @@ returns-6 c =
     let at-if3 = at-if4 .before .before in
     let at-if2 = at-if3 .before .before in
     let at-dims = at-if2 .before .before .before in
-    let start = at-dims .before .before .before .before .before .before .before .before .before in
+    let start = start-of at-dims in
     let short : start .args .scratch < loadScratch (at-dims .dims .given .0 .0) = omega (arith, c .if6 .taken, at-load-scratch .load-scratch .ensures) in
     (scratch-short (start .args .z) (start .args .scratch) (read at-dims) (agree at-if2) (at-if3 .if3 .left) (at-if4 .if4 .left) (fit at-if5) short, tt)
 
@@ -141,7 +145,7 @@ returns-8 c =
     let at-if3 = at-if4 .before .before in
     let at-if2 = at-if3 .before .before in
     let at-dims = at-if2 .before .before .before in
-    let start = at-dims .before .before .before .before .before .before .before .before .before in
+    let start = start-of at-dims in
     let enough : loadScratch (at-dims .dims .given .0 .0) ≤ start .args .scratch = omega (arith, c .if6 .left, at-load-scratch .load-scratch .ensures) in (
       all-taken (start .args .z) (start .args .scratch) (read at-dims) (agree at-if2) (at-if3 .if3 .left) (at-if4 .if4 .left) (fit at-if5) enough,
       judged-in (start .args .z) (start .args .scratch) (read at-dims) (agree at-if2) (at-if3 .if3 .left) (at-if4 .if4 .left) (fit at-if5) enough,

@@ -22,10 +22,14 @@ Inv-loop s from rows cols c out₀ n r₀ out r =
 abbrev μ-loop : tie.MeasureT-loop
 μ-loop s from rows cols c out₀ n r₀ out r = rows - r
 
+abbrev start-of : tie.At-loop Inv-loop μ-loop → tie.Start Inv-loop μ-loop
+start-of c = c .before .before .before
+
 mul-n : tie.Need-mul-n Inv-loop μ-loop
 mul-n c =
-    let args = c .before .before .args in
-    let pre = c .before .before .pre in
+    let start = c .before .before in
+    let args = start .args in
+    let pre = start .pre in
     omega (arith, few (args .rows) (args .cols) (pre .1 .0) (pre .1 .1))
 
 loop-holds : tie.Need-loop-holds Inv-loop μ-loop
@@ -33,38 +37,44 @@ loop-holds c = (omega arith, refl, fill-none _ _)
 
 mul-f32-at : tie.Need-mul-f32-at Inv-loop μ-loop
 mul-f32-at c =
-    let args = c .before .before .before .before .args in
-    let pre = c .before .before .before .before .pre in
+    let start = start-of (c .before) in
+    let args = start .args in
+    let pre = start .pre in
     omega (arith, few (args .rows) (args .cols) (pre .1 .0) (pre .1 .1), row-in ((c .before .loop) .r) (args .rows) (args .cols) ((args .rows) * (args .cols)) (omega arith) ((c .loop-test) .taken))
 
 add-f32-at : tie.Need-add-f32-at Inv-loop μ-loop
 add-f32-at c =
-    let args = c .before .before .before .before .args in
-    let pre = c .before .before .before .before .pre in
+    let start = start-of (c .before) in
+    let args = start .args in
+    let pre = start .pre in
     omega (arith, few (args .rows) (args .cols) (pre .1 .0) (pre .1 .1), cell-below ((c .before .loop) .r) (args .c) (args .rows) (args .cols) ((c .loop-test) .taken) (pre .1 .2))
 
 f32-at-requires : tie.Need-f32-at-requires Inv-loop μ-loop
 f32-at-requires c κs =
-    let pre = c .before .before .before .before .pre in
-    let args = c .before .before .before .before .args in
+    let start = start-of (c .before) in
+    let pre = start .pre in
+    let args = start .args in
     ((pre .0), cell-below ((c .before .loop) .r) (args .c) (args .rows) (args .cols) ((c .loop-test) .taken) (pre .1 .2))
 
 slice-write-out : tie.Need-slice-write-out Inv-loop μ-loop
 slice-write-out c =
-    let pre = c .before .before .before .before .before .pre in
+    let start = start-of (c .before .before) in
+    let pre = start .pre in
     omega (arith, (pre .1 .3), ((c .before .loop-test) .taken), ((c .before .before .loop) .inv .1))
 
 loop-again : tie.Need-loop-again Inv-loop μ-loop
 loop-again c =
+    let start = start-of (c .before .before) in
     let loop-test = c .before .loop-test in
     let loop = c .before .before .loop in
-    let pre = c .before .before .before .before .before .pre in
+    let pre = start .pre in
     (omega (arith, (loop-test .taken)), simp length-set (loop .inv .1), fill-turn _ _ _ (omega (arith, (pre .1 .3), (loop-test .taken))) (loop .inv .2) ((c .f32-at) .ensures))
 
 returns : tie.Need-returns Inv-loop μ-loop
 returns c =
+    let start = start-of (c .before) in
     let loop = c .before .loop in
-    let pre = c .before .before .before .before .pre in
+    let pre = start .pre in
     fill-end _ _ _ _ (loop .inv .0) ((c .loop-test) .left) (loop .inv .2) ∙ fill-whole _ _ _ (pre .1 .3)
 
 pub fill-column-spec : {M : Type 1} → statement M

@@ -1,9 +1,17 @@
 -- `fill_gaussian` meets its contract: both blocks were checked, so that neither is refused (`m-there`, `sigma-there`), and their numbers are
 -- read where they stand (the other `m-..` and `sigma-..` laws of Again.antt).
 use borrow.Author.Needs.{needs}
-use mathlib.Core.Path.{subst}
+use mathlib.Core.Path.{_≡_, subst}
+use mathlib.Core.Bool.{false}
+use mathlib.Core.List.{List}
+use Prim.Native.Nat.{ℕ}
 use lib.Ieee.{binary64}
 use Rattle.definition.specs.Options.{maxFeat, maxIvector}
+use Rattle.definition.specs.Kaldi.{matrix, packedMatrix}
+use Rattle.kaldi_io.specs.declared.Matrix.{Matrix}
+use Rattle.kaldi_io.specs.declared.Matrix.the-variants as M
+use Rattle.kaldi_io.specs.declared.Packed.{Packed}
+use Rattle.kaldi_io.specs.declared.Packed.the-variants as P
 use Rattle.kaldi_io.specs.Answers.{matrixOf, matrixIn, packedOf, packedIn}
 use Rattle.kaldi_io.proofs.Chain.{told}
 use Rattle.ivector_tables.proofs.Rows.{sigma-by, quadratic-by}
@@ -11,45 +19,71 @@ use Rattle.ivector_tables.proofs.Again.{m-there, m-ready, m-nums, m-aft
 use Rattle.ivector_tables.proofs.fill_gaussian.Statement.{statement}
 use Rattle.ivector_tables.proofs.fill_gaussian.Tie as tie
 
+-- the block M, and the block Σ⁻¹, as the checks found them
+abbrev start-of : tie.After-a → tie.Start
+start-of c = c .before .before .before .before .before .before .before
+
+abbrev bytes : tie.After-a → List ℕ
+bytes c = start-of c .args .s .now
+
+abbrev block : tie.After-a → Matrix
+block c = let x = c .a .given .0 in M.Is (x .0) (x .1 .0) (x .1 .1 .0) (x .1 .1 .1 .0)
+
+m-told : (c : tie.After-a) → matrix binary64 false maxFeat maxIvector (bytes c) (start-of c .args .at .m) ≡ matrixOf binary64 (bytes c) (block c)
+m-told c = told (matrixOf binary64 (bytes c)) (c .before .before .check-double-matrix .ensures .0) (c .a .given .1)
+
+abbrev m-of : tie.After-b → tie.After-a
+m-of c = c .before .before .before .before
+
+abbrev block′ : tie.After-b → Packed
+block′ c = let y = c .b .given .0 in P.Is (y .0) (y .1 .0) (y .1 .1 .0)
+
+sigma-told : (c : tie.After-b) → packedMatrix (bytes (m-of c)) (start-of (m-of c) .args .at .«sigma_inv») ≡ packedOf (bytes (m-of c)) (block′ c)
+sigma-told c = told (packedOf (bytes (m-of c))) (c .before .before .check-packed-double .ensures .0) (c .b .given .1)
+
+-- ---- the answers
+
 fill-from-requires : tie.Need-fill-from-requires
 fill-from-requires c κs =
-    let args = c .before .before .before .before .before .before .before .before .before .before .before .before .before .before .before .args in
-    let check-double-matrix = c .before .before .before .before .before .before .before .before .before .before .check-double-matrix in
-    let a = c .before .before .before .before .before .before .before .before .a in
-    let check-packed-double = c .before .before .before .before .before .before .check-packed-double in
-    let b = c .before .before .before .before .b in
-    let pre = c .before .before .before .before .before .before .before .before .before .before .before .before .before .before .before .pre in
-    let m = (told (matrixOf binary64 (args .s .now)) (check-double-matrix .ensures .0) (a .given .1)) in
-    let v = (told (packedOf (args .s .now)) (check-packed-double .ensures .0) (b .given .1)) in (
-      m-ready (pre .0) (a .given .0 .0) (a .given .0 .1 .0) (a .given .0 .1 .1 .0) (a .given .0 .1 .1 .1 .0) m (subst (matrixIn binary64 maxFeat maxIvector (args .s .now)) (a .given .1) (check-double-matrix .ensures .1)),
-      (sigma-ready (pre .1 .0) (b .given .0 .0) (b .given .0 .1 .0) (b .given .0 .1 .1 .0) v (subst (packedIn (args .s .now)) (b .given .1) (check-packed-double .ensures .1)), (pre .1 .1)),
+    let v = c .before .before .before .before in
+    let m = m-of v in
+    let pre = start-of m .pre in
+    let x = m .a .given .0 in
+    let y = v .b .given .0 in
+    let m-in = subst (matrixIn binary64 maxFeat maxIvector (bytes m)) (m .a .given .1) (m .before .before .check-double-matrix .ensures .1) in
+    let v-in = subst (packedIn (bytes m)) (v .b .given .1) (v .before .before .check-packed-double .ensures .1) in (
+      m-ready (pre .0) (x .0) (x .1 .0) (x .1 .1 .0) (x .1 .1 .1 .0) (m-told m) m-in,
+      (sigma-ready (pre .1 .0) (y .0) (y .1 .0) (y .1 .1 .0) (sigma-told v) v-in, pre .1 .1),
     )
 
 returns : tie.Need-returns
 returns c =
-    let pre = c .before .before .before .before .before .before .before .pre in
-    let args = c .before .before .before .before .before .before .before .args in
-    absurd (m-there (pre .0) (told (matrixOf binary64 (args .s .now)) ((c .before .before .check-double-matrix) .ensures .0) ((c .enum-told) .given .1)))
+    let at = c .before .before in
+    let start = at .before .before .before .before .before in
+    absurd (m-there (start .pre .0) (told (matrixOf binary64 (start .args .s .now)) (at .check-double-matrix .ensures .0) (c .enum-told .given .1)))
 
 returns-2 : tie.Need-returns-2
 returns-2 c =
-    let pre = c .before .before .before .before .before .before .before .before .before .before .before .pre in
-    let args = c .before .before .before .before .before .before .before .before .before .before .before .args in
-    absurd (sigma-there (pre .1 .0) (told (packedOf (args .s .now)) ((c .before .before .check-packed-double) .ensures .0) ((c .enum-told2) .given .1)))
+    let at = c .before .before in
+    let m = at .before .before in
+    absurd (sigma-there (start-of m .pre .1 .0) (told (packedOf (bytes m)) (at .check-packed-double .ensures .0) (c .enum-told2 .given .1)))
 
 returns-3 : tie.Need-returns-3
 returns-3 c =
-    let args = c .before .before .before .before .before .before .before .before .before .before .before .before .before .before .before .before .before .before .before .before .before .before .args in
-    let check-double-matrix = c .before .before .before .before .before .before .before .before .before .before .before .before .before .before .before .before .before .check-double-matrix in
-    let a = c .before .before .before .before .before .before .before .before .before .before .before .before .before .before .before .a in
-    let check-packed-double = c .before .before .before .before .before .before .before .before .before .before .before .before .before .check-packed-double in
-    let b = c .before .before .before .before .before .before .before .before .before .before .before .b in
-    let pre = c .before .before .before .before .before .before .before .before .before .before .before .before .before .before .before .before .before .before .before .before .before .before .pre in
-    let fill-from = c .before .before .before .before .before .before .fill-from in
-    let m = (told (matrixOf binary64 (args .s .now)) (check-double-matrix .ensures .0) (a .given .1)) in
-    let v = (told (packedOf (args .s .now)) (check-packed-double .ensures .0) (b .given .1)) in (
-      (m-after (pre .0) (a .given .0 .0) (a .given .0 .1 .0) (a .given .0 .1 .1 .0) (a .given .0 .1 .1 .1 .0) m, sigma-after (pre .1 .0) (b .given .0 .0) (b .given .0 .1 .0) (b .given .0 .1 .1 .0) (told (packedOf (args .s .now)) (check-packed-double .ensures .0) (b .given .1))),
-      (sigma-by (args .d) (args .n) (fill-from .ensures .0) (sigma-nums (pre .1 .0) (b .given .0 .0) (b .given .0 .1 .0) (b .given .0 .1 .1 .0) (told (packedOf (args .s .now)) (check-packed-double .ensures .0) (b .given .1))) (m-nums (pre .0) (a .given .0 .0) (a .given .0 .1 .0) (a .given .0 .1 .1 .0) (a .given .0 .1 .1 .1 .0) (told (matrixOf binary64 (args .s .now)) (check-double-matrix .ensures .0) (a .given .1))), quadratic-by (args .d) (args .n) (fill-from .ensures .1) (sigma-nums (pre .1 .0) (b .given .0 .0) (b .given .0 .1 .0) (b .given .0 .1 .1 .0) (told (packedOf (args .s .now)) (check-packed-double .ensures .0) (b .given .1))) (m-nums (pre .0) (a .given .0 .0) (a .given .0 .1 .0) (a .given .0 .1 .1 .0) (a .given .0 .1 .1 .1 .0) (told (matrixOf binary64 (args .s .now)) (check-double-matrix .ensures .0) (a .given .1)))),
+    let at = c .before .before .before .before .before .before in
+    let v = at .before .before .before .before .before in
+    let m = m-of v in
+    let a = start-of m .args in
+    let pre = start-of m .pre in
+    let x = m .a .given .0 in
+    let y = v .b .given .0 in
+    let ms = m-nums (pre .0) (x .0) (x .1 .0) (x .1 .1 .0) (x .1 .1 .1 .0) (m-told m) in
+    let vs = sigma-nums (pre .1 .0) (y .0) (y .1 .0) (y .1 .1 .0) (sigma-told v) in (
+      (
+        m-after (pre .0) (x .0) (x .1 .0) (x .1 .1 .0) (x .1 .1 .1 .0) (m-told m),
+        sigma-after (pre .1 .0) (y .0) (y .1 .0) (y .1 .1 .0) (sigma-told v),
+      ),
+      (sigma-by (a .d) (a .n) (at .fill-from .ensures .0) vs ms, quadratic-by (a .d) (a .n) (at .fill-from .ensures .1) vs ms),
     )
 
 pub fill-gaussian-spec : {M : Type 1} → statement M

@@ -19,24 +19,30 @@ Inv-loop s gauss d weights means vars out₀ offset g₀ out g =
 abbrev μ-loop : tie.MeasureT-loop
 μ-loop s gauss d weights means vars out₀ offset g₀ out g = gauss - g
 
+abbrev start-of : tie.At-loop Inv-loop μ-loop → tie.Start Inv-loop μ-loop
+start-of c = c .before .before .before .before
+
 loop-holds : tie.Need-loop-holds Inv-loop μ-loop
 loop-holds c = (omega arith, refl, fill-none _ _)
 
 gconst-requires : tie.Need-gconst-requires Inv-loop μ-loop
 gconst-requires c κs =
-    let pre = c .before .before .before .before .before .pre in
+    let start = start-of (c .before) in
+    let pre = start .pre in
     ((pre .0), (((c .before .before .gconst-offset) .ensures), ((c .loop-test) .taken)))
 
 slice-write-out : tie.Need-slice-write-out Inv-loop μ-loop
 slice-write-out c =
-    let pre = c .before .before .before .before .before .before .pre in
+    let start = start-of (c .before .before) in
+    let pre = start .pre in
     omega (arith, (pre .1), ((c .before .loop-test) .taken), ((c .before .before .loop) .inv .1))
 
 loop-again : tie.Need-loop-again Inv-loop μ-loop
 loop-again c =
+    let start = start-of (c .before .before) in
     let loop-test = c .before .loop-test in
     let loop = c .before .before .loop in
-    let pre = c .before .before .before .before .before .before .pre in
+    let pre = start .pre in
     (omega (arith, (loop-test .taken)), simp length-set (loop .inv .1), fill-turn _ _ _ (omega (arith, (pre .1), (loop-test .taken))) (loop .inv .2) ((c .gconst) .ensures))
 
 returns : tie.Need-returns Inv-loop μ-loop

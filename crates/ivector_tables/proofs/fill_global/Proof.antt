@@ -18,22 +18,25 @@ slice-aggregate-fill-row c =
 
 fill-row-requires : tie.Need-fill-row-requires
 fill-row-requires c κs =
-    let args = c .before .before .before .args in
-    let pre = c .before .before .before .pre in
+    let start = c .before .before .before in
+    let args = start .args in
+    let pre = start .pre in
     subst (λ (n : ℕ). RowIn (args .s .now) n (args .from)) (sym (length-take-le _ _ (pre .1))) (pre .0)
 
 same-length : tie.Need-same-length
 same-length c =
-    let args = c .before .before .before .before .before .before .args in
+    let start = c .before .before .before .before .before .before in
+    let args = start .args in
     let fill-row = c .before .before .fill-row in
-    let pre = c .before .before .before .before .before .before .pre in
+    let pre = start .pre in
     lent-length (args .len) (args .out .now) (fill-row .last .1 .1 .0) ((fill-row .kept .1 .1 .0) ∙ length-take-le _ _ (pre .1)) (pre .1)
 
 returns : tie.Need-returns
 returns c =
+    let start = c .before .before .before .before .before .before in
     let fill-row = c .before .before .fill-row in
-    let pre = c .before .before .before .before .before .before .pre in
-    let args = c .before .before .before .before .before .before .args in
+    let pre = start .pre in
+    let args = start .args in
     lent-over _ _ _ ((fill-row .kept .1 .1 .0) ∙ length-take-le _ _ (pre .1)) (fill-row .ensures)
 
 pub fill-global-spec : {M : Type 1} → statement M

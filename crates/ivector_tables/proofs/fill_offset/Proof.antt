@@ -23,19 +23,22 @@ loop-holds c = (omega arith, refl, fill-none _ _)
 
 offset-at-requires : tie.Need-offset-at-requires Inv-loop μ-loop
 offset-at-requires c κs =
-    let pre = c .before .before .before .before .pre in
+    let start = c .before .before .before .before in
+    let pre = start .pre in
     ((pre .0), ((pre .1 .0), (pre .1 .1), ((c .loop-test) .taken)))
 
 slice-write-out : tie.Need-slice-write-out Inv-loop μ-loop
 slice-write-out c =
-    let pre = c .before .before .before .before .before .pre in
+    let start = c .before .before .before .before .before in
+    let pre = start .pre in
     omega (arith, (pre .1 .2), ((c .before .loop-test) .taken), ((c .before .before .loop) .inv .1))
 
 loop-again : tie.Need-loop-again Inv-loop μ-loop
 loop-again c =
+    let start = c .before .before .before .before .before in
     let loop-test = c .before .loop-test in
     let loop = c .before .before .loop in
-    let pre = c .before .before .before .before .before .pre in
+    let pre = start .pre in
     (omega (arith, (loop-test .taken)), simp length-set (loop .inv .1), fill-turn _ _ _ (omega (arith, (pre .1 .2), (loop-test .taken))) (loop .inv .2) ((c .offset-at) .ensures))
 
 returns : tie.Need-returns Inv-loop μ-loop

@@ -20,55 +20,66 @@ add-start c =
 
 mul-start : tie.Need-mul-start
 mul-start c =
-    let args = c .before .before .before .args in
-    let pre = c .before .before .before .pre in
+    let start = c .before .before .before in
+    let args = start .args in
+    let pre = start .pre in
     omega (arith, few (args .d) (args .n) (omega (arith, (pre .0))) (omega (arith, (pre .1))), few (args .d) ((args .d) + 1) (omega (arith, (pre .0))) (omega (arith, (pre .0))))
 
 mul-end : tie.Need-mul-end
 mul-end c =
-    let args = c .before .before .before .args in
-    let pre = c .before .before .before .pre in
+    let start = c .before .before .before in
+    let args = start .args in
+    let pre = start .pre in
     omega (arith, few (args .d) (args .n) (omega (arith, (pre .0))) (omega (arith, (pre .1))), few (args .d) ((args .d) + 1) (omega (arith, (pre .0))) (omega (arith, (pre .0))))
 
 add-end : tie.Need-add-end
 add-end c =
-    let args = c .before .before .before .args in
-    let pre = c .before .before .before .pre in
+    let start = c .before .before .before in
+    let args = start .args in
+    let pre = start .pre in
     omega (arith, few (args .d) (args .n) (omega (arith, (pre .0))) (omega (arith, (pre .1))), few (args .d) ((args .d) + 1) (omega (arith, (pre .0))) (omega (arith, (pre .0))))
 
 slice-aggregate-sigma-inv-m : tie.Need-slice-aggregate-sigma-inv-m
 slice-aggregate-sigma-inv-m c =
-    let args = c .before .before .before .before .args in
-    let pre = c .before .before .before .before .pre in
+    let start = c .before .before .before .before in
+    let args = start .args in
+    let pre = start .pre in
     sym (length-take-le (triangle (args .d)) (args .numbers .now) (omega (arith, (pre .2))))
 
 part-sigma-inv-m-end : tie.Need-part-sigma-inv-m-end
 part-sigma-inv-m-end c =
-    let pre = c .before .before .before .before .pre in
+    let start = c .before .before .before .before in
+    let pre = start .pre in
     (pre .2)
 
 sigma-inv-m-requires : tie.Need-sigma-inv-m-requires
 sigma-inv-m-requires c κs =
-    let pre = c .before .before .before .before .before .before .pre in
-    let args = c .before .before .before .before .before .before .args in
+    let start = c .before .before .before .before .before .before in
+    let pre = start .pre in
+    let args = start .args in
     ((pre .0), omega (arith, (length-take-le (triangle (args .d)) (args .numbers .now) (omega (arith, (pre .2))))), omega (arith, (length-lent (triangle (args .d)) ((args .d) * (args .n)) ((triangle (args .d)) + (args .d) * (args .n)) (args .numbers .now) refl (pre .2))), (pre .3))
 
 part-quadratic-term-end : tie.Need-part-quadratic-term-end
 part-quadratic-term-end c =
-    let pre = c .before .before .before .before .before .before .before .before .before .pre in
+    let start = c .before .before .before .before .before .before .before .before .before in
+    let pre = start .pre in
     (pre .2)
 
 quadratic-term-requires : tie.Need-quadratic-term-requires
 quadratic-term-requires c κs =
-    let pre = c .before .before .before .before .before .before .before .before .before .before .before .before .pre in
-    let args = c .before .before .before .before .before .before .before .before .before .before .before .before .args in
-    let sigma-inv-m = c .before .before .before .before .before .sigma-inv-m in
+    let at-sigma-inv-m = c .before .before .before .before .before in
+    let start = at-sigma-inv-m .before .before .before .before .before .before .before in
+    let pre = start .pre in
+    let args = start .args in
+    let sigma-inv-m = at-sigma-inv-m .sigma-inv-m in
     ((pre .1), omega (arith, (length-lent (triangle (args .d)) ((args .d) * (args .n)) ((triangle (args .d)) + (args .d) * (args .n)) (args .numbers .now) refl (pre .2))), omega (arith, (sigma-inv-m .kept .1 .1 .1 .1 .0), (pre .3)), (pre .4))
 
 returns : tie.Need-returns
 returns c =
-    let args = c .before .before .before .before .before .before .before .before .before .before .before .before .before .before .before .args in
-    let sigma-inv-m = c .before .before .before .before .before .before .before .before .sigma-inv-m in (
+    let at-sigma-inv-m = c .before .before .before .before .before .before .before .before in
+    let start = at-sigma-inv-m .before .before .before .before .before .before .before in
+    let args = start .args in
+    let sigma-inv-m = at-sigma-inv-m .sigma-inv-m in (
       sigma-by (args .d) (args .n) (sigma-inv-m .ensures) refl (lent-is (triangle (args .d)) ((args .d) * (args .n)) ((triangle (args .d)) + (args .d) * (args .n)) (args .numbers .now) refl),
       quadratic-by (args .d) (args .n) (((c .before .before .quadratic-term) .ensures) ∙ ap (quadraticTerm (args .d) (args .n) _) (sigma-inv-m .ensures)) refl (lent-is (triangle (args .d)) ((args .d) * (args .n)) ((triangle (args .d)) + (args .d) * (args .n)) (args .numbers .now) refl),
     )

@@ -21,6 +21,9 @@ Inv-loop s gauss d weights means vars offset g n start w gc₀ k₀ gc k =
 abbrev μ-loop : tie.MeasureT-loop
 μ-loop s gauss d weights means vars offset g n start w gc₀ k₀ gc k = d - k
 
+abbrev start-of : tie.At-loop Inv-loop μ-loop → tie.Start Inv-loop μ-loop
+start-of c = c .before .before .before .before .before
+
 mul-n : tie.Need-mul-n Inv-loop μ-loop
 mul-n c =
     let args = c .before .args in
@@ -43,41 +46,49 @@ loop-holds c = (omega arith, iter-none _ _)
 
 add-f32-at : tie.Need-add-f32-at Inv-loop μ-loop
 add-f32-at c =
-    let args = c .before .before .before .before .before .before .args in
-    let pre = c .before .before .before .before .before .before .pre in
+    let start = start-of (c .before) in
+    let args = start .args in
+    let pre = start .pre in
     omega (arith, few (args .num-gauss) (args .d) ((pre .0) .gauss-high) (omega (arith, (pre .0) .dim-high)), cell-below (args .g) ((c .before .loop) .k) (args .num-gauss) (args .d) (pre .1 .1) ((c .loop-test) .taken))
 
 f32-at-requires-2 : tie.Need-f32-at-requires-2 Inv-loop μ-loop
 f32-at-requires-2 c κs =
-    let pre = c .before .before .before .before .before .before .pre in
-    let args = c .before .before .before .before .before .before .args in
+    let start = start-of (c .before) in
+    let pre = start .pre in
+    let args = start .args in
     ((pre .0) .means-ready, cell-below (args .g) ((c .before .loop) .k) (args .num-gauss) (args .d) (pre .1 .1) ((c .loop-test) .taken))
 
 add-f32-at-2 : tie.Need-add-f32-at-2 Inv-loop μ-loop
 add-f32-at-2 c =
-    let args = c .before .before .before .before .before .before .before .args in
-    let pre = c .before .before .before .before .before .before .before .pre in
+    let start = start-of (c .before .before) in
+    let args = start .args in
+    let pre = start .pre in
     omega (arith, few (args .num-gauss) (args .d) ((pre .0) .gauss-high) (omega (arith, (pre .0) .dim-high)), cell-below (args .g) ((c .before .before .loop) .k) (args .num-gauss) (args .d) (pre .1 .1) ((c .before .loop-test) .taken))
 
 f32-at-requires-3 : tie.Need-f32-at-requires-3 Inv-loop μ-loop
 f32-at-requires-3 c κs =
-    let pre = c .before .before .before .before .before .before .before .pre in
-    let args = c .before .before .before .before .before .before .before .args in
+    let start = start-of (c .before .before) in
+    let pre = start .pre in
+    let args = start .args in
     ((pre .0) .vars-ready, cell-below (args .g) ((c .before .before .loop) .k) (args .num-gauss) (args .d) (pre .1 .1) ((c .before .loop-test) .taken))
 
 loop-again : tie.Need-loop-again Inv-loop μ-loop
 loop-again c =
+    let at-loop = c .before .before .before .before in
     let loop-test = c .before .before .before .loop-test in
-    let loop = c .before .before .before .before .loop in
+    let loop = at-loop .loop in
     (omega (arith, (loop-test .taken)), iter-step _ _ _ (loop .inv .1) (ap (λ (x : Float). (loop .gc) +₆₄ x) (((c .gconst-term) .ensures) ∙ term-is refl ((c .before .before .f32-at2) .ensures) ((c .before .f32-at3) .ensures))))
 
 returns : tie.Need-returns Inv-loop μ-loop
 returns c =
-    let args = c .before .before .before .before .before .before .before .args in
+    let at-f32-to-f64-with-nan = c .before .before .before .before in
+    let at-f32-at = at-f32-to-f64-with-nan .before in
+    let start = start-of (c .before .before) in
+    let args = start .args in
     let ln = c .before .before .before .ln in
-    let f32-to-f64-with-nan = c .before .before .before .before .f32-to-f64-with-nan in
-    let f32-at = c .before .before .before .before .before .f32-at in
-    let pre = c .before .before .before .before .before .before .before .pre in
+    let f32-to-f64-with-nan = at-f32-to-f64-with-nan .f32-to-f64-with-nan in
+    let f32-at = at-f32-at .f32-at in
+    let pre = start .pre in
     let loop = c .before .before .loop in
     gconst-is (gmmAt (args .s .now) (args .num-gauss) (args .d) (args .weights) (args .means-invvars) (args .inv-vars)) (args .g) ((ln .ensures) ∙ ap lnOf ((f32-to-f64-with-nan .ensures) ∙ (f32-at .ensures))) (pre .1 .0) (iter-end _ _ _ _ (loop .inv .0) ((c .before .loop-test) .left) (loop .inv .1)) ((c .narrow) .ensures)
 

@@ -8,26 +8,30 @@ use Rattle.ivector_tables.proofs.offset_at.Tie as tie
 
 mul-f32-at : tie.Need-mul-f32-at
 mul-f32-at c =
-    let args = c .before .before .args in
-    let pre = c .before .before .pre in
+    let start = c .before .before in
+    let args = start .args in
+    let pre = start .pre in
     omega (arith, few (args .rows) (args .cols) (pre .1 .0) (pre .1 .1))
 
 mul-f32-at-2 : tie.Need-mul-f32-at-2
 mul-f32-at-2 c =
-    let args = c .before .before .args in
-    let pre = c .before .before .pre in
+    let start = c .before .before in
+    let args = start .args in
+    let pre = start .pre in
     omega (arith, few (args .rows) (args .cols) (pre .1 .0) (pre .1 .1), cell-below (args .r) (args .spliced) (args .rows) (args .cols) (pre .1 .2) ((c .if1) .taken))
 
 add-f32-at : tie.Need-add-f32-at
 add-f32-at c =
-    let args = c .before .before .args in
-    let pre = c .before .before .pre in
+    let start = c .before .before in
+    let args = start .args in
+    let pre = start .pre in
     omega (arith, few (args .rows) (args .cols) (pre .1 .0) (pre .1 .1), cell-below (args .r) (args .spliced) (args .rows) (args .cols) (pre .1 .2) ((c .if1) .taken))
 
 f32-at-requires : tie.Need-f32-at-requires
 f32-at-requires c κs =
-    let pre = c .before .before .pre in
-    let args = c .before .before .args in
+    let start = c .before .before in
+    let pre = start .pre in
+    let args = start .args in
     ((pre .0), cell-below (args .r) (args .spliced) (args .rows) (args .cols) (pre .1 .2) ((c .if1) .taken))
 
 returns : tie.Need-returns

@@ -1,12 +1,13 @@
 -- `read_gaussian` meets its contract: two parts of the scratch are filled one after the other, and the second leaves the first as it is
 -- (`first-part`, `second-part` in Rows.antt).
+use borrow.Author.Needs.{needs}
 use mathlib.Core.Path.{_≡_, refl, sym, ap, _∙_, subst}
-use mathlib.Core.List.{_++_}
-use Prim.Native.Nat.{ℕ, _+_, _-_, _*_}
+use mathlib.Core.List.{List, _++_}
+use Prim.Native.Nat.{ℕ, _+_, _-_, _*_, _≤_}
 use native.Mathlib.Omega.{arith}
-use lib.ListN.{length, drop}
+use lib.ListN.{length, take, drop}
 use lib.Seq.{length-take-le}
-use lib.Ieee.{binary64}
+use lib.Ieee.{Float, binary64}
 use borrow.Rule.Slice.PartMut.{same-len-mid}
 use Rattle.loops.proofs.Parts.{length-lent}
 use Rattle.definition.specs.Reader.{numbers}
@@ -18,91 +19,103 @@ use Rattle.ivector_tables.proofs.Rows.{first-part, second-part}
 use Rattle.ivector_tables.proofs.read_gaussian.Statement.{statement}
 use Rattle.ivector_tables.proofs.read_gaussian.Tie as tie
 
+-- the dimensions are small
+small : (c : tie.Start) → (c .args .d * c .args .n ≤ 1115136) × (c .args .d * (c .args .d + 1) ≤ 1115136)
+small c =
+    let d = c .pre .1 .1 .0 in
+    (few _ _ (omega (arith, d)) (omega (arith, c .pre .1 .1 .1)), few _ _ (omega (arith, d)) (omega (arith, d)))
+
+-- the scratch's first part, before it is filled
+first : (c : tie.Start) → length (take (triangle (c .args .d)) (c .args .scratch .now)) ≡ triangle (c .args .d)
+first c = length-take-le (triangle (c .args .d)) (c .args .scratch .now) (omega (arith, c .pre .1 .1 .2))
+
+-- the scratch once its first part is filled, and the part that is lent for the second
+abbrev start-of : tie.After-fill-f64s → tie.Start
+start-of c = c .before .before .before .before
+
+abbrev half-full : tie.After-fill-f64s → List Float
+half-full c = c .fill-f64s .last .1 .1 .0 ++ drop (triangle (start-of c .args .d)) (start-of c .args .scratch .now)
+
+long : (c : tie.After-fill-f64s) → length (c .fill-f64s .last .1 .1 .0) ≡ triangle (start-of c .args .d)
+long c = c .fill-f64s .kept .1 .1 .0 ∙ first (start-of c)
+
+half-long : (c : tie.After-fill-f64s) → length (half-full c) ≡ length (start-of c .args .scratch .now)
+half-long c =
+    let start = start-of c in
+    lent-length (triangle (start .args .d)) (start .args .scratch .now) (c .fill-f64s .last .1 .1 .0) (long c) (omega (arith, start .pre .1 .1 .2))
+
+second : (c : tie.After-fill-f64s) →
+    let a = start-of c .args in
+    let t = triangle (a .d) in
+    length (take (t + a .d * a .n - t) (drop t (half-full c))) ≡ a .d * a .n
+second c =
+    let start = start-of c in
+    let a = start .args in
+    length-lent (triangle (a .d)) (a .d * a .n) (triangle (a .d) + a .d * a .n) (half-full c) refl (omega (arith, half-long c, start .pre .1 .1 .2))
+
+-- ---- the answers
+
 add-start : tie.Need-add-start
-add-start c = omega (arith, ((c .before .before .pre) .1 .1 .0))
+add-start c = omega (arith, c .before .before .pre .1 .1 .0)
 
 mul-start : tie.Need-mul-start
-mul-start c =
-    let args = c .before .before .args in
-    let pre = c .before .before .pre in
-    omega (arith, few (args .d) (args .n) (omega (arith, (pre .1 .1 .0))) (omega (arith, (pre .1 .1 .1))), few (args .d) ((args .d) + 1) (omega (arith, (pre .1 .1 .0))) (omega (arith, (pre .1 .1 .0))))
+mul-start c = omega (arith, small (c .before .before) .1)
 
 mul-end : tie.Need-mul-end
-mul-end c =
-    let args = c .before .before .args in
-    let pre = c .before .before .pre in
-    omega (arith, few (args .d) (args .n) (omega (arith, (pre .1 .1 .0))) (omega (arith, (pre .1 .1 .1))), few (args .d) ((args .d) + 1) (omega (arith, (pre .1 .1 .0))) (omega (arith, (pre .1 .1 .0))))
+mul-end c = omega (arith, small (c .before .before) .0)
 
 add-end : tie.Need-add-end
-add-end c =
-    let args = c .before .before .args in
-    let pre = c .before .before .pre in
-    omega (arith, few (args .d) (args .n) (omega (arith, (pre .1 .1 .0))) (omega (arith, (pre .1 .1 .1))), few (args .d) ((args .d) + 1) (omega (arith, (pre .1 .1 .0))) (omega (arith, (pre .1 .1 .0))))
+add-end c = let few = small (c .before .before) in omega (arith, few .0, few .1)
 
 slice-relend-prefix-fill-f64s : tie.Need-slice-relend-prefix-fill-f64s
-slice-relend-prefix-fill-f64s c = omega (arith, ((c .before .before .pre) .1 .1 .2))
+slice-relend-prefix-fill-f64s c = omega (arith, c .before .before .pre .1 .1 .2)
 
 slice-aggregate-fill-f64s : tie.Need-slice-aggregate-fill-f64s
-slice-aggregate-fill-f64s c =
-    let args = c .before .before .before .args in
-    let pre = c .before .before .before .pre in
-    sym (length-take-le (triangle (args .d)) (args .scratch .now) (omega (arith, (pre .1 .1 .2))))
+slice-aggregate-fill-f64s c = sym (first (c .before .before .before))
 
 fill-f64s-requires : tie.Need-fill-f64s-requires
 fill-f64s-requires c κs =
-    let args = c .before .before .before .args in
-    let pre = c .before .before .before .pre in
-    subst (λ (k : ℕ). Ready binary64 k (args .s .now) (args .sigma-inv)) (sym (length-take-le (triangle (args .d)) (args .scratch .now) (omega (arith, (pre .1 .1 .2))))) (pre .1 .0)
+    let start = c .before .before .before in
+    subst (λ (k : ℕ). Ready binary64 k (start .args .s .now) (start .args .sigma-inv)) (sym (first start)) (start .pre .1 .0)
 
 mul-fill-f64s : tie.Need-mul-fill-f64s
-mul-fill-f64s c =
-    let args = c .before .before .before .before .before .before .args in
-    let fill-f64s = c .before .before .fill-f64s in
-    let pre = c .before .before .before .before .before .before .pre in
-    omega (arith, lent-length (triangle (args .d)) (args .scratch .now) (fill-f64s .last .1 .1 .0) ((fill-f64s .kept .1 .1 .0) ∙ (length-take-le (triangle (args .d)) (args .scratch .now) (omega (arith, (pre .1 .1 .2))))) (omega (arith, (pre .1 .1 .2))))
+mul-fill-f64s c = omega (arith, half-long (c .before .before))
 
 part-fill-f64s-end : tie.Need-part-fill-f64s-end
-part-fill-f64s-end c =
-    let args = c .before .before .before .before .before .before .args in
-    let fill-f64s = c .before .before .fill-f64s in
-    let pre = c .before .before .before .before .before .before .pre in
-    omega (arith, lent-length (triangle (args .d)) (args .scratch .now) (fill-f64s .last .1 .1 .0) ((fill-f64s .kept .1 .1 .0) ∙ (length-take-le (triangle (args .d)) (args .scratch .now) (omega (arith, (pre .1 .1 .2))))) (omega (arith, (pre .1 .1 .2))), (pre .1 .1 .2))
+part-fill-f64s-end c = let at = c .before .before in omega (arith, half-long at, start-of at .pre .1 .1 .2)
 
 fill-f64s-requires-2 : tie.Need-fill-f64s-requires-2
 fill-f64s-requires-2 c κs =
-    let args = c .before .before .before .before .before .before .before .args in
-    let fill-f64s = c .before .before .before .fill-f64s in
-    let pre = c .before .before .before .before .before .before .before .pre in
-    subst (λ (k : ℕ). Ready binary64 k (args .s .now) (args .m)) (sym (length-lent (triangle (args .d)) ((args .d) * (args .n)) ((triangle (args .d)) + (args .d) * (args .n)) ((fill-f64s .last .1 .1 .0) ++ drop (triangle (args .d)) (args .scratch .now)) refl (omega (arith, lent-length (triangle (args .d)) (args .scratch .now) (fill-f64s .last .1 .1 .0) ((fill-f64s .kept .1 .1 .0) ∙ (length-take-le (triangle (args .d)) (args .scratch .now) (omega (arith, (pre .1 .1 .2))))) (omega (arith, (pre .1 .1 .2))), (pre .1 .1 .2))))) (pre .0)
+    let at = c .before .before .before in
+    let start = start-of at in
+    subst (λ (k : ℕ). Ready binary64 k (start .args .s .now) (start .args .m)) (sym (second at)) (start .pre .0)
 
 same-length : tie.Need-same-length
 same-length c =
-    let args = c .before .before .before .before .before .before .before .before .before .before .args in
-    let fill-f64s = c .before .before .before .before .before .before .fill-f64s in
-    let fill-f64s2 = c .before .before .fill-f64s2 in
-    let pre = c .before .before .before .before .before .before .before .before .before .before .pre in
-    same-len-mid (triangle (args .d)) (((triangle (args .d)) + (args .d) * (args .n)) - (triangle (args .d))) ((fill-f64s .last .1 .1 .0) ++ drop (triangle (args .d)) (args .scratch .now)) (fill-f64s2 .last .1 .1 .0) (fill-f64s2 .kept .1 .1 .0) ∙ lent-length (triangle (args .d)) (args .scratch .now) (fill-f64s .last .1 .1 .0) ((fill-f64s .kept .1 .1 .0) ∙ (length-take-le (triangle (args .d)) (args .scratch .now) (omega (arith, (pre .1 .1 .2))))) (omega (arith, (pre .1 .1 .2)))
+    let at = c .before .before .before .before .before .before in
+    let a = start-of at .args in
+    let t = triangle (a .d) in
+    let call = c .before .before .fill-f64s2 in
+    same-len-mid t (t + a .d * a .n - t) (half-full at) (call .last .1 .1 .0) (call .kept .1 .1 .0) ∙ half-long at
 
 returns : tie.Need-returns
 returns c =
-    let args = c .before .before .before .before .before .before .before .before .before .before .args in
-    let fill-f64s = c .before .before .before .before .before .before .fill-f64s in
-    let pre = c .before .before .before .before .before .before .before .before .before .before .pre in
-    let fill-f64s2 = c .before .before .fill-f64s2 in
-    let t = (triangle (args .d)) in
-    let e = ((triangle (args .d)) + (args .d) * (args .n)) in
-    let xs = (fill-f64s .last .1 .1 .0) in
-    let one = (length-take-le (triangle (args .d)) (args .scratch .now) (omega (arith, (pre .1 .1 .2)))) in
-    let long = (fill-f64s .kept .1 .1 .0) ∙ one in
-    let two = length-lent t ((args .d) * (args .n)) e (xs ++ drop t (args .scratch .now)) refl (omega (arith, lent-length t (args .scratch .now) xs long (omega (arith, (pre .1 .1 .2))), (pre .1 .1 .2))) in
-    let ys = (fill-f64s2 .last .1 .1 .0) in
-    let there : length ys ≡ e - t = (fill-f64s2 .kept .1 .1 .0) ∙ two ∙ omega arith in (
-      first-part t ((args .d) * (args .n)) e (args .scratch .now) xs ys refl long there ∙ (fill-f64s .ensures) ∙ ap (λ (k : ℕ). numbers binary64 k (drop (args .sigma-inv) (args .s .now))) one,
-      second-part t ((args .d) * (args .n)) e (args .scratch .now) xs ys refl long there ∙ (fill-f64s2 .ensures) ∙ ap (λ (k : ℕ). numbers binary64 k (drop (args .m) (args .s .now))) two,
+    let at = c .before .before .before .before .before .before in
+    let a = start-of at .args in
+    let t = triangle (a .d) in
+    let size = a .d * a .n in
+    let call = c .before .before .fill-f64s2 in
+    let xs = at .fill-f64s .last .1 .1 .0 in
+    let ys = call .last .1 .1 .0 in
+    let there : length ys ≡ t + size - t = call .kept .1 .1 .0 ∙ second at ∙ omega arith in (
+      first-part t size (t + size) (a .scratch .now) xs ys refl (long at) there ∙ at .fill-f64s .ensures
+          ∙ ap (λ (k : ℕ). numbers binary64 k (drop (a .sigma-inv) (a .s .now))) (first (start-of at)),
+      second-part t size (t + size) (a .scratch .now) xs ys refl (long at) there ∙ call .ensures
+          ∙ ap (λ (k : ℕ). numbers binary64 k (drop (a .m) (a .s .now))) (second at),
     )
 
 pub read-gaussian-spec : {M : Type 1} → statement M
 read-gaussian-spec =
     tie.close
     (tie.spec add-start mul-start mul-end add-end slice-relend-prefix-fill-f64s slice-aggregate-fill-f64s fill-f64s-requires mul-fill-f64s
-    (λ c. omega arith) (λ c. omega arith) part-fill-f64s-end fill-f64s-requires-2 same-length returns)
+    (λ c. search needs) (λ c. search needs) part-fill-f64s-end fill-f64s-requires-2 same-length returns)

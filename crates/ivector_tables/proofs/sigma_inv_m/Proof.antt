@@ -2,9 +2,11 @@
 -- (crate loops); that this is the definition's `sigmaInvM` is `sigma-whole` (Rows.antt).
 use borrow.Author.Needs.{needs}
 use mathlib.Core.Path.{_≡_, refl, _∙_}
-use Prim.Native.Nat.{_+_, _-_, _*_, _≤_}
+use mathlib.Core.List.{List}
+use Prim.Native.Nat.{ℕ, _+_, _-_, _*_, _≤_}
 use native.Mathlib.Omega.{arith}
-use lib.ListN.{length}
+use lib.ListN.{length, take, drop}
+use lib.Ieee.{Float}
 use borrow.Rule.Slice.PartMut.{same-len-mid}
 use Rattle.loops.specs.Lists.{build, flat, over}
 use Rattle.loops.proofs.Flat.{rows-none, rows-turn, rows-end, length-cells}
@@ -21,63 +23,69 @@ Inv-loop si m d s out₀ a₀ out a =
 abbrev μ-loop : tie.MeasureT-loop
 μ-loop si m d s out₀ a₀ out a = d - a
 
+abbrev start-of : tie.At-loop Inv-loop μ-loop → tie.Start Inv-loop μ-loop
+start-of c = c .before .before .before .before
+
+abbrev row-of : tie.Start Inv-loop μ-loop → ℕ → List Float
+row-of c a = build (c .args .s) (sigmaRow (c .args .d) (c .args .s) (c .args .sigma-inv .now) (c .args .m .now) a)
+
+-- row a lies in the room, and the part that is lent is as long as it
+inside : (c : tie.In-loop Inv-loop μ-loop) →
+    let s = start-of (c .before) .args .s in
+    c .before .loop .a * s + s ≤ length (c .before .loop .out)
+inside c =
+    let start = start-of (c .before) in
+    let a = start .args in
+    let loop = c .before .loop in
+    omega (arith, row-in (loop .a) (a .d) (a .s) (length (a .out .now)) (omega (arith, start .pre .3)) (c .loop-test .taken), loop .inv .1)
+
+lent : (c : tie.In-loop Inv-loop μ-loop) →
+    let s = start-of (c .before) .args .s in
+    let from = c .before .loop .a * s in
+    length (take (from + s - from) (drop from (c .before .loop .out))) ≡ s
+lent c =
+    let s = start-of (c .before) .args .s in
+    length-lent (c .before .loop .a * s) s _ (c .before .loop .out) refl (inside c)
+
 loop-holds : tie.Need-loop-holds Inv-loop μ-loop
-loop-holds c =
-    let args = c .before .before .before .args in
-    (omega arith, refl, rows-none (λ a. build (args .s) (sigmaRow (args .d) (args .s) (args .sigma-inv .now) (args .m .now) a)) _)
+loop-holds c = (omega arith, refl, rows-none (row-of (c .before .before .before)) _)
 
 mul-start : tie.Need-mul-start Inv-loop μ-loop
-mul-start c =
-    let args = c .before .before .before .before .before .args in
-    let pre = c .before .before .before .before .before .pre in
-    omega (arith, row-in ((c .before .loop) .a) (args .d) (args .s) (length (args .out .now)) (omega (arith, (pre .3))) ((c .loop-test) .taken))
+mul-start c = omega (arith, inside c, c .before .loop .inv .1)
 
 add-end : tie.Need-add-end Inv-loop μ-loop
-add-end c =
-    let args = c .before .before .before .before .before .args in
-    let pre = c .before .before .before .before .before .pre in
-    omega (arith, row-in ((c .before .loop) .a) (args .d) (args .s) (length (args .out .now)) (omega (arith, (pre .3))) ((c .loop-test) .taken))
+add-end c = omega (arith, inside c, c .before .loop .inv .1)
 
 mul-sigma-inv-m-row : tie.Need-mul-sigma-inv-m-row Inv-loop μ-loop
-mul-sigma-inv-m-row c =
-    let loop = c .before .loop in
-    let args = c .before .before .before .before .before .args in
-    let pre = c .before .before .before .before .before .pre in
-    omega (arith, row-in (loop .a) (args .d) (args .s) (length (args .out .now)) (omega (arith, (pre .3))) ((c .loop-test) .taken), (loop .inv .1))
+mul-sigma-inv-m-row c = omega (arith, inside c, c .before .loop .inv .1)
 
 part-sigma-inv-m-row-end : tie.Need-part-sigma-inv-m-row-end Inv-loop μ-loop
-part-sigma-inv-m-row-end c =
-    let loop = c .before .loop in
-    let args = c .before .before .before .before .before .args in
-    let pre = c .before .before .before .before .before .pre in
-    omega (arith, row-in (loop .a) (args .d) (args .s) (length (args .out .now)) (omega (arith, (pre .3))) ((c .loop-test) .taken), (loop .inv .1))
+part-sigma-inv-m-row-end c = inside c
 
 sigma-inv-m-row-requires : tie.Need-sigma-inv-m-row-requires Inv-loop μ-loop
-sigma-inv-m-row-requires c κs =
-    let pre = c .before .before .before .before .before .before .pre in
-    let loop-test = c .before .loop-test in
-    let loop = c .before .before .loop in
-    let args = c .before .before .before .before .before .before .args in
-    ((pre .0), (loop-test .taken), (pre .1), (pre .2), length-lent ((loop .a) * (args .s)) (args .s) _ (loop .out) refl (omega (arith, row-in (loop .a) (args .d) (args .s) (length (args .out .now)) (omega (arith, (pre .3))) (loop-test .taken), (loop .inv .1))))
+sigma-inv-m-row-requires c κs = let pre = start-of (c .before .before) .pre in (pre .0, c .before .loop-test .taken, pre .1, pre .2, lent (c .before))
 
 loop-again : tie.Need-loop-again Inv-loop μ-loop
 loop-again c =
-    let loop-test = c .before .before .before .before .loop-test in
-    let loop = c .before .before .before .before .before .loop in
-    let args = c .before .before .before .before .before .before .before .before .before .args in
-    let sigma-inv-m-row = c .before .before .sigma-inv-m-row in
-    let pre = c .before .before .before .before .before .before .before .before .before .pre in (
-      omega (arith, (loop-test .taken)),
-      same-len-mid ((loop .a) * (args .s)) (((loop .a) * (args .s)) + (args .s) - ((loop .a) * (args .s))) (loop .out) (sigma-inv-m-row .last .1 .1 .1 .1 .1 .0) (sigma-inv-m-row .kept .1 .1 .1 .1 .1 .0) ∙ (loop .inv .1),
-      rows-turn (λ a. build (args .s) (sigmaRow (args .d) (args .s) (args .sigma-inv .now) (args .m .now) a)) (loop .a) _ {k = ((loop .a) * (args .s)) + (args .s) - ((loop .a) * (args .s))} (length-cells (loop .a) (args .s) _) (loop .inv .2) (sigma-inv-m-row .ensures) ((sigma-inv-m-row .kept .1 .1 .1 .1 .1 .0) ∙ length-lent ((loop .a) * (args .s)) (args .s) _ (loop .out) refl (omega (arith, row-in (loop .a) (args .d) (args .s) (length (args .out .now)) (omega (arith, (pre .3))) (loop-test .taken), (loop .inv .1))) ∙ omega arith),
+    let at = c .before .before .before .before in
+    let start = start-of (at .before) in
+    let loop = at .before .loop in
+    let s = start .args .s in
+    let from = loop .a * s in
+    let call = c .before .before .sigma-inv-m-row in
+    let long = call .kept .1 .1 .1 .1 .1 .0 in (
+      omega (arith, at .loop-test .taken),
+      same-len-mid from (from + s - from) (loop .out) (call .last .1 .1 .1 .1 .1 .0) long ∙ loop .inv .1,
+      rows-turn (row-of start) (loop .a) _ {k = from + s - from} (length-cells (loop .a) s _) (loop .inv .2) (call .ensures) (long ∙ lent at ∙ omega arith),
     )
 
 returns : tie.Need-returns Inv-loop μ-loop
 returns c =
-    let args = c .before .before .before .before .before .args in
-    let pre = c .before .before .before .before .before .pre in
+    let start = start-of (c .before) in
+    let a = start .args in
     let loop = c .before .loop in
-    sigma-whole (args .d) (args .s) (args .sigma-inv .now) (args .m .now) (args .out .now) (pre .3) (rows-end (λ a. build (args .s) (sigmaRow (args .d) (args .s) (args .sigma-inv .now) (args .m .now) a)) (loop .a) _ _ (loop .inv .0) ((c .loop-test) .left) (loop .inv .2))
+    sigma-whole (a .d) (a .s) (a .sigma-inv .now) (a .m .now) (a .out .now) (start .pre .3)
+    (rows-end (row-of start) (loop .a) _ _ (loop .inv .0) (c .loop-test .left) (loop .inv .2))
 
 pub sigma-inv-m-spec : {M : Type 1} → statement M
 sigma-inv-m-spec =

@@ -2,10 +2,11 @@
 -- summed row after row (`scaled-none`, `scaled-turn`, `scaled-end` in Rows.antt).
 use borrow.Author.Needs.{needs}
 use mathlib.Core.Path.{_≡_, refl, sym, ap, _∙_}
-use Prim.Native.Nat.{_+_, _-_, _*_, _≤_}
+use Prim.Native.Nat.{ℕ, _+_, _-_, _*_, _≤_, _<_}
 use native.Mathlib.Nat.{le-of-eq}
 use native.Mathlib.Omega.{arith}
 use lib.ListN.{length}
+use lib.Ieee.{Float}
 use Rattle.loops.specs.Lists.{build}
 use Rattle.loops.proofs.Cells.{row-in}
 use Rattle.loops.proofs.Parts.{length-lent}
@@ -23,84 +24,89 @@ Inv-loop si m d s a out₀ b₀ out b =
 abbrev μ-loop : tie.MeasureT-loop
 μ-loop si m d s a out₀ b₀ out b = d - b
 
+abbrev start-of : tie.At-loop Inv-loop μ-loop → tie.Start Inv-loop μ-loop
+start-of c = c .before .before .before .before .before .before .before .before
+
+-- element b of row a of Σ⁻¹
+abbrev factor : tie.Start Inv-loop μ-loop → ℕ → Float
+factor c b = at (c .args .sigma-inv .now) (packed (c .args .a) b)
+
+-- row b lies in M, and its factor in Σ⁻¹
+inside : (c : tie.In-loop Inv-loop μ-loop) →
+    let a = start-of (c .before) .args in
+    c .before .loop .b * a .s + a .s ≤ length (a .m .now)
+inside c =
+    let start = start-of (c .before) in
+    let a = start .args in
+    row-in (c .before .loop .b) (a .d) (a .s) (length (a .m .now)) (start .pre .3) (c .loop-test .taken)
+
+factor-inside : (c : tie.After-packed-index Inv-loop μ-loop) → c .packed-index .result < length (start-of (c .before .before) .args .sigma-inv .now)
+factor-inside c =
+    let start = start-of (c .before .before) in
+    let a = start .args in
+    omega (arith, packed-below (a .a) (c .before .before .loop .b) (a .d) (start .pre .1) (c .before .loop-test .taken), start .pre .2, c .packed-index .ensures)
+
+-- ---- the answers
+
 clear-requires : tie.Need-clear-requires Inv-loop μ-loop
-clear-requires c κs =
-    let pre = c .before .before .before .before .pre in
-    (pre .4)
+clear-requires c κs = c .before .before .before .before .pre .4
 
 loop-holds : tie.Need-loop-holds Inv-loop μ-loop
 loop-holds c =
-    let args = c .before .before .before .before .before .before .before .args in
-    (omega arith, refl, scaled-none (args .s) (args .s) (args .m .now) (λ b. at (args .sigma-inv .now) (packed (args .a) b)) ((c .before .before .clear) .ensures))
+    let at = c .before .before in
+    let start = at .before .before .before .before .before in
+    (omega arith, refl, scaled-none (start .args .s) (start .args .s) (start .args .m .now) (factor start) (at .clear .ensures))
 
 mul-start : tie.Need-mul-start Inv-loop μ-loop
-mul-start c =
-    let args = c .before .before .before .before .before .before .before .before .before .args in
-    let pre = c .before .before .before .before .before .before .before .before .before .pre in
-    omega (arith, row-in ((c .before .loop) .b) (args .d) (args .s) (length (args .m .now)) (pre .3) ((c .loop-test) .taken))
+mul-start c = omega (arith, inside c)
 
 add-end : tie.Need-add-end Inv-loop μ-loop
-add-end c =
-    let args = c .before .before .before .before .before .before .before .before .before .args in
-    let pre = c .before .before .before .before .before .before .before .before .before .pre in
-    omega (arith, row-in ((c .before .loop) .b) (args .d) (args .s) (length (args .m .now)) (pre .3) ((c .loop-test) .taken))
+add-end c = omega (arith, inside c)
 
 packed-index-requires : tie.Need-packed-index-requires Inv-loop μ-loop
 packed-index-requires c κs =
-    let pre = c .before .before .before .before .before .before .before .before .before .pre in
-    (omega (arith, (pre .0), (pre .1)), omega (arith, (pre .0), ((c .loop-test) .taken)))
+    let pre = start-of (c .before) .pre in
+    (omega (arith, pre .0, pre .1), omega (arith, pre .0, c .loop-test .taken))
 
 mul-add-scaled : tie.Need-mul-add-scaled Inv-loop μ-loop
-mul-add-scaled c =
-    let args = c .before .before .before .before .before .before .before .before .before .before .args in
-    let pre = c .before .before .before .before .before .before .before .before .before .before .pre in
-    omega (arith, packed-below (args .a) ((c .before .before .loop) .b) (args .d) (pre .1) ((c .before .loop-test) .taken), (pre .2), ((c .packed-index) .ensures))
+mul-add-scaled c = omega (arith, factor-inside c)
 
 shared-slice-read-add-scaled : tie.Need-shared-slice-read-add-scaled Inv-loop μ-loop
-shared-slice-read-add-scaled c =
-    let args = c .before .before .before .before .before .before .before .before .before .before .before .args in
-    let loop = c .before .before .before .loop in
-    let pre = c .before .before .before .before .before .before .before .before .before .before .before .pre in
-    omega (arith, packed-below (args .a) (loop .b) (args .d) (pre .1) ((c .before .before .loop-test) .taken), (pre .2), ((c .before .packed-index) .ensures))
+shared-slice-read-add-scaled c = factor-inside (c .before)
 
 mul-add-scaled-2 : tie.Need-mul-add-scaled-2 Inv-loop μ-loop
-mul-add-scaled-2 c =
-    let loop = c .before .before .before .loop in
-    let args = c .before .before .before .before .before .before .before .before .before .before .before .args in
-    let pre = c .before .before .before .before .before .before .before .before .before .before .before .pre in
-    let fits = c .before .before .before .before .before .before .before .before .before .before .before .fits in
-    omega (arith, row-in (loop .b) (args .d) (args .s) (length (args .m .now)) (pre .3) ((c .before .before .loop-test) .taken), (fits))
+mul-add-scaled-2 c = let at = c .before .before in omega (arith, inside at, start-of (at .before) .fits)
 
 part-add-scaled-end : tie.Need-part-add-scaled-end Inv-loop μ-loop
-part-add-scaled-end c =
-    let loop = c .before .before .before .loop in
-    let args = c .before .before .before .before .before .before .before .before .before .before .before .args in
-    let pre = c .before .before .before .before .before .before .before .before .before .before .before .pre in
-    row-in (loop .b) (args .d) (args .s) (length (args .m .now)) (pre .3) ((c .before .before .loop-test) .taken)
+part-add-scaled-end c = inside (c .before .before)
 
 add-scaled-requires : tie.Need-add-scaled-requires Inv-loop μ-loop
 add-scaled-requires c κs =
-    let loop = c .before .before .before .before .before .loop in
-    let args = c .before .before .before .before .before .before .before .before .before .before .before .before .before .args in
-    let pre = c .before .before .before .before .before .before .before .before .before .before .before .before .before .pre in
-    let loop-test = c .before .before .before .before .loop-test in
-    let clear = c .before .before .before .before .before .before .before .before .clear in
-    le-of-eq (sym (length-lent ((loop .b) * (args .s)) (args .s) _ (args .m .now) refl (row-in (loop .b) (args .d) (args .s) (length (args .m .now)) (pre .3) (loop-test .taken)) ∙ omega (arith, (loop .inv .1), (clear .kept .0), (pre .4))))
+    let at = c .before .before .before .before in
+    let loop = at .before .loop in
+    let start = start-of (at .before) in
+    let a = start .args in
+    le-of-eq (sym (length-lent (loop .b * a .s) (a .s) _ (a .m .now) refl (inside at) ∙ omega (arith, loop .inv .1, at .before .before .before .before .clear .kept .0, start .pre .4)))
 
 loop-again : tie.Need-loop-again Inv-loop μ-loop
 loop-again c =
-    let loop-test = c .before .before .before .before .before .before .before .loop-test in
-    let add-scaled = c .before .before .add-scaled in
-    let loop = c .before .before .before .before .before .before .before .before .loop in
-    let args = c .before .before .before .before .before .before .before .before .before .before .before .before .before .before .before .before .args in
-    let packed-index = c .before .before .before .before .before .before .packed-index in
-    (omega (arith, (loop-test .taken)), (add-scaled .kept .1 .1 .0) ∙ (loop .inv .1), scaled-turn (args .s) (args .s) (args .m .now) (λ b. at (args .sigma-inv .now) (packed (args .a) b)) (loop .b) refl (ap (at (args .sigma-inv .now)) (packed-index .ensures)) (loop .inv .2) (add-scaled .ensures))
+    let at-index = c .before .before .before .before .before .before in
+    let here = at-index .before in
+    let loop = here .before .loop in
+    let start = start-of (here .before) in
+    let a = start .args in
+    let call = c .before .before .add-scaled in (
+      omega (arith, here .loop-test .taken),
+      call .kept .1 .1 .0 ∙ loop .inv .1,
+      scaled-turn (a .s) (a .s) (a .m .now) (factor start) (loop .b) refl (ap (at (a .sigma-inv .now)) (at-index .packed-index .ensures)) (loop .inv .2) (call .ensures),
+    )
 
 returns : tie.Need-returns Inv-loop μ-loop
 returns c =
-    let args = c .before .before .before .before .before .before .before .before .before .args in
+    let start = start-of (c .before) in
+    let a = start .args in
     let loop = c .before .loop in
-    scaled-end (args .s) (args .s) (args .m .now) (λ b. at (args .sigma-inv .now) (packed (args .a) b)) (loop .b) (args .d) (loop .inv .0) ((c .loop-test) .left) (loop .inv .2)
+    scaled-end (a .s) (a .s) (a .m .now) (factor start) (loop .b) (a .d) (loop .inv .0) (c .loop-test .left) (loop .inv .2)
 
 pub sigma-inv-m-row-spec : {M : Type 1} → statement M
 sigma-inv-m-row-spec =

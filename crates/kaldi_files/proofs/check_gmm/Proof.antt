@@ -1,305 +1,170 @@
--- `check_gmm` meets its contract: the file's items one after the other, as in the definition's `gmm`. Each way out is a chain of `step`
--- (Chain.antt of kaldi_io); the tests across the blocks, and what is known once they pass, are in GmmDims.antt.
-use mathlib.Core.Path.{refl, sym, _∙_, subst}
+-- `check_gmm` meets its contract: each item says what the bytes hold at its place, and each way out is a case of the definition's `gmm` by
+-- what the items before it said (GmmDims.antt, which has the tests across the blocks too).
+use mathlib.Core.Path.{_≡_, sym, _∙_, subst}
+use mathlib.Core.Bool.{true, false, _&&_}
+use mathlib.Core.List.{List}
+use Prim.Native.Nat.{ℕ}
 use borrow.Author.Needs.{needs}
+use lib.Dec.{eqb}
+use lib.ListN.{length, drop}
 use lib.Ieee.{binary32}
-use Rattle.definition.specs.Kaldi.{gmm}
+use Rattle.definition.specs.Options.{maxGauss}
+use Rattle.definition.specs.Reader.{read, refused, numbers, text}
+use Rattle.definition.specs.Kaldi.{vector, weightsHeading, gmm}
 use Rattle.kaldi_io.specs.Answers.{nextOf, vectorOf, vectorIn, matrixOf, matrixIn}
-use Rattle.kaldi_io.proofs.Chain.{step, goes, stops, met, unmet}
+use Rattle.kaldi_io.specs.declared.Vector.{Vector}
+use Rattle.kaldi_io.specs.declared.Vector.the-variants as L
+use Rattle.kaldi_io.specs.declared.Matrix.{Matrix}
+use Rattle.kaldi_io.specs.declared.Matrix.the-variants as M
+use Rattle.kaldi_io.proofs.Chain.{told}
 use Rattle.kaldi_io.proofs.Numbers.{numbers-length}
-use Rattle.kaldi_files.proofs.GmmDims.{rows-differ, cols-differ, weights-differ, dims-agree, gmm-is, gmm-in}
+use Rattle.kaldi_files.specs.Steps.{opening, headed}
+use Rattle.kaldi_files.proofs.GmmDims as G
 use Rattle.kaldi_files.proofs.check_gmm.Statement.{statement}
 use Rattle.kaldi_files.proofs.check_gmm.Tie as tie
 
+-- ---- what each item says, once it is read
+
+-- the bytes, and the place behind the first token
+abbrev bytes-of : tie.After-next → List ℕ
+bytes-of c = c .before .before .before .before .before .args .s .now
+
+abbrev first : tie.After-next → ℕ
+first c = c .next .given .0 .0
+
+opened : (c : tie.After-next) → opening (text "<DiagGMM>") (bytes-of c) 0 ≡ read tt (first c)
+opened c = told nextOf (c .before .before .open-file .ensures) (c .next .given .1)
+
+-- behind the heading of the weights
+abbrev opening-of : tie.After-next2 → tie.After-next
+opening-of c = c .before .before .before .before
+
+abbrev second : tie.After-next2 → ℕ
+second c = c .next2 .given .0 .0
+
+heading : (c : tie.After-next2) → weightsHeading (bytes-of (opening-of c)) (first (opening-of c)) ≡ read tt (second c)
+heading c = told nextOf (c .before .before .expect-weights .ensures) (c .next2 .given .1)
+
+-- the weights
+abbrev heading-of : tie.After-len → tie.After-next2
+heading-of c = c .before .before .before .before
+
+abbrev bytes : tie.After-len → List ℕ
+bytes c = bytes-of (opening-of (heading-of c))
+
+abbrev vec : tie.After-len → Vector
+vec c = let v = c .len .given .0 in L.Is (v .0) (v .1 .0) (v .1 .1 .0)
+
+weights : (c : tie.After-len) → vector binary32 true maxGauss (bytes c) (second (heading-of c)) ≡ vectorOf binary32 (bytes c) (vec c)
+weights c = told (vectorOf binary32 (bytes c)) (c .before .before .check-float-vec .ensures .0) (c .len .given .1)
+
+-- the means, and the inverse variances
+abbrev weights-of : tie.After-rows → tie.After-len
+weights-of c = c .before .before .before .before .before
+
+abbrev one : tie.After-rows → Matrix
+one c = let m = c .rows .given .0 in M.Is (m .0) (m .1 .0) (m .1 .1 .0) (m .1 .1 .1 .0)
+
+means : (c : tie.After-rows) → headed (text "<MEANS_INVVARS>") false (bytes (weights-of c)) (weights-of c .len .given .0 .1 .1 .0) ≡ matrixOf binary32 (bytes (weights-of c)) (one c)
+means c = told (matrixOf binary32 (bytes (weights-of c))) (c .before .before .check-headed .ensures .0) (c .rows .given .1)
+
+abbrev means-of : tie.After-rows2 → tie.After-rows
+means-of c = c .before .before .before .before .before
+
+abbrev bytes′ : tie.After-rows2 → List ℕ
+bytes′ c = bytes (weights-of (means-of c))
+
+abbrev two : tie.After-rows2 → Matrix
+two c = let m = c .rows2 .given .0 in M.Is (m .0) (m .1 .0) (m .1 .1 .0) (m .1 .1 .1 .0)
+
+vars : (c : tie.After-rows2) → headed (text "<INV_VARS>") true (bytes′ c) (means-of c .rows .given .0 .1 .1 .1 .0) ≡ matrixOf binary32 (bytes′ c) (two c)
+vars c = told (matrixOf binary32 (bytes′ c)) (c .before .before .check-headed2 .ensures .0) (c .rows2 .given .1)
+
+-- ---- an item that is refused
+
 returns : tie.Need-returns
-unfolding gmm
-returns c =
-    let open-binary = c .before .before .before .open-binary in (
-      step nextOf _ _ (open-binary .ensures) (c .before .e .given .1) refl,
-      tt,
-    )
+returns c = (G.no-opening _ (told nextOf (c .before .before .before .open-file .ensures) (c .before .e .given .1)), tt)
 
 returns-2 : tie.Need-returns-2
-unfolding gmm
 returns-2 c =
-    let open-binary = c .before .before .before .before .before .before .before .before .open-binary in
-    let next = c .before .before .before .before .before .before .next in
-    let expect-token = c .before .before .before .expect-token in (
-      step nextOf _ _ (open-binary .ensures) (next .given .1)
-          (step nextOf _ _ (expect-token .ensures) (c .before .e2 .given .1) refl),
-      tt,
-    )
-
-returns-3 : tie.Need-returns-3
-unfolding gmm
-returns-3 c =
-    let open-binary = c .before .before .before .before .before .before .before .before .before .before .before .before .open-binary in
-    let next = c .before .before .before .before .before .before .before .before .before .before .next in
-    let expect-token = c .before .before .before .before .before .before .before .expect-token in
-    let next2 = c .before .before .before .before .before .next2 in
-    let expect-weights = c .before .before .before .expect-weights in (
-      step nextOf _ _ (open-binary .ensures) (next .given .1)
-          (step nextOf _ _ (expect-token .ensures) (next2 .given .1)
-          (step nextOf _ _ (expect-weights .ensures) (c .before .e3 .given .1) refl)),
-      tt,
-    )
-
-returns-4 : tie.Need-returns-4
-unfolding gmm
-returns-4 c =
-    let open-binary = c .before .before .before .before .before .before .before .before .before .before .before .before .before .before .before .before .before .before .before .before .before .open-binary in
-    let next = c .before .before .before .before .before .before .before .before .before .before .before .before .before .before .before .before .before .before .before .next in
-    let expect-token = c .before .before .before .before .before .before .before .before .before .before .before .before .before .before .before .before .expect-token in
-    let next2 = c .before .before .before .before .before .before .before .before .before .before .before .before .before .before .next2 in
-    let expect-weights = c .before .before .before .before .before .before .before .before .before .before .before .before .expect-weights in
-    let next3 = c .before .before .before .before .before .before .before .before .before .before .next3 in
-    let a = c .before .before .before .before .before .before .before .before .before .before .before .before .before .before .before .before .before .before .before .before .before .before .before .args in
-    let check-float-vec = c .before .before .before .before .before .before .before .before .check-float-vec in
-    let len = c .before .before .before .before .before .before .len in
-    let expect-token2 = c .before .before .before .expect-token2 in (
-      step nextOf _ _ (open-binary .ensures) (next .given .1)
-          (step nextOf _ _ (expect-token .ensures) (next2 .given .1)
-          (step nextOf _ _ (expect-weights .ensures) (next3 .given .1)
-          (step (vectorOf binary32 (a .s .now)) _ _ (check-float-vec .ensures .0) (len .given .1)
-          (step nextOf _ _ (expect-token2 .ensures) (c .before .e5 .given .1) refl)))),
-      tt,
-    )
-
-returns-5 : tie.Need-returns-5
-unfolding gmm
-returns-5 c =
-    let open-binary = c .before .before .before .before .before .before .before .before .before .before .before .before .before .before .before .before .before .before .before .before .before .before .before .before .before .before .before .before .before .before .open-binary in
-    let next = c .before .before .before .before .before .before .before .before .before .before .before .before .before .before .before .before .before .before .before .before .before .before .before .before .before .before .before .before .next in
-    let expect-token = c .before .before .before .before .before .before .before .before .before .before .before .before .before .before .before .before .before .before .before .before .before .before .before .before .before .expect-token in
-    let next2 = c .before .before .before .before .before .before .before .before .before .before .before .before .before .before .before .before .before .before .before .before .before .before .before .next2 in
-    let expect-weights = c .before .before .before .before .before .before .before .before .before .before .before .before .before .before .before .before .before .before .before .before .before .expect-weights in
-    let next3 = c .before .before .before .before .before .before .before .before .before .before .before .before .before .before .before .before .before .before .before .next3 in
-    let a = c .before .before .before .before .before .before .before .before .before .before .before .before .before .before .before .before .before .before .before .before .before .before .before .before .before .before .before .before .before .before .before .before .args in
-    let check-float-vec = c .before .before .before .before .before .before .before .before .before .before .before .before .before .before .before .before .before .check-float-vec in
-    let len = c .before .before .before .before .before .before .before .before .before .before .before .before .before .before .before .len in
-    let expect-token2 = c .before .before .before .before .before .before .before .before .before .before .before .before .expect-token2 in
-    let next4 = c .before .before .before .before .before .before .before .before .before .before .next4 in
-    let check-float-matrix = c .before .before .before .before .before .before .before .before .check-float-matrix in
-    let rows = c .before .before .before .before .before .before .rows in
-    let expect-token3 = c .before .before .before .expect-token3 in (
-      step nextOf _ _ (open-binary .ensures) (next .given .1)
-          (step nextOf _ _ (expect-token .ensures) (next2 .given .1)
-          (step nextOf _ _ (expect-weights .ensures) (next3 .given .1)
-          (step (vectorOf binary32 (a .s .now)) _ _ (check-float-vec .ensures .0) (len .given .1)
-          (step nextOf _ _ (expect-token2 .ensures) (next4 .given .1)
-          (step (matrixOf binary32 (a .s .now)) _ _ (check-float-matrix .ensures .0) (rows .given .1)
-          (step nextOf _ _ (expect-token3 .ensures) (c .before .e7 .given .1) refl)))))),
-      tt,
-    )
+    let at = c .before .before .before in
+    (G.no-heading _ (opened (at .before .before)) (told nextOf (at .expect-weights .ensures) (c .before .e2 .given .1)), tt)
 
 returns-6 : tie.Need-returns-6
-unfolding gmm
 returns-6 c =
-    let open-binary = c .before .before .before .before .before .before .before .before .before .before .before .before .before .before .before .before .before .before .before .before .before .before .before .before .before .before .before .before .before .before .before .before .before .before .before .open-binary in
-    let next = c .before .before .before .before .before .before .before .before .before .before .before .before .before .before .before .before .before .before .before .before .before .before .before .before .before .before .before .before .before .before .before .before .before .next in
-    let expect-token = c .before .before .before .before .before .before .before .before .before .before .before .before .before .before .before .before .before .before .before .before .before .before .before .before .before .before .before .before .before .before .expect-token in
-    let next2 = c .before .before .before .before .before .before .before .before .before .before .before .before .before .before .before .before .before .before .before .before .before .before .before .before .before .before .before .before .next2 in
-    let expect-weights = c .before .before .before .before .before .before .before .before .before .before .before .before .before .before .before .before .before .before .before .before .before .before .before .before .before .before .expect-weights in
-    let next3 = c .before .before .before .before .before .before .before .before .before .before .before .before .before .before .before .before .before .before .before .before .before .before .before .before .next3 in
-    let a = c .before .before .before .before .before .before .before .before .before .before .before .before .before .before .before .before .before .before .before .before .before .before .before .before .before .before .before .before .before .before .before .before .before .before .before .before .before .args in
-    let check-float-vec = c .before .before .before .before .before .before .before .before .before .before .before .before .before .before .before .before .before .before .before .before .before .before .check-float-vec in
-    let len = c .before .before .before .before .before .before .before .before .before .before .before .before .before .before .before .before .before .before .before .before .len in
-    let expect-token2 = c .before .before .before .before .before .before .before .before .before .before .before .before .before .before .before .before .before .expect-token2 in
-    let next4 = c .before .before .before .before .before .before .before .before .before .before .before .before .before .before .before .next4 in
-    let check-float-matrix = c .before .before .before .before .before .before .before .before .before .before .before .before .before .check-float-matrix in
-    let rows = c .before .before .before .before .before .before .before .before .before .before .before .rows in
-    let expect-token3 = c .before .before .before .before .before .before .before .before .expect-token3 in
-    let next5 = c .before .before .before .before .before .before .next5 in
-    let check-float-matrix2 = c .before .before .before .before .check-float-matrix2 in (
-      step nextOf _ _ (open-binary .ensures) (next .given .1)
-          (step nextOf _ _ (expect-token .ensures) (next2 .given .1)
-          (step nextOf _ _ (expect-weights .ensures) (next3 .given .1)
-          (step (vectorOf binary32 (a .s .now)) _ _ (check-float-vec .ensures .0) (len .given .1)
-          (step nextOf _ _ (expect-token2 .ensures) (next4 .given .1)
-          (step (matrixOf binary32 (a .s .now)) _ _ (check-float-matrix .ensures .0) (rows .given .1)
-          (step nextOf _ _ (expect-token3 .ensures) (next5 .given .1)
-          (step (matrixOf binary32 (a .s .now)) _ _ (check-float-matrix2 .ensures .0) (c .before .before .rows2 .given .1)
-          (stops _ _ (sym (unmet 5 _ _ (rows-differ _ _ _ (c .if1 .taken)))) refl)))))))),
-      tt,
-    )
+    let at = c .before .before .before in
+    let h = at .before .before in
+    let s = bytes-of (opening-of h) in
+    (G.no-weights s (opened (opening-of h)) (heading h) (told (vectorOf binary32 s) (at .check-float-vec .ensures .0) (c .before .e3 .given .1)), tt)
 
 returns-7 : tie.Need-returns-7
-unfolding gmm
 returns-7 c =
-    let open-binary = c .before .before .before .before .before .before .before .before .before .before .before .before .before .before .before .before .before .before .before .before .before .before .before .before .before .before .before .before .before .before .before .before .before .before .before .before .open-binary in
-    let next = c .before .before .before .before .before .before .before .before .before .before .before .before .before .before .before .before .before .before .before .before .before .before .before .before .before .before .before .before .before .before .before .before .before .before .next in
-    let expect-token = c .before .before .before .before .before .before .before .before .before .before .before .before .before .before .before .before .before .before .before .before .before .before .before .before .before .before .before .before .before .before .before .expect-token in
-    let next2 = c .before .before .before .before .before .before .before .before .before .before .before .before .before .before .before .before .before .before .before .before .before .before .before .before .before .before .before .before .before .next2 in
-    let expect-weights = c .before .before .before .before .before .before .before .before .before .before .before .before .before .before .before .before .before .before .before .before .before .before .before .before .before .before .before .expect-weights in
-    let next3 = c .before .before .before .before .before .before .before .before .before .before .before .before .before .before .before .before .before .before .before .before .before .before .before .before .before .next3 in
-    let a = c .before .before .before .before .before .before .before .before .before .before .before .before .before .before .before .before .before .before .before .before .before .before .before .before .before .before .before .before .before .before .before .before .before .before .before .before .before .before .args in
-    let check-float-vec = c .before .before .before .before .before .before .before .before .before .before .before .before .before .before .before .before .before .before .before .before .before .before .before .check-float-vec in
-    let len = c .before .before .before .before .before .before .before .before .before .before .before .before .before .before .before .before .before .before .before .before .before .len in
-    let expect-token2 = c .before .before .before .before .before .before .before .before .before .before .before .before .before .before .before .before .before .before .expect-token2 in
-    let next4 = c .before .before .before .before .before .before .before .before .before .before .before .before .before .before .before .before .next4 in
-    let check-float-matrix = c .before .before .before .before .before .before .before .before .before .before .before .before .before .before .check-float-matrix in
-    let rows = c .before .before .before .before .before .before .before .before .before .before .before .before .rows in
-    let expect-token3 = c .before .before .before .before .before .before .before .before .before .expect-token3 in
-    let next5 = c .before .before .before .before .before .before .before .next5 in
-    let check-float-matrix2 = c .before .before .before .before .before .check-float-matrix2 in
-    let rows2 = c .before .before .before .rows2 in (
-      step nextOf _ _ (open-binary .ensures) (next .given .1)
-          (step nextOf _ _ (expect-token .ensures) (next2 .given .1)
-          (step nextOf _ _ (expect-weights .ensures) (next3 .given .1)
-          (step (vectorOf binary32 (a .s .now)) _ _ (check-float-vec .ensures .0) (len .given .1)
-          (step nextOf _ _ (expect-token2 .ensures) (next4 .given .1)
-          (step (matrixOf binary32 (a .s .now)) _ _ (check-float-matrix .ensures .0) (rows .given .1)
-          (step nextOf _ _ (expect-token3 .ensures) (next5 .given .1)
-          (step (matrixOf binary32 (a .s .now)) _ _ (check-float-matrix2 .ensures .0) (rows2 .given .1)
-          (stops _ _ (sym (unmet 5 _ _ (cols-differ _ _ _ _ _ (c .before .if1 .left) (c .if2 .taken)))) refl)))))))),
-      tt,
-    )
+    let at = c .before .before .before in
+    let w = at .before .before .before in
+    let h = heading-of w in
+    (G.no-means (bytes w) (opened (opening-of h)) (heading h) (weights w) (told (matrixOf binary32 (bytes w)) (at .check-headed .ensures .0) (c .before .e4 .given .1)), tt)
 
 returns-8 : tie.Need-returns-8
-unfolding gmm
 returns-8 c =
-    let open-binary = c .before .before .before .before .before .before .before .before .before .before .before .before .before .before .before .before .before .before .before .before .before .before .before .before .before .before .before .before .before .before .before .before .before .before .before .before .before .open-binary in
-    let next = c .before .before .before .before .before .before .before .before .before .before .before .before .before .before .before .before .before .before .before .before .before .before .before .before .before .before .before .before .before .before .before .before .before .before .before .next in
-    let expect-token = c .before .before .before .before .before .before .before .before .before .before .before .before .before .before .before .before .before .before .before .before .before .before .before .before .before .before .before .before .before .before .before .before .expect-token in
-    let next2 = c .before .before .before .before .before .before .before .before .before .before .before .before .before .before .before .before .before .before .before .before .before .before .before .before .before .before .before .before .before .before .next2 in
-    let expect-weights = c .before .before .before .before .before .before .before .before .before .before .before .before .before .before .before .before .before .before .before .before .before .before .before .before .before .before .before .before .expect-weights in
-    let next3 = c .before .before .before .before .before .before .before .before .before .before .before .before .before .before .before .before .before .before .before .before .before .before .before .before .before .before .next3 in
-    let a = c .before .before .before .before .before .before .before .before .before .before .before .before .before .before .before .before .before .before .before .before .before .before .before .before .before .before .before .before .before .before .before .before .before .before .before .before .before .before .before .args in
-    let check-float-vec = c .before .before .before .before .before .before .before .before .before .before .before .before .before .before .before .before .before .before .before .before .before .before .before .before .check-float-vec in
-    let len = c .before .before .before .before .before .before .before .before .before .before .before .before .before .before .before .before .before .before .before .before .before .before .len in
-    let expect-token2 = c .before .before .before .before .before .before .before .before .before .before .before .before .before .before .before .before .before .before .before .expect-token2 in
-    let next4 = c .before .before .before .before .before .before .before .before .before .before .before .before .before .before .before .before .before .next4 in
-    let check-float-matrix = c .before .before .before .before .before .before .before .before .before .before .before .before .before .before .before .check-float-matrix in
-    let rows = c .before .before .before .before .before .before .before .before .before .before .before .before .before .rows in
-    let expect-token3 = c .before .before .before .before .before .before .before .before .before .before .expect-token3 in
-    let next5 = c .before .before .before .before .before .before .before .before .next5 in
-    let check-float-matrix2 = c .before .before .before .before .before .before .check-float-matrix2 in
-    let rows2 = c .before .before .before .before .rows2 in (
-      step nextOf _ _ (open-binary .ensures) (next .given .1)
-          (step nextOf _ _ (expect-token .ensures) (next2 .given .1)
-          (step nextOf _ _ (expect-weights .ensures) (next3 .given .1)
-          (step (vectorOf binary32 (a .s .now)) _ _ (check-float-vec .ensures .0) (len .given .1)
-          (step nextOf _ _ (expect-token2 .ensures) (next4 .given .1)
-          (step (matrixOf binary32 (a .s .now)) _ _ (check-float-matrix .ensures .0) (rows .given .1)
-          (step nextOf _ _ (expect-token3 .ensures) (next5 .given .1)
-          (step (matrixOf binary32 (a .s .now)) _ _ (check-float-matrix2 .ensures .0) (rows2 .given .1)
-          (stops _ _ (sym (unmet 5 _ _ (weights-differ _ _ _ _ _ (c .before .before .if1 .left) (c .before .if2 .left) (λ e. c .if3 .taken (sym (numbers-length binary32 _ _) ∙ e))))) refl)))))))),
-      tt,
-    )
+    let at = c .before .before .before in
+    let m = at .before .before .before in
+    let w = weights-of m in
+    let h = heading-of w in
+    let refusal = told (matrixOf binary32 (bytes w)) (at .check-headed2 .ensures .0) (c .before .e5 .given .1) in
+    (G.no-vars (bytes w) (opened (opening-of h)) (heading h) (weights w) (means m) refusal, tt)
+
+-- ---- all are read: the tests across them
+
+refuses : (c : tie.After-rows2) →
+    let w = weights-of (means-of c) in
+    let m = means-of c .rows .given .0 in
+    let v = c .rows2 .given .0 in
+    let n = length (numbers binary32 (w .len .given .0 .0) (drop (w .len .given .0 .1 .0) (bytes w))) in
+    (eqb (m .0) (v .0) && (eqb (m .1 .0) (v .1 .0) && eqb n (m .0))) ≡ false → refused 5 ≡ gmm (bytes w) 0
+refuses c t =
+    let m = means-of c in
+    let w = weights-of m in
+    let h = heading-of w in
+    G.disagreeing (bytes w) (opened (opening-of h)) (heading h) (weights w) (means m) (vars c) t
+
+returns-3 : tie.Need-returns-3
+returns-3 c = (refuses (c .before .before) (G.rows-differ _ _ _ (c .if1 .taken)), tt)
+
+returns-4 : tie.Need-returns-4
+returns-4 c = (refuses (c .before .before .before) (G.cols-differ _ _ _ _ _ (c .before .if1 .left) (c .if2 .taken)), tt)
+
+returns-5 : tie.Need-returns-5
+returns-5 c =
+    let at-rows2 = c .before .before .before .before in
+    let at = at-rows2 in
+    (refuses at (G.weights-differ _ _ _ _ _ (c .before .before .if1 .left) (c .before .if2 .left) (λ e. c .if3 .taken (sym (numbers-length binary32 _ _) ∙ e))), tt)
 
 returns-9 : tie.Need-returns-9
-unfolding gmm
 returns-9 c =
-    let open-binary = c .before .before .before .before .before .before .before .before .before .before .before .before .before .before .before .before .open-binary in
-    let next = c .before .before .before .before .before .before .before .before .before .before .before .before .before .before .next in
-    let expect-token = c .before .before .before .before .before .before .before .before .before .before .before .expect-token in
-    let next2 = c .before .before .before .before .before .before .before .before .before .next2 in
-    let expect-weights = c .before .before .before .before .before .before .before .expect-weights in
-    let next3 = c .before .before .before .before .before .next3 in
-    let a = c .before .before .before .before .before .before .before .before .before .before .before .before .before .before .before .before .before .before .args in
-    let check-float-vec = c .before .before .before .check-float-vec in (
-      step nextOf _ _ (open-binary .ensures) (next .given .1)
-          (step nextOf _ _ (expect-token .ensures) (next2 .given .1)
-          (step nextOf _ _ (expect-weights .ensures) (next3 .given .1)
-          (step (vectorOf binary32 (a .s .now)) _ _ (check-float-vec .ensures .0) (c .before .e4 .given .1) refl))),
-      tt,
-    )
-
-returns-10 : tie.Need-returns-10
-unfolding gmm
-returns-10 c =
-    let open-binary = c .before .before .before .before .before .before .before .before .before .before .before .before .before .before .before .before .before .before .before .before .before .before .before .before .before .open-binary in
-    let next = c .before .before .before .before .before .before .before .before .before .before .before .before .before .before .before .before .before .before .before .before .before .before .before .next in
-    let expect-token = c .before .before .before .before .before .before .before .before .before .before .before .before .before .before .before .before .before .before .before .before .expect-token in
-    let next2 = c .before .before .before .before .before .before .before .before .before .before .before .before .before .before .before .before .before .before .next2 in
-    let expect-weights = c .before .before .before .before .before .before .before .before .before .before .before .before .before .before .before .before .expect-weights in
-    let next3 = c .before .before .before .before .before .before .before .before .before .before .before .before .before .before .next3 in
-    let a = c .before .before .before .before .before .before .before .before .before .before .before .before .before .before .before .before .before .before .before .before .before .before .before .before .before .before .before .args in
-    let check-float-vec = c .before .before .before .before .before .before .before .before .before .before .before .before .check-float-vec in
-    let len = c .before .before .before .before .before .before .before .before .before .before .len in
-    let expect-token2 = c .before .before .before .before .before .before .before .expect-token2 in
-    let next4 = c .before .before .before .before .before .next4 in
-    let check-float-matrix = c .before .before .before .check-float-matrix in (
-      step nextOf _ _ (open-binary .ensures) (next .given .1)
-          (step nextOf _ _ (expect-token .ensures) (next2 .given .1)
-          (step nextOf _ _ (expect-weights .ensures) (next3 .given .1)
-          (step (vectorOf binary32 (a .s .now)) _ _ (check-float-vec .ensures .0) (len .given .1)
-          (step nextOf _ _ (expect-token2 .ensures) (next4 .given .1)
-          (step (matrixOf binary32 (a .s .now)) _ _ (check-float-matrix .ensures .0) (c .before .e6 .given .1) refl))))),
-      tt,
-    )
-
-returns-11 : tie.Need-returns-11
-unfolding gmm
-returns-11 c =
-    let open-binary = c .before .before .before .before .before .before .before .before .before .before .before .before .before .before .before .before .before .before .before .before .before .before .before .before .before .before .before .before .before .before .before .before .before .before .open-binary in
-    let next = c .before .before .before .before .before .before .before .before .before .before .before .before .before .before .before .before .before .before .before .before .before .before .before .before .before .before .before .before .before .before .before .before .next in
-    let expect-token = c .before .before .before .before .before .before .before .before .before .before .before .before .before .before .before .before .before .before .before .before .before .before .before .before .before .before .before .before .before .expect-token in
-    let next2 = c .before .before .before .before .before .before .before .before .before .before .before .before .before .before .before .before .before .before .before .before .before .before .before .before .before .before .before .next2 in
-    let expect-weights = c .before .before .before .before .before .before .before .before .before .before .before .before .before .before .before .before .before .before .before .before .before .before .before .before .before .expect-weights in
-    let next3 = c .before .before .before .before .before .before .before .before .before .before .before .before .before .before .before .before .before .before .before .before .before .before .before .next3 in
-    let a = c .before .before .before .before .before .before .before .before .before .before .before .before .before .before .before .before .before .before .before .before .before .before .before .before .before .before .before .before .before .before .before .before .before .before .before .before .args in
-    let check-float-vec = c .before .before .before .before .before .before .before .before .before .before .before .before .before .before .before .before .before .before .before .before .before .check-float-vec in
-    let len = c .before .before .before .before .before .before .before .before .before .before .before .before .before .before .before .before .before .before .before .len in
-    let expect-token2 = c .before .before .before .before .before .before .before .before .before .before .before .before .before .before .before .before .expect-token2 in
-    let next4 = c .before .before .before .before .before .before .before .before .before .before .before .before .before .before .next4 in
-    let check-float-matrix = c .before .before .before .before .before .before .before .before .before .before .before .before .check-float-matrix in
-    let rows = c .before .before .before .before .before .before .before .before .before .before .rows in
-    let expect-token3 = c .before .before .before .before .before .before .before .expect-token3 in
-    let next5 = c .before .before .before .before .before .next5 in
-    let check-float-matrix2 = c .before .before .before .check-float-matrix2 in (
-      step nextOf _ _ (open-binary .ensures) (next .given .1)
-          (step nextOf _ _ (expect-token .ensures) (next2 .given .1)
-          (step nextOf _ _ (expect-weights .ensures) (next3 .given .1)
-          (step (vectorOf binary32 (a .s .now)) _ _ (check-float-vec .ensures .0) (len .given .1)
-          (step nextOf _ _ (expect-token2 .ensures) (next4 .given .1)
-          (step (matrixOf binary32 (a .s .now)) _ _ (check-float-matrix .ensures .0) (rows .given .1)
-          (step nextOf _ _ (expect-token3 .ensures) (next5 .given .1)
-          (step (matrixOf binary32 (a .s .now)) _ _ (check-float-matrix2 .ensures .0) (c .before .e8 .given .1) refl))))))),
-      tt,
-    )
-
-returns-12 : tie.Need-returns-12
-unfolding gmm
-returns-12 c =
-    let open-binary = c .before .before .before .before .before .before .before .before .before .before .before .before .before .before .before .before .before .before .before .before .before .before .before .before .before .before .before .before .before .before .before .before .before .before .before .before .before .open-binary in
-    let next = c .before .before .before .before .before .before .before .before .before .before .before .before .before .before .before .before .before .before .before .before .before .before .before .before .before .before .before .before .before .before .before .before .before .before .before .next in
-    let expect-token = c .before .before .before .before .before .before .before .before .before .before .before .before .before .before .before .before .before .before .before .before .before .before .before .before .before .before .before .before .before .before .before .before .expect-token in
-    let next2 = c .before .before .before .before .before .before .before .before .before .before .before .before .before .before .before .before .before .before .before .before .before .before .before .before .before .before .before .before .before .before .next2 in
-    let expect-weights = c .before .before .before .before .before .before .before .before .before .before .before .before .before .before .before .before .before .before .before .before .before .before .before .before .before .before .before .before .expect-weights in
-    let next3 = c .before .before .before .before .before .before .before .before .before .before .before .before .before .before .before .before .before .before .before .before .before .before .before .before .before .before .next3 in
-    let a = c .before .before .before .before .before .before .before .before .before .before .before .before .before .before .before .before .before .before .before .before .before .before .before .before .before .before .before .before .before .before .before .before .before .before .before .before .before .before .before .args in
-    let check-float-vec = c .before .before .before .before .before .before .before .before .before .before .before .before .before .before .before .before .before .before .before .before .before .before .before .before .check-float-vec in
-    let len = c .before .before .before .before .before .before .before .before .before .before .before .before .before .before .before .before .before .before .before .before .before .before .len in
-    let expect-token2 = c .before .before .before .before .before .before .before .before .before .before .before .before .before .before .before .before .before .before .before .expect-token2 in
-    let next4 = c .before .before .before .before .before .before .before .before .before .before .before .before .before .before .before .before .before .next4 in
-    let check-float-matrix = c .before .before .before .before .before .before .before .before .before .before .before .before .before .before .before .check-float-matrix in
-    let rows = c .before .before .before .before .before .before .before .before .before .before .before .before .before .rows in
-    let expect-token3 = c .before .before .before .before .before .before .before .before .before .before .expect-token3 in
-    let next5 = c .before .before .before .before .before .before .before .before .next5 in
-    let check-float-matrix2 = c .before .before .before .before .before .before .check-float-matrix2 in
-    let rows2 = c .before .before .before .before .rows2 in
-    let if1 = c .before .before .if1 in
-    let if2 = c .before .if2 in
-    let if3 = c .if3 in (
-      step nextOf _ _ (open-binary .ensures) (next .given .1)
-          (step nextOf _ _ (expect-token .ensures) (next2 .given .1)
-          (step nextOf _ _ (expect-weights .ensures) (next3 .given .1)
-          (step (vectorOf binary32 (a .s .now)) _ _ (check-float-vec .ensures .0) (len .given .1)
-          (step nextOf _ _ (expect-token2 .ensures) (next4 .given .1)
-          (step (matrixOf binary32 (a .s .now)) _ _ (check-float-matrix .ensures .0) (rows .given .1)
-          (step nextOf _ _ (expect-token3 .ensures) (next5 .given .1)
-          (step (matrixOf binary32 (a .s .now)) _ _ (check-float-matrix2 .ensures .0) (rows2 .given .1)
-          (goes _ _ (sym (met 5 _ _ (dims-agree _ _ _ _ _ (if1 .left) (if2 .left) (numbers-length binary32 _ _ ∙ if3 .left))))
-          (gmm-is (a .s .now) (len .given .0 .1 .0) (rows .given .0 .1 .1 .0) (rows2 .given .0 .1 .1 .0) (if1 .left) (if2 .left) (if3 .left) (rows2 .given .0 .1 .1 .1 .0)))))))))),
-      gmm-in _ _ _ _ (if1 .left) (if2 .left) (if3 .left) (subst (vectorIn binary32 1024 (a .s .now)) (len .given .1) (check-float-vec .ensures .1)) (subst (matrixIn binary32 1024 64 (a .s .now)) (rows .given .1) (check-float-matrix .ensures .1)) (subst (matrixIn binary32 1024 64 (a .s .now)) (rows2 .given .1) (check-float-matrix2 .ensures .1)),
+    let at-rows2 = c .before .before .before .before in
+    let at = at-rows2 in
+    let m = means-of at in
+    let w = weights-of m in
+    let h = heading-of w in
+    let s = bytes w in
+    let same-rows = c .before .before .if1 .left in
+    let same-cols = c .before .if2 .left in
+    let same-len = c .if3 .left in
+    let x = w .len .given .0 in
+    let y = m .rows .given .0 in
+    let z = at .rows2 .given .0 in (
+      G.all-read s (opened (opening-of h)) (heading h) (weights w) (means m) (vars at) (G.dims-agree _ _ _ _ _ same-rows same-cols (numbers-length binary32 _ _ ∙ same-len))
+          (G.gmm-is s (x .1 .0) (y .1 .1 .0) (z .1 .1 .0) same-rows same-cols same-len (z .1 .1 .1 .0)),
+      G.gmm-in s _ _ _ same-rows same-cols same-len
+          (subst (vectorIn binary32 1024 s) (w .len .given .1) (w .before .before .check-float-vec .ensures .1))
+          (subst (matrixIn binary32 1024 64 s) (m .rows .given .1) (m .before .before .check-headed .ensures .1))
+          (subst (matrixIn binary32 1024 64 s) (at .rows2 .given .1) (at .before .before .check-headed2 .ensures .1)),
     )
 
 pub check-gmm-spec : {M : Type 1} → statement M
 check-gmm-spec =
     tie.close
-    (tie.spec (λ c κs. search needs) (λ c. search needs) (λ c. search needs) returns (λ c. search needs) (λ c κs. search needs) (λ c. search needs)
-    (λ c. search needs) returns-2 (λ c κs. search needs) (λ c. search needs) (λ c. search needs) returns-3 (λ c κs. search needs) (λ c. search needs)
-    (λ c. search needs) (λ c. search needs) (λ c κs. search needs) (λ c. search needs) (λ c. search needs) returns-4 (λ c κs. search needs)
-    (λ c. search needs) (λ c. search needs) (λ c. search needs) (λ c κs. search needs) (λ c. search needs) (λ c. search needs) returns-5
-    (λ c κs. search needs) (λ c. search needs) (λ c. search needs) returns-6 returns-7 returns-8 returns-9 returns-10 returns-11 returns-12)
+    (tie.spec (λ c. search needs) (λ c κs. search needs) (λ c. search needs) (λ c. search needs) returns (λ c κs. search needs) (λ c. search needs)
+    (λ c. search needs) returns-2 (λ c κs. search needs) (λ c. search needs) (λ c. search needs) (λ c. search needs) (λ c κs. search needs)
+    (λ c. search needs) (λ c. search needs) (λ c. search needs) (λ c κs. search needs) (λ c. search needs) (λ c. search needs) returns-3 returns-4
+    returns-5 returns-6 returns-7 returns-8 returns-9)

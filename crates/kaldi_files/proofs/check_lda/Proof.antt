@@ -18,7 +18,8 @@ returns c =
 returns-2 : tie.Need-returns-2
 unfolding lda
 returns-2 c =
-    let open-binary = c .before .before .before .before .open-binary in
+    let at-open-binary = c .before .before .before .before in
+    let open-binary = at-open-binary .open-binary in
     let check-float-matrix = c .check-float-matrix in (
       step nextOf _ _ (open-binary .ensures) (c .before .before .next .given .1)
           (check-float-matrix .ensures .0),

@@ -27,16 +27,21 @@ loop-holds c = tally-start _ _ _ _ _
 
 returns : tie.Need-returns Inv-loop μ-loop
 returns c =
-    let a = c .before .before .before .before .before .before .before .args in
-    let loop = c .before .before .before .before .before .loop in
+    let at-loop = c .before .before .before .before .before in
+    let start = at-loop .before .before in
+    let a = start .args in
+    let loop = at-loop .loop in
     let check-double-matrix = c .before .before .before .check-double-matrix in
     tally-stop (sizedAs (a .rows) (a .cols)) (matrix binary64 false maxFeat maxIvector) (a .s .now) (a .at) (a .count) (loop .alike) (loop .p) (loop .i) (loop .inv) (omega arith) (told (matrixOf binary64 (a .s .now)) (check-double-matrix .ensures .0) (c .before .e .given .1))
 
 loop-again : tie.Need-loop-again Inv-loop μ-loop
 loop-again c =
-    let a = c .before .before .before .before .before .before .before .before .before .args in
-    let loop = c .before .before .before .before .before .before .before .loop in
-    let check-double-matrix = c .before .before .before .before .before .check-double-matrix in
+    let at-check-double-matrix = c .before .before .before .before .before in
+    let at-loop = at-check-double-matrix .before .before in
+    let start = at-loop .before .before in
+    let a = start .args in
+    let loop = at-loop .loop in
+    let check-double-matrix = at-check-double-matrix .check-double-matrix in
     let r = c .before .before .before .r in
     tally-turn (sizedAs (a .rows) (a .cols)) (matrix binary64 false maxFeat maxIvector) (a .s .now) (a .at) (a .count) (loop .alike) (loop .p) (loop .i) (loop .inv) (omega arith) (told (matrixOf binary64 (a .s .now)) (check-double-matrix .ensures .0) (r .given .1)) (c .both2 .ensures ∙ ap (λ (v : Bool). loop .alike && v) (c .before .both .ensures))
 

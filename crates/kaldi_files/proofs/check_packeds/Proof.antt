@@ -26,16 +26,21 @@ loop-holds c = tally-start _ _ _ _ _
 
 returns : tie.Need-returns Inv-loop μ-loop
 returns c =
-    let a = c .before .before .before .before .before .before .before .args in
-    let loop = c .before .before .before .before .before .loop in
+    let at-loop = c .before .before .before .before .before in
+    let start = at-loop .before .before in
+    let a = start .args in
+    let loop = at-loop .loop in
     let check-packed-double = c .before .before .before .check-packed-double in
     tally-stop (squareAs (a .dim)) packedMatrix (a .s .now) (a .at) (a .count) (loop .alike) (loop .p) (loop .i) (loop .inv) (omega arith) (told (packedOf (a .s .now)) (check-packed-double .ensures .0) (c .before .e .given .1))
 
 loop-again : tie.Need-loop-again Inv-loop μ-loop
 loop-again c =
-    let a = c .before .before .before .before .before .before .before .before .args in
-    let loop = c .before .before .before .before .before .before .loop in
-    let check-packed-double = c .before .before .before .before .check-packed-double in
+    let at-check-packed-double = c .before .before .before .before in
+    let at-loop = at-check-packed-double .before .before in
+    let start = at-loop .before .before in
+    let a = start .args in
+    let loop = at-loop .loop in
+    let check-packed-double = at-check-packed-double .check-packed-double in
     tally-turn (squareAs (a .dim)) packedMatrix (a .s .now) (a .at) (a .count) (loop .alike) (loop .p) (loop .i) (loop .inv) (omega arith) (told (packedOf (a .s .now)) (check-packed-double .ensures .0) (c .before .before .d .given .1)) (c .both .ensures)
 
 returns-2 : tie.Need-returns-2 Inv-loop μ-loop

@@ -1,66 +1,60 @@
--- `check_float_vec` meets its contract: the token, the length and the numbers, one parser after the other as in the definition's `vector`.
--- Each way out is a chain of `step` (Chain.antt); that the length is in its range is `dim-in` (Bytes.antt).
-use mathlib.Core.Path.{refl, subst}
+-- `check_float_vec` meets its contract: the tag with the length, then the numbers, one parser after the other as in the definition's `vector`
+-- (`step`, `tag-step` in Chain.antt); that the length is in its range is `tagged-in` (Bytes.antt).
+use mathlib.Core.Path.{_≡_, refl, subst}
+use mathlib.Core.List.{List}
+use Prim.Native.Nat.{ℕ, _≤_}
 use borrow.Author.Needs.{needs}
-use lib.Ieee.{binary32}
-use Rattle.definition.specs.Kaldi.{vector}
-use Rattle.kaldi_io.specs.Answers.{nextOf, dimOf, floatsOf, floatsIn}
-use Rattle.kaldi_io.proofs.Chain.{ends, told, step}
-use Rattle.kaldi_io.proofs.Bytes.{dim-in}
+use lib.Ieee.{Float, binary32}
+use Rattle.definition.specs.Reader.{Got, floats}
+use Rattle.definition.specs.Kaldi.{vectorTag, vector}
+use Rattle.kaldi_io.specs.Answers.{dimOf, floatsOf, floatsIn}
+use Rattle.kaldi_io.proofs.Chain.{ends, told, tag-step}
+use Rattle.kaldi_io.proofs.Bytes.{tagged-in}
 use Rattle.kaldi_io.proofs.check_float_vec.Statement.{statement}
 use Rattle.kaldi_io.proofs.check_float_vec.Tie as tie
 
+abbrev start-of : tie.After-n → tie.Start
+start-of c = c .before .before .before .before .before
+
+-- the length, where the numbers stand, and the length's range
+abbrev len : tie.After-n → ℕ
+len c = c .n .given .0 .0
+
+abbrev from : tie.After-n → ℕ
+from c = c .n .given .0 .1 .0
+
+len-in : (c : tie.After-n) → (1 ≤ len c) × (len c ≤ start-of c .args .most)
+len-in c = let a = start-of c .args in tagged-in (vectorTag binary32) 1 (a .most) (a .s .now) (a .at) (told dimOf (c .before .before .tagged-dim .ensures) (c .n .given .1))
+
+-- what is left to show once the length is read
+past-length : (c : tie.After-n) {x : Got (List Float)} →
+    let a = start-of c .args in
+    x ≡ floats binary32 (a .positive) (len c) (a .s .now) (from c) → x ≡ vector binary32 (a .positive) (a .most) (a .s .now) (a .at)
+unfolding vector
+past-length c t = let a = start-of c .args in tag-step (vectorTag binary32) 1 (a .most) _ (a .s .now) (a .at) (c .before .before .tagged-dim .ensures) (c .n .given .1) t
+
 returns : tie.Need-returns
 unfolding vector
-returns c =
-    let expect-token = c .before .before .before .expect-token in
-    (step nextOf _ _ (expect-token .ensures) (c .before .e .given .1) refl, tt)
+returns c = let a = c .before .before .before .before .before .before .args in (tag-step (vectorTag binary32) 1 (a .most) _ (a .s .now) (a .at) (c .before .before .before .tagged-dim .ensures) (c .before .e .given .1) refl, tt)
 
 returns-2 : tie.Need-returns-2
-unfolding vector
 returns-2 c =
-    let at-next = c .before .before .before .before .before in
-    let at-expect-token = at-next .before .before in
-    let expect-token = at-expect-token .expect-token in
-    let next = at-next .next in
-    let read-dim = c .before .before .before .read-dim in
-    (step nextOf _ _ (expect-token .ensures) (next .given .1) (step dimOf _ _ (read-dim .ensures) (c .before .e2 .given .1) refl), tt)
+    let at-check = c .before .before .before in
+    let at-n = at-check .before .before in
+    (past-length at-n (ends (floatsOf binary32 (len at-n) (start-of at-n .args .s .now) (from at-n)) (at-check .check-f32s .ensures .0) (c .before .e2 .given .1)), tt)
 
 returns-3 : tie.Need-returns-3
-unfolding vector
 returns-3 c =
-    let at-n = c .before .before .before .before .before in
-    let at-read-dim = at-n .before .before in
-    let at-next = at-read-dim .before .before in
-    let at-expect-token = at-next .before .before in
-    let start = at-expect-token .before .before .before in
-    let expect-token = at-expect-token .expect-token in
-    let next = at-next .next in
-    let read-dim = at-read-dim .read-dim in
-    let n = at-n .n in
-    let a = start .args in
-    let check-f32s = c .before .before .before .check-f32s in
-    (step nextOf _ _ (expect-token .ensures) (next .given .1) (step dimOf _ _ (read-dim .ensures) (n .given .1) (ends (floatsOf binary32 (n .given .0 .0) (a .s .now) (n .given .0 .1 .0)) (check-f32s .ensures .0) (c .before .e3 .given .1))), tt)
-
-returns-4 : tie.Need-returns-4
-unfolding vector
-returns-4 c =
-    let at-n = c .before .before .before .before .before in
-    let at-read-dim = at-n .before .before in
-    let at-next = at-read-dim .before .before in
-    let at-expect-token = at-next .before .before in
-    let start = at-expect-token .before .before .before in
-    let expect-token = at-expect-token .expect-token in
-    let next = at-next .next in
-    let read-dim = at-read-dim .read-dim in
-    let n = at-n .n in
-    let a = start .args in
-    let check-f32s = c .before .before .before .check-f32s in
-    let next2 = c .before .next2 in
-    (step nextOf _ _ (expect-token .ensures) (next .given .1) (step dimOf _ _ (read-dim .ensures) (n .given .1) (ends (floatsOf binary32 (n .given .0 .0) (a .s .now) (n .given .0 .1 .0)) (check-f32s .ensures .0) (next2 .given .1))), record { ready = subst (floatsIn binary32 (n .given .0 .0) (a .s .now) (n .given .0 .1 .0)) (next2 .given .1) (check-f32s .ensures .1); low = dim-in 1 (a .most) (a .s .now) _ (told dimOf (read-dim .ensures) (n .given .1)) .0; high = dim-in 1 (a .most) (a .s .now) _ (told dimOf (read-dim .ensures) (n .given .1)) .1 })
+    let is = c .before .next .given .1 in
+    let at-check = c .before .before .before in
+    let at-n = at-check .before .before in
+    let s = start-of at-n .args .s .now in (
+      past-length at-n (ends (floatsOf binary32 (len at-n) s (from at-n)) (at-check .check-f32s .ensures .0) is),
+      record { ready = subst (floatsIn binary32 (len at-n) s (from at-n)) is (at-check .check-f32s .ensures .1); low = len-in at-n .0; high = len-in at-n .1 },
+    )
 
 pub check-float-vec-spec : {M : Type 1} → statement M
 check-float-vec-spec =
     tie.close
-    (tie.spec (λ c. search needs) (λ c κs. search needs) (λ c. search needs) (λ c. search needs) returns (λ c κs. search needs) (λ c. search needs)
-    (λ c. search needs) (λ c κs. search needs) (λ c. search needs) (λ c. search needs) returns-2 returns-3 returns-4)
+    (tie.spec (λ c. search needs) (λ c κs. search needs) (λ c. search needs) (λ c. search needs) (λ c κs. search needs) (λ c. search needs)
+    (λ c. search needs) returns returns-2 returns-3)

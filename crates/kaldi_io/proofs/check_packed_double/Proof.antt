@@ -1,82 +1,73 @@
--- `check_packed_double` meets its contract: the token, the dimension and the numbers of the triangle, one parser after the other as in the
--- definition's `packedMatrix`. Each way out is a chain of `step` (Chain.antt); the dimension's range is `dim-in` (Bytes.antt).
-use mathlib.Core.Path.{refl, subst}
+-- `check_packed_double` meets its contract: the tag with the dimension, then the numbers of the triangle, one parser after the other as in the
+-- definition's `packedMatrix` (`step`, `tag-step` in Chain.antt); that the dimension is in its range is `tagged-in` (Bytes.antt).
+use mathlib.Core.Path.{_≡_, refl, subst}
+use mathlib.Core.List.{List}
+use mathlib.Core.Bool.{false}
+use Prim.Native.Nat.{ℕ, _≤_}
 use native.Mathlib.Omega.{arith}
 use borrow.Author.Needs.{needs}
 use lib.Ieee.{binary64}
-use Rattle.definition.specs.Kaldi.{triangle, packedMatrix}
-use Rattle.kaldi_io.specs.Answers.{nextOf, dimOf, floatsOf, floatsIn}
-use Rattle.kaldi_io.proofs.Chain.{told, step}
-use Rattle.kaldi_io.proofs.Bytes.{dim-in, product-fits}
+use Rattle.definition.specs.Reader.{Got, after, floats, give, text}
+use Rattle.definition.specs.Kaldi.{Packed, triangle, packedMatrix}
+use Rattle.kaldi_io.specs.Answers.{dimOf, floatsOf, floatsIn}
+use Rattle.kaldi_io.proofs.Chain.{told, step, tag-step}
+use Rattle.kaldi_io.proofs.Bytes.{tagged-in, product-fits}
 use Rattle.kaldi_io.proofs.check_packed_double.Statement.{statement}
 use Rattle.kaldi_io.proofs.check_packed_double.Tie as tie
 
+abbrev start-of : tie.After-n → tie.Start
+start-of c = c .before .before .before .before .before
+
+abbrev bytes-of : tie.After-n → List ℕ
+bytes-of c = start-of c .args .s .now
+
+-- the dimension, where the numbers stand, and the dimension's range
+abbrev size : tie.After-n → ℕ
+size c = c .n .given .0 .0
+
+abbrev from : tie.After-n → ℕ
+from c = c .n .given .0 .1 .0
+
+size-in : (c : tie.After-n) → (1 ≤ size c) × (size c ≤ 64)
+size-in c = let a = start-of c .args in tagged-in (text "DP") 1 64 (a .s .now) (a .at) (told dimOf (c .before .before .tagged-dim .ensures) (c .n .given .1))
+
+-- what is left to show once the dimension is read
+past-size : (c : tie.After-n) {x : Got Packed}
+    → x ≡ after (floats binary64 false (triangle (size c)) (bytes-of c) (from c)) (λ xs. give {A = Packed} (record { rows = size c; nums = xs })) (bytes-of c)
+    → x ≡ packedMatrix (bytes-of c) (start-of c .args .at)
+unfolding packedMatrix
+past-size c t = let a = start-of c .args in tag-step (text "DP") 1 64 _ (a .s .now) (a .at) (c .before .before .tagged-dim .ensures) (c .n .given .1) t
+
 returns : tie.Need-returns
 unfolding packedMatrix
-returns c =
-    let expect-token = c .before .before .before .expect-token in
-    (step nextOf _ _ (expect-token .ensures) (c .before .e .given .1) refl, tt)
+returns c = let a = c .before .before .before .before .before .before .args in (tag-step (text "DP") 1 64 _ (a .s .now) (a .at) (c .before .before .before .tagged-dim .ensures) (c .before .e .given .1) refl, tt)
 
 add-check-f64s : tie.Need-add-check-f64s
-add-check-f64s c =
-    let start = c .before .before .before .before .before .before .before .before .before .before in
-    let a = start .args in
-    let read-dim = c .before .before .before .read-dim in
-    omega (arith, dim-in 1 64 (a .s .now) _ (told dimOf (read-dim .ensures) (c .before .n .given .1)) .1)
+add-check-f64s c = omega (arith, size-in (c .before) .1)
 
 mul-check-f64s : tie.Need-mul-check-f64s
-mul-check-f64s c =
-    let start = c .before .before .before .before .before .before .before .before .before .before in
-    let a = start .args in
-    let read-dim = c .before .before .before .read-dim in
-    let n = c .before .n in
-    product-fits _ _ (omega (arith, dim-in 1 64 (a .s .now) _ (told dimOf (read-dim .ensures) (n .given .1)) .1)) (omega (arith, dim-in 1 64 (a .s .now) _ (told dimOf (read-dim .ensures) (n .given .1)) .1))
+mul-check-f64s c = product-fits _ _ (omega (arith, size-in (c .before) .1)) (omega (arith, size-in (c .before) .1))
 
 returns-2 : tie.Need-returns-2
-unfolding packedMatrix
 returns-2 c =
-    let at-next = c .before .before .before .before .before in
-    let at-expect-token = at-next .before .before in
-    let expect-token = at-expect-token .expect-token in
-    let next = at-next .next in
-    let read-dim = c .before .before .before .read-dim in
-    (step nextOf _ _ (expect-token .ensures) (next .given .1) (step dimOf _ _ (read-dim .ensures) (c .before .e2 .given .1) refl), tt)
+    let at-check = c .before .before .before in
+    let at-n = at-check .before .before in
+    let checked = floatsOf binary64 (triangle (size at-n)) (bytes-of at-n) (from at-n) in
+    (past-size at-n (step checked _ _ (at-check .check-f64s .ensures .0) (c .before .e2 .given .1) refl), tt)
 
 returns-3 : tie.Need-returns-3
-unfolding packedMatrix
 returns-3 c =
-    let at-n = c .before .before .before .before .before in
-    let at-read-dim = at-n .before .before in
-    let at-next = at-read-dim .before .before in
-    let at-expect-token = at-next .before .before in
-    let start = at-expect-token .before .before .before in
-    let expect-token = at-expect-token .expect-token in
-    let next = at-next .next in
-    let read-dim = at-read-dim .read-dim in
-    let n = at-n .n in
-    let a = start .args in
-    let check-f64s = c .before .before .before .check-f64s in
-    (step nextOf _ _ (expect-token .ensures) (next .given .1) (step dimOf _ _ (read-dim .ensures) (n .given .1) (step (floatsOf binary64 (triangle (n .given .0 .0)) (a .s .now) (n .given .0 .1 .0)) _ _ (check-f64s .ensures .0) (c .before .e3 .given .1) refl)), tt)
-
-returns-4 : tie.Need-returns-4
-unfolding packedMatrix
-returns-4 c =
-    let at-n = c .before .before .before .before .before in
-    let at-read-dim = at-n .before .before in
-    let at-next = at-read-dim .before .before in
-    let at-expect-token = at-next .before .before in
-    let start = at-expect-token .before .before .before in
-    let expect-token = at-expect-token .expect-token in
-    let next = at-next .next in
-    let read-dim = at-read-dim .read-dim in
-    let n = at-n .n in
-    let a = start .args in
-    let check-f64s = c .before .before .before .check-f64s in
-    let next2 = c .before .next2 in
-    (step nextOf _ _ (expect-token .ensures) (next .given .1) (step dimOf _ _ (read-dim .ensures) (n .given .1) (step (floatsOf binary64 (triangle (n .given .0 .0)) (a .s .now) (n .given .0 .1 .0)) _ _ (check-f64s .ensures .0) (next2 .given .1) refl)), record { ready = subst (floatsIn binary64 (triangle (n .given .0 .0)) (a .s .now) (n .given .0 .1 .0)) (next2 .given .1) (check-f64s .ensures .1); low = dim-in 1 64 (a .s .now) _ (told dimOf (read-dim .ensures) (n .given .1)) .0; high = dim-in 1 64 (a .s .now) _ (told dimOf (read-dim .ensures) (n .given .1)) .1 })
+    let is = c .before .next .given .1 in
+    let at-check = c .before .before .before in
+    let at-n = at-check .before .before in
+    let checked = floatsOf binary64 (triangle (size at-n)) (bytes-of at-n) (from at-n) in
+    let good = floatsIn binary64 (triangle (size at-n)) (bytes-of at-n) (from at-n) in (
+      past-size at-n (step checked _ _ (at-check .check-f64s .ensures .0) is refl),
+      record { ready = subst good is (at-check .check-f64s .ensures .1); low = size-in at-n .0; high = size-in at-n .1 },
+    )
 
 pub check-packed-double-spec : {M : Type 1} → statement M
 check-packed-double-spec =
     tie.close
-    (tie.spec (λ c. search needs) (λ c κs. search needs) (λ c. search needs) (λ c. search needs) returns (λ c κs. search needs) (λ c. search needs)
-    (λ c. search needs) add-check-f64s mul-check-f64s (λ c κs. search needs) (λ c. search needs) (λ c. search needs) returns-2 returns-3 returns-4)
+    (tie.spec (λ c. search needs) (λ c κs. search needs) (λ c. search needs) (λ c. search needs) add-check-f64s mul-check-f64s (λ c κs. search needs)
+    (λ c. search needs) (λ c. search needs) returns returns-2 returns-3)

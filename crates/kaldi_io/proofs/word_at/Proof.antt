@@ -1,4 +1,5 @@
--- `kaldi_io::word_at` meets its contract: the word starts where the blanks end, and ends at the next blank. `Bytes` says that the definition's `word` finds it there, or refuses where no blank ends it.
+-- `word_at` meets its contract: the word starts where the blanks end, and ends at the next blank. `word-yes` and `word-short` say that the
+-- definition's `word` finds it there, or refuses where no blank ends it (Bytes.antt).
 use native.Mathlib.Omega.{arith}
 use borrow.Author.Needs.{needs}
 use Rattle.kaldi_io.proofs.Bytes.{word-short, word-yes}

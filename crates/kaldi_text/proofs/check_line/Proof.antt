@@ -12,8 +12,9 @@ use Rattle.kaldi_text.proofs.check_line.Tie as tie
 
 check-row-requires : tie.Need-check-row-requires
 check-row-requires c κs =
-    let a = c .before .before .args in
-    let pre = c .before .before .pre in
+    let start = c .before .before in
+    let a = start .args in
+    let pre = start .pre in
     (omega (arith, c .skip-spaces .ensures, run-within space (a .s .now) (a .at) (pre .0)), pre .1)
 
 returns : tie.Need-returns

@@ -23,10 +23,12 @@ loop-holds c = (search needs, refl)
 
 loop-again : tie.Need-loop-again Inv-loop μ-loop
 loop-again c =
+    let at-loop = c .before .before .before .before in
+    let start = at-loop .before .before in
     let if1 = c .if1 in
-    let loop = c .before .before .before .before .loop in
+    let loop = at-loop .loop in
     let digit-value = c .before .digit-value in
-    let a = c .before .before .before .before .before .before .args in
+    let a = start .args in
     let is : if1 .x ≡ min (loop .x * 10 + digit-value .result) (a .cap) = ⊎-elim (λ w. omega arith) (λ w. omega arith) (if1 .came) in
     (omega arith, loop .inv .1 ∙ decimal-turn (a .s .now) (loop .i) (a .to) (loop .x) (a .cap) (omega arith) (omega arith) (digit-value .ensures .0) is)
 

@@ -10,15 +10,17 @@ use Rattle.kaldi_text.proofs.expect_bracket.Tie as tie
 
 add-t7 : tie.Need-add-t7
 add-t7 c =
-    let a = c .before .before .before .before .args in
+    let start = c .before .before .before .before in
+    let a = start .args in
     omega (arith, here-inside _ (a .s .now) (c .before .before .skip-spaces .result) (sym (c .before .byte-here .ensures) ∙ c .if1 .taken))
 
 returns : tie.Need-returns
 returns c =
+    let start = c .before .before .before .before in
     let skip-spaces = c .before .before .skip-spaces in
     let byte-here = c .before .byte-here in
     let if1 = c .if1 in
-    let a = c .before .before .before .before .args in
+    let a = start .args in
     (bracket-yes _ _ (skip-spaces .ensures) _ (sym (byte-here .ensures) ∙ if1 .taken), omega (arith, here-inside _ (a .s .now) (skip-spaces .result) (sym (byte-here .ensures) ∙ if1 .taken)))
 
 returns-2 : tie.Need-returns-2

@@ -20,7 +20,8 @@ returns-3 c = finished-low _ _ _ _ _ _ (omega arith) (omega arith) (omega arith)
 
 returns-4 : tie.Need-returns-4
 returns-4 c =
-    let a = c .before .before .before .before .args in
+    let start = c .before .before .before .before in
+    let a = start .args in
     ap (λ (x : Float). read x (a .next)) (c .decimal .ensures) ∙ finished-yes _ _ _ _ _ _ (omega arith) (omega arith) (omega arith)
 
 pub finish-spec : {M : Type 1} → statement M

@@ -21,7 +21,8 @@ returns-4 c = kind-exponent _ (c .match .keys4)
 
 returns-5 : tie.Need-returns-5
 returns-5 c =
-    let a = c .before .before .before .before .before .args in
+    let start = c .before .before .before .before .before in
+    let a = start .args in
     kind-digit (a .b) (omega arith) (omega arith) (omega arith) (omega arith) (omega arith) (omega arith) (in-range 48 57 (a .b) (omega arith) (omega arith)) (too-high 9 13 (a .b) (omega arith) (omega arith))
 
 returns-6 : tie.Need-returns-6
@@ -31,13 +32,16 @@ returns-6 c =
 
 returns-7 : tie.Need-returns-7
 returns-7 c =
-    let a = c .before .before .before .before .args in
+    let start = c .before .before .before .before in
+    let a = start .args in
     kind-other (a .b) (omega arith) (omega arith) (omega arith) (omega arith) (omega arith) (omega arith) (too-low 48 57 (a .b) (omega arith)) (too-high 9 13 (a .b) (omega arith) (omega arith))
 
 returns-8 : tie.Need-returns-8
 returns-8 c =
-    let a = c .before .before .before .before .before .args in
-    let match = c .before .before .before .before .match in
+    let at-match = c .before .before .before .before in
+    let start = at-match .before in
+    let a = start .args in
+    let match = at-match .match in
     kind-other (a .b) (omega arith) (omega arith) (omega arith) (λ e. match .rest .0 .1 (inl e)) (λ e. match .rest .0 .1 (inr e)) (omega arith) (too-high 48 57 (a .b) (omega arith) (omega arith)) (too-high 9 13 (a .b) (omega arith) (omega arith))
 
 returns-9 : tie.Need-returns-9

@@ -17,34 +17,42 @@ use Rattle.kaldi_text.proofs.read_exponent.Tie as tie
 
 add-read-sign : tie.Need-add-read-sign
 add-read-sign c =
-    let a = c .before .before .before .before .args in
+    let start = c .before .before .before .before in
+    let a = start .args in
     omega (arith, here-inside _ (a .s .now) (a .at) (sym (c .before .before .kind-at .ensures .exponent) ∙ ap (λ (k : Kind). eqb (tag k) 3) (c .enum-told .given .1)))
 
 read-sign-requires : tie.Need-read-sign-requires
 read-sign-requires c κs =
-    let a = c .before .before .before .before .args in
+    let start = c .before .before .before .before in
+    let a = start .args in
     omega (arith, here-inside _ (a .s .now) (a .at) (sym (c .before .before .kind-at .ensures .exponent) ∙ ap (λ (k : Kind). eqb (tag k) 3) (c .enum-told .given .1)))
 
 returns : tie.Need-returns
 returns c =
-    let a = c .before .before .before .before .before .before .before .args in
+    let at-kind-at = c .before .before .before .before .before in
+    let start = at-kind-at .before .before in
+    let a = start .args in
     let read-sign = c .before .before .read-sign in
-    let kind-at = c .before .before .before .before .before .kind-at in
+    let kind-at = at-kind-at .kind-at in
     let enum-told = c .before .before .before .enum-told in
     (ap capped (power-none (a .s .now) (a .at + 1) (read-sign .ensures .1) (c .before .skip-digits .ensures) (omega (arith, run-within (within 48 57) (a .s .now) (read-sign .result .next) (read-sign .ensures .0))) (c .if1 .taken) ∙ exponent-some _ _ (sym (kind-at .ensures .exponent) ∙ ap (λ (k : Kind). eqb (tag k) 3) (enum-told .given .1))), tt)
 
 decimal-of-requires : tie.Need-decimal-of-requires
 decimal-of-requires c κs =
-    let a = c .before .before .before .before .before .before .before .args in
+    let start = c .before .before .before .before .before .before .before in
+    let a = start .args in
     let read-sign = c .before .before .read-sign in
     ((omega (arith, run-within (within 48 57) (a .s .now) (read-sign .result .next) (read-sign .ensures .0))), omega arith)
 
 returns-2 : tie.Need-returns-2
 returns-2 c =
-    let a = c .before .before .before .before .before .before .before .before .args in
+    let at-enum-told = c .before .before .before .before in
+    let at-kind-at = at-enum-told .before .before in
+    let start = at-kind-at .before .before in
+    let a = start .args in
     let read-sign = c .before .before .before .read-sign in
-    let kind-at = c .before .before .before .before .before .before .kind-at in
-    let enum-told = c .before .before .before .before .enum-told in
+    let kind-at = at-kind-at .kind-at in
+    let enum-told = at-enum-told .enum-told in
     (power-some (a .s .now) (a .at + 1) (read-sign .ensures .1) (c .before .before .skip-digits .ensures) (omega (arith, run-within (within 48 57) (a .s .now) (read-sign .result .next) (read-sign .ensures .0))) (c .before .if1 .left) (c .decimal-of .ensures) ∙ ap capped (exponent-some _ _ (sym (kind-at .ensures .exponent) ∙ ap (λ (k : Kind). eqb (tag k) 3) (enum-told .given .1))), omega arith)
 
 returns-3 : tie.Need-returns-3

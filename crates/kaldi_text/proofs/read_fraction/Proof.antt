@@ -17,12 +17,14 @@ use Rattle.kaldi_text.proofs.read_fraction.Tie as tie
 
 add-from : tie.Need-add-from
 add-from c =
-    let a = c .before .before .before .before .args in
+    let start = c .before .before .before .before in
+    let a = start .args in
     omega (arith, here-inside _ (a .s .now) (a .at) (sym (c .before .before .kind-at .ensures .point) ∙ ap (λ (k : Kind). eqb (tag k) 2) (c .enum-told .given .1)))
 
 returns : tie.Need-returns
 returns c =
-    let a = c .before .before .before .before .before .args in
+    let start = c .before .before .before .before .before in
+    let a = start .args in
     let kind-at = c .before .before .before .kind-at in
     let enum-told = c .before .enum-told in
     (digits-are (a .s .now) _ (c .skip-digits .ensures) ∙ fraction-some _ _ (sym (kind-at .ensures .point) ∙ ap (λ (k : Kind). eqb (tag k) 2) (enum-told .given .1)), (omega arith, omega (arith, run-within (within 48 57) (a .s .now) (a .at + 1) (omega (arith, here-inside _ (a .s .now) (a .at) (sym (kind-at .ensures .point) ∙ ap (λ (k : Kind). eqb (tag k) 2) (enum-told .given .1)))))))

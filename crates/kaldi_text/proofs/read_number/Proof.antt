@@ -1,99 +1,96 @@
 -- `read_number` meets its contract: sign, digits, fraction and exponent make the definition's `number`; a number without digits, one with a
 -- faulty exponent, and one of either sign of exponent are the four ways out (`number-..` in Numbers.antt).
 use mathlib.Core.Path.{_∙_, subst}
+use Prim.Native.Nat.{_≤_}
 use native.Mathlib.Omega.{arith}
 use borrow.Author.Needs.{needs}
+use lib.ListN.{length}
 use Rattle.definition.specs.Options.{within}
 use Rattle.kaldi_io.proofs.Chain.{ends}
+use Rattle.kaldi_text.specs.declared.Power.the-variants as P
 use Rattle.kaldi_text.specs.Steps.{powerOf, powerIn}
-use Rattle.kaldi_text.proofs.Numbers.{run-within, number-empty, number-refused, number-under, number-over}
+use Rattle.kaldi_text.proofs.Numbers.{run-within, Parts, number-empty, number-refused, number-under, number-over}
 use Rattle.kaldi_text.proofs.read_number.Statement.{statement}
 use Rattle.kaldi_text.proofs.read_number.Tie as tie
 
+-- the digits end inside the text
+digits-inside : (c : tie.After-skip-digits) → c .skip-digits .result ≤ length (c .before .before .before .args .s .now)
+digits-inside c =
+    let at = c .before in
+    omega (arith, run-within (within 48 57) (at .before .before .args .s .now) (at .read-sign .result .next) (at .read-sign .ensures .0))
+
+abbrev start-of : tie.After-read-fraction → tie.Start
+start-of c = c .before .before .before .before
+
+-- what was read in front of the exponent
+parts : (c : tie.After-read-fraction) →
+    let a = start-of c .args in
+    let lead = c .before .before .read-sign .result in
+    let part = c .read-fraction .result in
+    Parts (a .s .now) (a .at) (lead .minus) (lead .next) (c .before .skip-digits .result) (part .from) (part .to)
+parts c =
+    let part = c .read-fraction .ensures in
+    record {
+      lead = c .before .before .read-sign .ensures .1;
+      ends = c .before .skip-digits .ensures;
+      inside = digits-inside (c .before);
+      part = part .0;
+      order = part .1 .0;
+      fits = part .1 .1;
+    }
+
+-- an exponent that was read: the fraction in front of it, and its size
+abbrev fraction-of : tie.After-under → tie.After-read-fraction
+fraction-of c = c .before .before .before .before
+
+small : (c : tie.After-under) → powerIn (P.Is (c .under .given .0 .0) (c .under .given .0 .1 .0) (c .under .given .0 .1 .1 .0))
+small c = subst powerIn (c .under .given .1) (c .before .before .read-exponent .ensures .1)
+
+-- and how few digits stand in front of it
+short : (c : tie.After-read-fraction) → (c .read-fraction .result .to ≤ length (start-of c .args .s .now)) × (length (start-of c .args .s .now) ≤ 65536)
+short c = (c .read-fraction .ensures .1 .1, start-of c .pre .1)
+
 read-fraction-requires : tie.Need-read-fraction-requires
-read-fraction-requires c κs =
-    let a = c .before .before .before .args in
-    let read-sign = c .before .read-sign in
-    omega (arith, run-within (within 48 57) (a .s .now) (read-sign .result .next) (read-sign .ensures .0))
+read-fraction-requires c κs = digits-inside c
 
 add-if1 : tie.Need-add-if1
-add-if1 c =
-    let a = c .before .before .before .before .args in
-    let read-sign = c .before .before .read-sign in
-    omega (arith, run-within (within 48 57) (a .s .now) (read-sign .result .next) (read-sign .ensures .0), c .read-fraction .ensures .1)
+add-if1 c = omega (arith, digits-inside (c .before), c .read-fraction .ensures .1)
 
 returns : tie.Need-returns
-returns c =
-    let a = c .before .before .before .before .before .args in
-    let read-sign = c .before .before .before .read-sign in
-    let read-fraction = c .before .read-fraction in
-    number-empty (a .s .now) (a .at) (read-sign .ensures .1) (c .before .before .skip-digits .ensures) (omega (arith, run-within (within 48 57) (a .s .now) (read-sign .result .next) (read-sign .ensures .0))) (read-fraction .ensures .0) (read-fraction .ensures .1 .0) (read-fraction .ensures .1 .1) (c .if1 .taken)
+returns c = number-empty (parts (c .before)) (c .if1 .taken)
 
 decimal-of-requires : tie.Need-decimal-of-requires
-decimal-of-requires c κs =
-    let a = c .before .before .before .before .before .before .before .before .before .args in
-    let read-sign = c .before .before .before .before .before .before .before .read-sign in
-    ((omega (arith, run-within (within 48 57) (a .s .now) (read-sign .result .next) (read-sign .ensures .0))), omega arith)
+decimal-of-requires c κs = (digits-inside (fraction-of (c .before) .before), omega arith)
 
 add-finish : tie.Need-add-finish
-add-finish c =
-    let under = c .before .before .before .before .under in
-    let read-exponent = c .before .before .before .before .before .before .read-exponent in
-    let read-fraction = c .before .before .before .before .before .before .before .before .read-fraction in
-    let pre = c .before .before .before .before .before .before .before .before .before .before .before .before .pre in
-    omega (arith, subst powerIn (under .given .1) (read-exponent .ensures .1), read-fraction .ensures .1 .1, pre .1)
+add-finish c = let at = c .before .before .before .before in omega (arith, small at, short (fraction-of at))
 
 finish-requires : tie.Need-finish-requires
-finish-requires c κs =
-    let under = c .before .before .before .before .under in
-    let read-exponent = c .before .before .before .before .before .before .read-exponent in
-    let read-fraction = c .before .before .before .before .before .before .before .before .read-fraction in
-    let pre = c .before .before .before .before .before .before .before .before .before .before .before .before .pre in
-    omega (arith, subst powerIn (under .given .1) (read-exponent .ensures .1), read-fraction .ensures .1 .1, pre .1)
+finish-requires c κs = let at = c .before .before .before .before in omega (arith, small at, short (fraction-of at))
 
 finish-requires-2 : tie.Need-finish-requires-2
-finish-requires-2 c κs =
-    let under = c .before .before .before .before .under in
-    let read-exponent = c .before .before .before .before .before .before .read-exponent in
-    let read-fraction = c .before .before .before .before .before .before .before .before .read-fraction in
-    let pre = c .before .before .before .before .before .before .before .before .before .before .before .before .pre in
-    omega (arith, subst powerIn (under .given .1) (read-exponent .ensures .1), read-fraction .ensures .1 .1, pre .1)
+finish-requires-2 c κs = let at = c .before .before .before .before in omega (arith, small at, short (fraction-of at))
 
 returns-2 : tie.Need-returns-2
 returns-2 c =
-    let a = c .before .before .before .before .before .before .before .before .before .args in
-    let read-sign = c .before .before .before .before .before .before .before .read-sign in
-    let skip-digits = c .before .before .before .before .before .before .skip-digits in
-    let read-fraction = c .before .before .before .before .before .read-fraction in
-    let if1 = c .before .before .before .before .if1 in
-    let read-exponent = c .before .before .before .read-exponent in
-    number-refused (a .s .now) (a .at) (read-sign .ensures .1) (skip-digits .ensures) (omega (arith, run-within (within 48 57) (a .s .now) (read-sign .result .next) (read-sign .ensures .0))) (read-fraction .ensures .0) (read-fraction .ensures .1 .0) (read-fraction .ensures .1 .1) (if1 .left) (ends powerOf (read-exponent .ensures .0) (c .before .e .given .1))
+    let at = c .before .before .before in
+    number-refused (parts (at .before .before)) (at .before .if1 .left) (ends powerOf (at .read-exponent .ensures .0) (c .before .e .given .1))
 
 returns-3 : tie.Need-returns-3
 returns-3 c =
-    let a = c .before .before .before .before .before .before .before .before .before .before .before .before .before .args in
-    let read-sign = c .before .before .before .before .before .before .before .before .before .before .before .read-sign in
-    let skip-digits = c .before .before .before .before .before .before .before .before .before .before .skip-digits in
-    let read-fraction = c .before .before .before .before .before .before .before .before .before .read-fraction in
-    let if1 = c .before .before .before .before .before .before .before .before .if1 in
-    let read-exponent = c .before .before .before .before .before .before .before .read-exponent in
-    let under = c .before .before .before .before .before .under in
-    let decimal-of = c .before .before .before .decimal-of in
-    let pre = c .before .before .before .before .before .before .before .before .before .before .before .before .before .pre in
-    c .finish .ensures ∙ number-under (a .s .now) (a .at) (read-sign .ensures .1) (skip-digits .ensures) (omega (arith, run-within (within 48 57) (a .s .now) (read-sign .result .next) (read-sign .ensures .0))) (read-fraction .ensures .0) (read-fraction .ensures .1 .0) (read-fraction .ensures .1 .1) (if1 .left) (ends powerOf (read-exponent .ensures .0) (under .given .1)) (decimal-of .ensures) (c .before .before .decimal-of2 .ensures) (c .before .if2 .taken) (omega (arith, read-fraction .ensures .1 .1, pre .1))
+    let at-two = c .before .before in
+    let at = at-two .before .before .before in
+    let at-power = at .before .before in
+    c .finish .ensures ∙ number-under (parts (fraction-of at)) (at-power .before .if1 .left) (ends powerOf (at-power .read-exponent .ensures .0) (at .under .given .1))
+    (at-two .before .decimal-of .ensures) (at-two .decimal-of2 .ensures) (c .before .if2 .taken) (omega (arith, short (fraction-of at)))
 
 returns-4 : tie.Need-returns-4
 returns-4 c =
-    let a = c .before .before .before .before .before .before .before .before .before .before .before .before .before .args in
-    let read-sign = c .before .before .before .before .before .before .before .before .before .before .before .read-sign in
-    let skip-digits = c .before .before .before .before .before .before .before .before .before .before .skip-digits in
-    let read-fraction = c .before .before .before .before .before .before .before .before .before .read-fraction in
-    let if1 = c .before .before .before .before .before .before .before .before .if1 in
-    let read-exponent = c .before .before .before .before .before .before .before .read-exponent in
-    let under = c .before .before .before .before .before .under in
-    let decimal-of = c .before .before .before .decimal-of in
-    let pre = c .before .before .before .before .before .before .before .before .before .before .before .before .before .pre in
-    c .finish2 .ensures ∙ number-over (a .s .now) (a .at) (read-sign .ensures .1) (skip-digits .ensures) (omega (arith, run-within (within 48 57) (a .s .now) (read-sign .result .next) (read-sign .ensures .0))) (read-fraction .ensures .0) (read-fraction .ensures .1 .0) (read-fraction .ensures .1 .1) (if1 .left) (ends powerOf (read-exponent .ensures .0) (under .given .1)) (decimal-of .ensures) (c .before .before .decimal-of2 .ensures) (c .before .if2 .left) (omega (arith, read-fraction .ensures .1 .1, pre .1))
+    let at-two = c .before .before in
+    let at = at-two .before .before .before in
+    let at-power = at .before .before in
+    c .finish2 .ensures ∙ number-over (parts (fraction-of at)) (at-power .before .if1 .left) (ends powerOf (at-power .read-exponent .ensures .0) (at .under .given .1))
+    (at-two .before .decimal-of .ensures) (at-two .decimal-of2 .ensures) (c .before .if2 .left) (omega (arith, short (fraction-of at)))
 
 pub read-number-spec : {M : Type 1} → statement M
 read-number-spec =

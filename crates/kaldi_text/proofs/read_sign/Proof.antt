@@ -15,13 +15,15 @@ use Rattle.kaldi_text.proofs.read_sign.Tie as tie
 
 add-t6 : tie.Need-add-t6
 add-t6 c =
-    let a = c .before .before .before .before .before .args in
+    let start = c .before .before .before .before .before in
+    let a = start .args in
     let kind-at = c .before .before .before .kind-at in
     omega (arith, here-inside _ (a .s .now) (a .at) (sym (kind-at .ensures .sign) ∙ ap (λ (k : Kind). eqb (tag k) 1) (c .before .minus .given .1)))
 
 returns : tie.Need-returns
 returns c =
-    let a = c .before .before .before .before .before .args in
+    let start = c .before .before .before .before .before in
+    let a = start .args in
     let kind-at = c .before .before .before .kind-at in
     let minus = c .before .minus in
     (omega (arith, here-inside _ (a .s .now) (a .at) (sym (kind-at .ensures .sign) ∙ ap (λ (k : Kind). eqb (tag k) 1) (minus .given .1))), sign-some _ _ (sym (ap isMinus (minus .given .1)) ∙ kind-at .ensures .minus) (sym (kind-at .ensures .sign) ∙ ap (λ (k : Kind). eqb (tag k) 1) (minus .given .1)))
