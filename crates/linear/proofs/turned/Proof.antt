@@ -6,7 +6,7 @@ use Rattle.floats.specs.Operators.{_-₆₄_, _*₆₄_, at}
 use Rattle.loops.specs.Loop.{iter}
 use Rattle.loops.proofs.Loop.{loops}
 use lib.Ieee.{nan}
-use Rattle.packed_matrix.proofs.Rooms.{updated}
+use Rattle.loops.proofs.Fill.{updated-whole}
 use Rattle.linear.proofs.turned.Statement.{statement}
 use Rattle.linear.proofs.turned.Tie as tie
 
@@ -51,7 +51,7 @@ same-length : tie.Need-same-length Inv-loop μ-loop
 same-length c = search loops
 
 returns : tie.Need-returns Inv-loop μ-loop
-returns c = updated nan (λ i v. (c .before .before .args) .beta *₆₄ v -₆₄ at ((c .before .before .args) .r .now) i) _ _ _ ((c .before .loop) .inv .0) ((c .loop-test) .left) ((c .before .before .pre) .1) ((c .before .loop) .inv .2)
+returns c = updated-whole nan (λ i v. (c .before .before .args) .beta *₆₄ v -₆₄ at ((c .before .before .args) .r .now) i) _ _ _ ((c .before .loop) .inv .0) ((c .loop-test) .left) ((c .before .before .pre) .1) ((c .before .loop) .inv .2)
 
 pub turned-spec : {M : Type 1} → statement M
 turned-spec =
