@@ -3,24 +3,19 @@ use mathlib.Core.Path.{_≡_, refl, sym, ap, _∙_}
 use mathlib.Core.List.{List, _++_}
 use Prim.Native.Nat.{ℕ, _+_, _-_, _*_, _≤_}
 use native.Mathlib.Omega.{arith}
-use lib.ListN.{length, getD, set, take, drop, replicate, length-replicate}
+use lib.ListN.{length, take, drop, replicate, length-replicate}
 use lib.Ieee.{Float, nan, binary64}
 use Rattle.loops.specs.Loop.{iter}
 use Rattle.loops.specs.Lists.{build}
 use Rattle.loops.specs.Steps.{fill}
 use Rattle.loops.specs.Ring.{put}
-use Rattle.loops.proofs.Loop.{iter-end}
 use Rattle.loops.proofs.Build.{length-build, build-ext, build-same}
-use Rattle.loops.proofs.Fill.{fill-ext, fill-whole, iter-fill, put-back}
+use Rattle.loops.proofs.Fill.{fill-ext, fill-whole, put-back}
 use Rattle.loops.proofs.Columns.{columns-turn}
 use Rattle.loops.proofs.Parts.{lent-is, length-lent, at-part}
 use Rattle.basics.proofs.Rows.{times-comm}
 use Rattle.floats.specs.Operators.{_+₆₄_, _*₆₄_, zero₆₄, at, sum₆₄}
 
--- a loop that makes each place from its old value, at its end
-pub updated : {A : Type 0} (d : A) (g : ℕ → A → A) (i n : ℕ) (x : List A) {s : List A} → i ≤ n → n ≤ i → n ≡ length x → s ≡ iter i (λ k s. set s k (g k (getD s k d))) x
-    → s ≡ fill (length x) (λ k. g k (getD x k d)) x
-updated d g i n x p q l e = iter-end _ x i n p q e ∙ ap (λ (n : ℕ). iter n (λ k s. set s k (g k (getD s k d))) x) l ∙ iter-fill d g (length x) x (omega arith)
 
 -- ---- a part that is lent, and comes back
 

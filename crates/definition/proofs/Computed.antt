@@ -27,5 +27,16 @@ use Rattle.definition.specs.Stream.{recordSound, infoSound, sameTables, 
 use Rattle.definition.specs.Silence.{infoAt, tableIn, segments, samePhone, marked, traced, before, carried, walked, weighted, decoderFrames, inputFrame, deltaWeights, settingsRefusal, newTable, active, tableBroken, tracebackTests, asked, askedTable, deltaTests, computeCurrentTraceback, getDeltaWeights, silenceAnswer}
 
 unfoldable pub computed : Unit {0}
-unfolding add sub mul div neg lt le eq ne isNan ofInt ofBits toBits round iter leave build flat those anyOf allOf over firstOf place put total₆₄ narrowed rootBy twiceRoot squareRoot chained lnSum lnOf series squares expOf larger smaller absolute scaled optionsInRange dimsInRange dimsAgree times bytes run here littleEndian numbers kept floats binary blank word token dim vector skipped matrix packedMatrix weightsHeading gmm rowless extractorHeading single alike extractor lda sign digits fraction digitsValue signedDigits exponent toNearest number space stop skip row line byte bracket ending cmvnRows cmvn gconst transposed packed sigmaInvM quadraticTerm contentsAgree tablesOf tablesFit judged loading load smoothed windowed cmvnState cmvnFrame spliceAt rawRow normalisedRow ldaFrame loglikes insert sorted pruned ranked bestOf renormalised selectPosteriors minPostFor weighed unweighted posteriors addDiagonal newStats rescaled seen sumFor accLinear accQuadratic acc dot spMatVec lessProducts cell factor forward backward solvedOr begun turn linearCgd priorVector getIvector insertChange changed reached mergedFrom merged batch entries accumulated updated allFrames framesHeld rowsHeld framesReady forgotten pushTests changeTests fetchTests notFinite fresh fetched caughtUp does toldBy answer machineAfter answersFrom answers recordSound infoSound sameTables streamScratch roomsFit newRefusal rising breaks isBroken sameRings sameRooms infoAt tableIn segments samePhone marked traced before carried walked weighted decoderFrames inputFrame deltaWeights settingsRefusal newTable active tableBroken tracebackTests asked askedTable deltaTests computeCurrentTraceback getDeltaWeights silenceAnswer
+unfolding add sub mul div neg lt le eq ne isNan ofInt ofBits toBits round iter leave build flat those anyOf allOf over firstOf place put total₆₄
+    narrowed rootBy twiceRoot squareRoot chained lnSum lnOf series squares expOf larger smaller absolute scaled optionsInRange dimsInRange dimsAgree
+    times bytes run here littleEndian numbers kept floats binary blank word token dim vector skipped matrix packedMatrix weightsHeading gmm rowless
+    extractorHeading single alike extractor lda sign digits fraction digitsValue signedDigits exponent toNearest number space stop skip row line byte
+    bracket ending cmvnRows cmvn gconst transposed packed sigmaInvM quadraticTerm contentsAgree tablesOf tablesFit judged loading load smoothed windowed
+    cmvnState cmvnFrame spliceAt rawRow normalisedRow ldaFrame loglikes insert sorted pruned ranked bestOf renormalised selectPosteriors minPostFor
+    weighed unweighted posteriors addDiagonal newStats rescaled seen sumFor accLinear accQuadratic acc dot spMatVec lessProducts cell factor forward
+    backward solvedOr begun turn linearCgd priorVector getIvector insertChange changed reached mergedFrom merged batch entries accumulated updated
+    allFrames framesHeld rowsHeld framesReady forgotten pushTests changeTests fetchTests notFinite fresh fetched caughtUp does toldBy answer machineAfter
+    answersFrom answers recordSound infoSound sameTables streamScratch roomsFit newRefusal rising breaks isBroken sameRings sameRooms infoAt tableIn
+    segments samePhone marked traced before carried walked weighted decoderFrames inputFrame deltaWeights settingsRefusal newTable active tableBroken
+    tracebackTests asked askedTable deltaTests computeCurrentTraceback getDeltaWeights silenceAnswer
 computed = tt

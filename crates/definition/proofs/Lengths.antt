@@ -1,6 +1,6 @@
--- The lists of a stream's numbers keep their lengths.
+-- How long the tables of a model are, and that the lists of a stream's numbers keep their lengths.
 use mathlib.Core.Path.{_≡_, refl, ap, _∙_}
-use Prim.Native.Nat.{ℕ, _+_, _-_, _*_, min}
+use Prim.Native.Nat.{ℕ, _+_, _*_, min}
 use mathlib.Core.Bool.{Bool, _&&_}
 use mathlib.Core.List.{List, [], _∷_}
 use lib.ListN.{length, set, replicate, length-append, length-set, length-replicate}
@@ -11,12 +11,14 @@ use Rattle.loops.proofs.Choose.{by-test}
 use Rattle.loops.proofs.Loop.{iter-keeps}
 use Rattle.loops.proofs.Leave.{leave-keeps}
 use Rattle.loops.proofs.Build.{length-build}
+use Rattle.loops.proofs.Flat.{length-cells}
+use Rattle.loops.proofs.Triangle.{length-triangle}
 use Rattle.floats.specs.Operators.{_+₆₄_, _-₆₄_, _*₆₄_, _/₆₄_, zero₆₄, asF64, at}
 use Rattle.floats.specs.Extremes.{larger}
 use Rattle.definition.specs.declared.IvectorOptions.{IvectorOptions}
 use Rattle.definition.specs.Options.{width}
-use Rattle.definition.specs.Kaldi.{triangle}
-use Rattle.definition.specs.Model.{Model}
+use Rattle.definition.specs.Kaldi.{Matrix, triangle}
+use Rattle.definition.specs.Model.{Model, transposed, sigmaInvM, quadraticTerm}
 use Rattle.definition.specs.Views.{Frames, smoothed, windowed, cmvnState, normalisedRow}
 use Rattle.definition.specs.Statistics.{Stats, Entry, addDiagonal, newStats, rescaled, accLinear, accQuadratic, acc}
 use Rattle.definition.specs.Solve.{Cgd, dot, spMatVec, residualFar, residualLast, residualWorse, backward, solvedOr, factor, begun, residual, turn, linearCgd, priorVector, getIvector}
@@ -25,6 +27,20 @@ use Rattle.definition.specs.Estimate.{Estimate, entries, accumulated, up
 
 if-long : (t : Bool) (a b : List Float) (n : ℕ) → length a ≡ n → length b ≡ n → length (if t then a else b) ≡ n
 if-long t a b n p q = by-test t (λ e. rw e p) (λ e. rw e q)
+
+-- ---- the tables of a model
+
+pub length-transposed : (n : ℕ) (x : Matrix) → length (transposed n x) ≡ n * x .rows
+unfolding transposed
+length-transposed n x = length-cells n (x .rows) _
+
+pub length-sigma : (d s : ℕ) (si m : List Float) → length (sigmaInvM d s si m) ≡ d * s
+unfolding sigmaInvM
+length-sigma d s si m = length-cells d s _
+
+pub length-quadratic : (d s : ℕ) (m sim : List Float) → length (quadraticTerm d s m sim) ≡ triangle s
+unfolding quadraticTerm
+length-quadratic d s m sim = length-triangle _ s
 
 -- ---- the CMVN state
 

@@ -20,7 +20,7 @@ use Rattle.definition.specs.Kaldi.{triangle}
 use Rattle.definition.specs.Model.{tableSizes, tableLengths, tablesFit}
 use Rattle.definition.specs.Stream.{recordSound, infoSound, streamScratch, estimateSizes, estimateLengths, roomsFit}
 
-in-limits : (low high n : ℕ) → within low high n ≡ true → (low ≤ n) × (n ≤ high)
+pub in-limits : (low high n : ℕ) → within low high n ≡ true → (low ≤ n) × (n ≤ high)
 in-limits low high n e = let h = and-holds (leb low n) (leb n high) e in (leb-true low n (h .0), leb-true n high (h .1))
 
 pub record OptionRanges (o : IvectorOptions) : Type 0 where

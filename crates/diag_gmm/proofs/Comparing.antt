@@ -1,6 +1,7 @@
 -- What tests of floats tell.
 use mathlib.Core.Path.{_≡_, refl, ap, _∙_, sym}
-use mathlib.Core.Bool.{Bool, true, false, not, true≢false, false≢true}
+use mathlib.Core.Bool.{true, false, true≢false}
+use borrow.Author.Tests.{not-true, not-false}
 use lib.Ieee.{Float, nan, inf, fin, isNan, lt, eq, ne}
 use Rattle.floats.specs.Extremes.{larger}
 use Rattle.floats.proofs.Patterns.{is-nan}
@@ -9,14 +10,6 @@ use Rattle.floats.proofs.Patterns.{is-nan}
 pub nan-is : (x : Float) → ne x x ≡ true → isNan x ≡ true
 unfolding isNan
 nan-is x e = ap isNan (is-nan x e)
-
-not-true : (b : Bool) → not b ≡ true → b ≡ false
-not-true true e = absurd (false≢true e)
-not-true false e = refl
-
-not-false : (b : Bool) → not b ≡ false → b ≡ true
-not-false true e = refl
-not-false false e = absurd (true≢false e)
 
 pub differs : (x y : Float) → ne x y ≡ true → eq x y ≡ false
 unfolding ne

@@ -2,7 +2,8 @@
 use mathlib.Core.Path.{_≡_, refl, sym, ap, _∙_, subst}
 use mathlib.Core.Bool.{not}
 use Prim.Native.Nat.{ℕ, zero, suc, _+_, _-_, _*_, _/_, _%_, _^_, _≤_, _<_, compare, Ordering, Ordering·lt, Ordering·eq, Ordering·gt}
-use native.Mathlib.Nat.{le-trans, lt-of-lt-of-le, lt-of-le-of-lt, mod-eq-of-lt, mod-eq-sub-div-mul, div-mul-le-self, div-eq-of-lt, le-div-iff-mul-le, add-mul, mul-assoc, mul-left-comm, one-mul, pow-suc}
+use native.Mathlib.Nat.{le-trans, lt-of-lt-of-le, lt-of-le-of-lt, mod-eq-of-lt, mod-eq-sub-div-mul, div-mul-le-self, div-eq-of-lt, le-div-iff-mul-le, add-mul, mul-assoc, mul-left-comm, one-mul, pow-suc, add-zero}
+use native.Mathlib.Numerals.{suc-eq-add-one}
 use native.Mathlib.Omega.{arith}
 use lib.Dec.{T, isLe, isEq, eqb, leb→le, nleb→lt, eqb→eq, eqb-refl, lit<}
 use lib.Arith.{lt-of-le-ne, digits-div, digits-mod}
@@ -10,6 +11,7 @@ use lib.Pow.{pow-add, pow-pos, pow-mono, pow-lt, shr-lt}
 use lib.Ieee.{nearest}
 use lib.Ieee.Fits.{nearest-le}
 use lib.Ieee.Nearest.{closest, nearest-ge}
+use Rattle.floats.proofs.Sizes.{one-back}
 
 -- ---- by how twice the remainder compares with the divisor
 abbrev Compares : Ordering → ℕ → ℕ → Type 0
@@ -43,10 +45,7 @@ pub closest-under : (a b : ℕ) → a % b * 2 < b → closest a b ≡ a / b
 closest-under a b h = closest-by a b Ordering·lt h
 
 closest-over : (a b : ℕ) → b < a % b * 2 → closest a b ≡ a / b + 1
-closest-over a b h = closest-by a b Ordering·gt h ∙ one-more (a / b)
-  where
-    one-more : (x : ℕ) → suc x ≡ x + 1
-    one-more x = omega arith
+closest-over a b h = closest-by a b Ordering·gt h ∙ suc-eq-add-one (a / b)
 
 closest-tie : (a b : ℕ) → a % b * 2 ≡ b → closest a b ≡ a / b + a / b % 2
 closest-tie a b h = closest-by a b Ordering·eq h
@@ -58,19 +57,16 @@ closest-le q j k h = le-trans (nearest-le (q / 2 ^ k) (compare (q % 2 ^ k * 2) (
 pub closest-ge : (q j k : ℕ) → 2 ^ (j + k) ≤ q → 2 ^ j ≤ closest q (2 ^ k)
 closest-ge q j k h = le-trans (le-div-iff-mul-le (pow-pos k) .1 (subst (λ (x : ℕ). x ≤ q) (pow-add 2 j k) h)) (nearest-ge (q / 2 ^ k) (compare (q % 2 ^ k * 2) (2 ^ k)))
 
+less-than : (x d : ℕ) → x * 2 < d → x < d
+less-than x d h = omega arith
+
 -- below a half
 pub closest-none : (q b : ℕ) → q * 2 < b → closest q b ≡ 0
-closest-none q b h = closest-under q b (subst (λ (x : ℕ). x * 2 < b) (sym (mod-eq-of-lt (less q b h))) h) ∙ div-eq-of-lt (less q b h)
-  where
-    less : (q d : ℕ) → q * 2 < d → q < d
-    less q d h = omega arith
+closest-none q b h = closest-under q b (subst (λ (x : ℕ). x * 2 < b) (sym (mod-eq-of-lt (less-than q b h))) h) ∙ div-eq-of-lt (less-than q b h)
 
 -- ---- what lies between two neighbouring even numbers, 2 a and 2 a + 2, is a quarter alike
 sum-under : (q x d : ℕ) → x * 2 < d → closest (q * d + x) d ≡ q
-sum-under q x d h = closest-under (q * d + x) d (subst (λ (y : ℕ). y * 2 < d) (sym (digits-mod q (less x d h))) h) ∙ digits-div q (less x d h)
-  where
-    less : (x d : ℕ) → x * 2 < d → x < d
-    less x d h = omega arith
+sum-under q x d h = closest-under (q * d + x) d (subst (λ (y : ℕ). y * 2 < d) (sym (digits-mod q (less-than x d h))) h) ∙ digits-div q (less-than x d h)
 
 sum-over : (q x d : ℕ) → x < d → d < x * 2 → closest (q * d + x) d ≡ q + 1
 sum-over q x d l h = closest-over (q * d + x) d (subst (λ (y : ℕ). d < y * 2) (sym (digits-mod q l)) h) ∙ ap (λ (y : ℕ). y + 1) (digits-div q l)
@@ -122,11 +118,8 @@ between a p y l u = go (a % 2) refl
     never : (a r : ℕ) → a % 2 ≡ suc (suc r) → ⊥
     never a r e = omega arith
 
-    plus : (x : ℕ) → x + 0 ≡ x
-    plus x = omega arith
-
     go : (r : ℕ) → a % 2 ≡ r → closest y (4 * p) ≡ closest (2 * a + 1) 4
-    go zero e = at-even (a / 2) (halved a 0 e ∙ plus (2 * (a / 2)))
+    go zero e = at-even (a / 2) (halved a 0 e ∙ add-zero (2 * (a / 2)))
     go (suc zero) e = at-odd (a / 2) (halved a 1 e)
     go (suc (suc r)) e = absurd (never a r e)
 
@@ -159,13 +152,10 @@ module _ (a k : ℕ) (h : a < 2 ^ 64) (b : (0 < k) × (k < 64)) where
       ap (λ (x : ℕ). x % 2 ^ 64 * 2) (one-mul (2 ^ (k - 1)))
       ∙ ap (λ (x : ℕ). x * 2) (mod-eq-of-lt (pow-lt (less k (b .1))))
       ∙ sym (pow-suc 2 (k - 1))
-      ∙ ap (λ (x : ℕ). 2 ^ x) (back k (b .0))
+      ∙ ap (λ (x : ℕ). 2 ^ x) (one-back k (b .0))
     where
       less : (k : ℕ) → k < 64 → k - 1 < 64
       less k h = omega arith
-
-      back : (k : ℕ) → 0 < k → suc (k - 1) ≡ k
-      back k p = omega arith
 
   pub shift-under : rest < half → a / 2 ^ k ≡ closest a (2 ^ k)
   shift-under l = sym (closest-under a (2 ^ k) (go rest half (a % 2 ^ k) (2 ^ k) rest-is half-is l))

@@ -1,14 +1,18 @@
--- `squareRoot` is correctly rounded: it is the f64 nearest to the root, a tie to the even one. Two theorems at the end say this together, of every f64 x above zero and every fraction a / b:
+-- `squareRoot` is correctly rounded: it is the f64 nearest to the root, a tie to the even one. Two theorems at the end say this together, of
+-- every f64 x above zero and every fraction a / b:
 --     root-not-below     where a / b is at most the root of x, `squareRoot x` is not below the f64 that a / b rounds to
 --     root-not-above     where a / b is at least the root of x, `squareRoot x` is not above the f64 that a / b rounds to
 -- "a / b is at most the root" is said without a root, by a² / b² ≤ x, and `round` is the library's, which `+` and `/` go by.
--- Why that is correct rounding. Take the fractions that f64s are: each rounds to itself, so `squareRoot x` is not below the largest f64 that is at most the root, nor above the smallest that is at least the root.
--- Take the fractions between the root and the middle of these two: they all round to the neighbour on the root's side, so `squareRoot x` is that one. And where the root is the middle itself, both theorems apply to it, so `squareRoot x` is what the middle rounds to.
+-- Why that is correct rounding. Take the fractions that f64s are: each rounds to itself, so `squareRoot x` is not below the largest f64 that is
+-- at most the root, nor above the smallest that is at least the root. Take the fractions between the root and the middle of these two: they all
+-- round to the neighbour on the root's side, so `squareRoot x` is that one. And where the root is the middle itself, both theorems apply to it,
+-- so `squareRoot x` is what the middle rounds to.
 use mathlib.Core.Path.{_≡_, sym, ap, _∙_, subst}
 use mathlib.Core.Logic.{inl, inr}
 use mathlib.Core.Bool.{Bool, true, false, not, _&&_}
 use Prim.Native.Nat.{ℕ, suc, _+_, _-_, _*_, _/_, _%_, _^_, _≤_, _<_}
-use native.Mathlib.Nat.{le-refl, le-trans, le-of-eq, le-of-lt, lt-of-lt-of-le, lt-of-le-of-lt, eq-or-lt-of-le, zero-lt-suc, suc-add, one-mul, mul-one, div-one, mul-comm, mul-assoc, mul-left-comm, mul-right-comm, mul-mul-mul-comm, mul-pos, mul-le-mul-left, mul-le-mul-right, mul-lt-mul-of-pos-right, le-of-mul-le-mul-right, mul-div-cancel, div-lt-iff-lt-mul, le-div-iff-mul-le, div-mul-le-self, pow-succ'}
+use native.Mathlib.Nat.{le-refl, le-trans, le-of-eq, le-of-lt, lt-of-lt-of-le, lt-of-le-of-lt, eq-or-lt-of-le, zero-lt-suc, suc-add, one-mul, mul-one, div-one, mul-comm}
+use native.Mathlib.Nat.{mul-assoc, mul-left-comm, mul-right-comm, mul-mul-mul-comm, mul-pos, mul-le-mul-left, mul-le-mul-right, mul-lt-mul-of-pos-right, le-of-mul-le-mul-right, mul-div-cancel, div-lt-iff-lt-mul, le-div-iff-mul-le, div-mul-le-self, pow-succ'}
 use native.Mathlib.Omega.{arith}
 use lib.Dec.{T, ltb, leb, eqb, ltb→lt, nltb→le, lit<, lit≤, leb→le}
 use lib.Pow.{pow-add, pow-pos}
@@ -23,14 +27,11 @@ use Rattle.floats.specs.Sqrt.{wholeRoot, twiceRoot, squareRoot}
 use Rattle.floats.proofs.Sizes.{size-gt, pow-le-back}
 use Rattle.floats.proofs.Closest.{between}
 use Rattle.floats.proofs.Squares.{IsRoot, sq-lt-back, sq-le-back}
-use Rattle.floats.proofs.Roots.{wholeRoot-is, twice-exact, twice-short}
+use Rattle.floats.proofs.Roots.{wholeRoot-is, twice-exact, twice-short, next-even}
 use Rattle.floats.proofs.RootBits.{root-at, places-dropped, places-kept}
 
 next-power : (k j : ℕ) → 2 ^ (suc k + j) ≡ 2 * 2 ^ (k + j)
 next-power k j = ap (λ (x : ℕ). 2 ^ x) (suc-add k j) ∙ pow-succ' 2 (k + j)
-
-next-even : (r : ℕ) → 2 * (r + 1) ≡ 2 * r + 2
-next-even r = omega arith
 
 below-even : (r s : ℕ) → r < s → 2 * r + 2 ≤ 2 * s
 below-even r s h = omega arith

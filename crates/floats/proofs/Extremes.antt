@@ -10,6 +10,7 @@ use lib.Ieee.{Float, nan, inf, fin, Format, binary32, up, down, neg, sum, sub, r
 use lib.Ieee.Fits.{up-pos}
 use lib.Ieee.Scale.{finite}
 use borrow.Author.Tests.{ltb-true, ltb-false, eqb-true, eq-eqb}
+use Rattle.loops.proofs.Choose.{and-holds}
 use Rattle.floats.specs.Extremes.{absolute}
 use Rattle.floats.proofs.Rounding.{round-no-nan}
 use Rattle.floats.proofs.Patterns.{is-nan, no-nan}
@@ -40,21 +41,14 @@ abs-below (fin false m e) h = absurd (none (m * up e * 1) (0 * down e) (zero-mul
     none : (a c : ℕ) → c ≡ 0 → a < c → ⊥
     none a c e h = omega arith
 
+no-power : (x y : ℕ) → x ≡ 2 * y → x ≡ 1 → ⊥
+no-power x y e h = omega arith
+
 -- 2 ^ e is 1 / 1 only for e = 0
 plain : (e : ℤ) → up e * down e ≡ 1 → e ≡ pos 0
 plain (pos zero) h = refl
 plain (pos (suc a)) h = absurd (no-power (2 ^ suc a) (2 ^ a) (pow-succ' 2 a) (sym (mul-one (2 ^ suc a)) ∙ h))
-  where
-    no-power : (x y : ℕ) → x ≡ 2 * y → x ≡ 1 → ⊥
-    no-power x y e h = omega arith
 plain (negsuc a) h = absurd (no-power (2 ^ suc a) (2 ^ a) (pow-succ' 2 a) (sym (one-mul (2 ^ suc a)) ∙ h))
-  where
-    no-power : (x y : ℕ) → x ≡ 2 * y → x ≡ 1 → ⊥
-    no-power x y e h = omega arith
-
-and-left : (a b : Bool) → (a && b) ≡ true → a ≡ true
-and-left true b h = refl
-and-left false b h = h
 
 positive : (m u v : ℕ) → 0 < u → suc m * u * 1 ≡ 0 * v → ⊥
 positive m u v U h = lt-irrefl 0 (subst (λ (x : ℕ). 0 < x) (sym (mul-one (suc m * u)) ∙ h ∙ zero-mul v) (mul-pos (zero-lt-suc m) U))
@@ -64,7 +58,7 @@ unfolding eq ofBits absolute fits
 abs-zero nan f h = absurd (false≢true h)
 abs-zero (inf s) f h = absurd (false≢true h)
 abs-zero (fin s zero e) f h = ap (λ (d : ℤ). fin false 0 d) (sym (plain e (eqb→eq (up e * down e) 1 f)))
-abs-zero (fin s (suc m) e) f h = absurd (positive m (up e) (down e) (up-pos e) (eqb-true (suc m * up e * 1) (0 * down e) (and-left (eqb (suc m * up e * 1) (0 * down e)) (Bool·beq s false || eqb (suc m * up e * 1) 0) h)))
+abs-zero (fin s (suc m) e) f h = absurd (positive m (up e) (down e) (up-pos e) (eqb-true (suc m * up e * 1) (0 * down e) (and-holds (eqb (suc m * up e * 1) (0 * down e)) (Bool·beq s false || eqb (suc m * up e * 1) 0) h .0)))
 
 pub abs-else : (x : Float) → lt x (ofBits binary32 0) ≡ false → eq x (ofBits binary32 0) ≡ false → x ≡ absolute x
 unfolding lt eq ofBits absolute

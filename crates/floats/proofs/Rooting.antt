@@ -1,11 +1,12 @@
 -- The loop of `root`: one binary digit of the root each turn.
 use mathlib.Core.Path.{_≡_, sym, ap, _∙_, subst}
 use Prim.Native.Nat.{ℕ, suc, _+_, _-_, _*_, _/_, _%_, _^_, _≤_, _<_}
-use native.Mathlib.Nat.{lt-of-lt-of-le, mul-one, mul-assoc, pow-suc, pow-succ', mod-lt, zero-add}
+use native.Mathlib.Nat.{lt-of-lt-of-le, mul-one, mul-assoc, pow-suc, pow-succ', mod-lt, zero-add, add-zero}
 use native.Mathlib.Omega.{arith}
 use lib.Dec.{lit<, lit≤}
 use lib.Pow.{pow-pos, pow-mono}
 use Rattle.floats.specs.Steps.{IsRooted}
+use Rattle.floats.proofs.Sizes.{none-left, one-back}
 use Rattle.floats.proofs.Squares.{sq-twice, sq-next}
 
 -- `left` digits of the root of w * 2 ^ 54 are to come, d being what is left of w's digits
@@ -32,11 +33,8 @@ turned w r rest d left x h g e = ap (λ (y : ℕ). y * 4 ^ (left - 1)) (go (r * 
     go : (s d x : ℕ) → x ≡ s * 4 + d / 4503599627370496 → x * 18014398509481984 + d % 4503599627370496 * 4 ≡ (s * 18014398509481984 + d) * 4
     go s d x e = omega arith
 
-    back : (k : ℕ) → 0 < k → suc (k - 1) ≡ k
-    back k h = omega arith
-
     four : (x : ℕ) → x * 4 ^ left ≡ x * 4 * 4 ^ (left - 1)
-    four x = ap (λ (y : ℕ). x * 4 ^ y) (sym (back left h)) ∙ ap (λ (y : ℕ). x * y) (pow-succ' 4 (left - 1)) ∙ sym (mul-assoc x 4 (4 ^ (left - 1)))
+    four x = ap (λ (y : ℕ). x * 4 ^ y) (sym (one-back left h)) ∙ ap (λ (y : ℕ). x * y) (pow-succ' 4 (left - 1)) ∙ sym (mul-assoc x 4 (4 ^ (left - 1)))
 
 -- the root after a turn: t is its new digit
 grown : (r t left : ℕ) → 0 < left → left ≤ 54 → r < 2 ^ (54 - left) → t < 2 → r * 2 + t < 2 ^ (54 - (left - 1))
@@ -77,7 +75,7 @@ digit-zero w r rest d left h g l = record {
   sum = turned w r rest d left (r * 2 * (r * 2) + (rest * 4 + d / 2 ^ 52)) h g (go (r * 2 * (r * 2)) (r * r) rest (d / 2 ^ 52) (sq-twice r));
   most = rem r rest (d / 2 ^ 52) l;
   small = next-small d;
-  few = subst (λ (x : ℕ). x < 2 ^ (54 - (left - 1))) (plus (r * 2)) (grown r 0 left h (g .to-go) (g .few) (lit< tt));
+  few = subst (λ (x : ℕ). x < 2 ^ (54 - (left - 1))) (add-zero (r * 2)) (grown r 0 left h (g .to-go) (g .few) (lit< tt));
   to-go = less-left left (g .to-go);
 }
   where
@@ -87,21 +85,15 @@ digit-zero w r rest d left h g l = record {
     rem : (r rest y : ℕ) → rest * 4 + y < r * 4 + 1 → rest * 4 + y ≤ 2 * (r * 2)
     rem r rest y l = omega arith
 
-    plus : (x : ℕ) → x + 0 ≡ x
-    plus x = omega arith
-
 -- the locals after the `if`
 pub moved : {w r r′ rest rest′ d left : ℕ} → r ≡ r′ → rest ≡ rest′ → Going w r′ rest′ d left → Going w r rest d left
 moved {w} {r} {r′} {rest} {rest′} {d} {left} p q g = subst (λ (x : ℕ). Going w x rest d left) (sym p) (subst (λ (x : ℕ). Going w r′ x d left) (sym q) g)
 
 pub finish : (w r rest d left : ℕ) → left ≤ 0 → Going w r rest d left → IsRooted (w * 2 ^ 54) r rest
 finish w r rest d left h g = record {
-  sum = last (r * r + rest) d w (sym (mul-one ((r * r + rest) * 2 ^ 54 + d)) ∙ ap (λ (x : ℕ). ((r * r + rest) * 2 ^ 54 + d) * 4 ^ x) (sym (none left h)) ∙ g .sum) (g .small);
+  sum = last (r * r + rest) d w (sym (mul-one ((r * r + rest) * 2 ^ 54 + d)) ∙ ap (λ (x : ℕ). ((r * r + rest) * 2 ^ 54 + d) * 4 ^ x) (sym (none-left left h)) ∙ g .sum) (g .small);
   most = g .most;
 }
   where
-    none : (left : ℕ) → left ≤ 0 → left ≡ 0
-    none left h = omega arith
-
     last : (s d w : ℕ) → s * 18014398509481984 + d ≡ w * 324518553658426726783156020576256 → d < 18014398509481984 → s ≡ w * 18014398509481984
     last s d w e h = omega arith

@@ -2,15 +2,14 @@
 use mathlib.Core.Path.{_≡_, refl, sym, ap, _∙_}
 use mathlib.Core.Bool.{Bool, true, false, cond}
 use Prim.Native.Nat.{ℕ, suc, _+_, _-_, _*_, _≤_, _<_}
+use native.Mathlib.Numerals.{suc-eq-add-one}
 use native.Mathlib.Omega.{arith}
 use lib.Ieee.{Float, ofInt, ofBits, neg, lt}
 use Rattle.floats.specs.Operators.{_+₆₄_, _*₆₄_, _/₆₄_, f32, f64, zero₃₂, one₆₄, asF64}
 use Rattle.floats.specs.Narrow.{narrowed}
 use Rattle.floats.specs.Ln.{chained}
 use Rattle.floats.specs.Exp.{series, squares, expOf}
-
-none : (n : ℕ) → n ≤ 0 → n ≡ 0
-none n h = omega arith
+use Rattle.floats.proofs.Sizes.{none-left, one-back}
 
 -- ---- `chain`
 chained-more : (d k : ℕ) (q : Float) → chained (suc d) k q ≡ one₆₄ /₆₄ asF64 k +₆₄ q *₆₄ chained d (k + 2) q
@@ -34,7 +33,7 @@ chain-next q h n p l e =
     one n p l = omega arith
 
 pub chain-last : (q h : Float) (n : ℕ) → n ≤ 0 → h ≡ chained (17 - n) (n * 2 + 1) q → h ≡ chained 17 1 q
-chain-last q h n z e = e ∙ ap (λ (k : ℕ). chained (17 - k) (k * 2 + 1) q) (none n z)
+chain-last q h n z e = e ∙ ap (λ (k : ℕ). chained (17 - k) (k * 2 + 1) q) (none-left n z)
 
 -- ---- `powers`
 series-more : (d k : ℕ) (y : Float) → series (suc d) k y ≡ one₆₄ +₆₄ y /₆₄ asF64 k *₆₄ series d (k + 1) y
@@ -50,16 +49,13 @@ series-next y h k p l e =
     ap (λ (x : Float). one₆₄ +₆₄ y /₆₄ asF64 k *₆₄ x) e
     ∙ sym (series-more (16 - k) k y)
     ∙ ap (λ (d : ℕ). series d k y) (one k p l)
-    ∙ ap (λ (d : ℕ). series (16 - (k - 1)) d y) (back k p)
+    ∙ ap (λ (d : ℕ). series (16 - (k - 1)) d y) (sym (one-back k p) ∙ suc-eq-add-one (k - 1))
   where
     one : (k : ℕ) → 0 < k → k ≤ 16 → suc (16 - k) ≡ 16 - (k - 1)
     one k p l = omega arith
 
-    back : (k : ℕ) → 0 < k → k ≡ k - 1 + 1
-    back k p = omega arith
-
 pub series-last : (y h : Float) (k : ℕ) → k ≤ 0 → h ≡ series (16 - k) (k + 1) y → h ≡ series 16 1 y
-series-last y h k z e = e ∙ ap (λ (x : ℕ). series (16 - x) (x + 1) y) (none k z)
+series-last y h k z e = e ∙ ap (λ (x : ℕ). series (16 - x) (x + 1) y) (none-left k z)
 
 -- ---- `exp`
 exp-by : (x : Float) (t : Bool) → lt x (neg (f32 0x42d0_0000)) ≡ t → cond t zero₃₂ (narrowed (squares 7 (series 16 1 (x /₆₄ f64 0x4060_0000_0000_0000)))) ≡ expOf x

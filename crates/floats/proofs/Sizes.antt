@@ -1,4 +1,4 @@
--- Powers of two, and the number of binary digits.
+-- Powers of two, and the number of binary digits; and what `omega` tells of a number and the one below it, where it is not to look at powers.
 use mathlib.Core.Path.{_≡_, sym, ap, _∙_, subst}
 use mathlib.Core.Logic.{inl, inr}
 use Prim.Native.Nat.{ℕ, suc, _+_, _-_, _*_, _/_, _^_, _≤_, _<_}
@@ -9,6 +9,12 @@ use lib.Ieee.{size}
 use lib.Ieee.Digits.{size-lt, size-le, size-reaches}
 use lib.Ieee.Order.{drop}
 
+pub none-left : (n : ℕ) → n ≤ 0 → n ≡ 0
+none-left n h = omega arith
+
+pub one-back : (k : ℕ) → 0 < k → suc (k - 1) ≡ k
+one-back k h = omega arith
+
 pub pow-lt-back : (i j : ℕ) → 2 ^ i < 2 ^ j → i < j
 pow-lt-back i j h = lt-of-not-le (λ (g : j ≤ i). not-le-of-lt h (pow-mono g))
 
@@ -16,10 +22,7 @@ pub pow-le-back : (i j : ℕ) → 2 ^ i ≤ 2 ^ j → i ≤ j
 pow-le-back i j h = le-of-suc-le-suc (lt-of-not-le (λ (g : suc j ≤ i). not-le-of-lt (pow-lt g) h))
 
 pub pow-twice : (k : ℕ) → 0 < k → 2 ^ k ≡ 2 * 2 ^ (k - 1)
-pow-twice k h = ap (λ (x : ℕ). 2 ^ x) (one-more k h) ∙ pow-succ' 2 (k - 1)
-  where
-    one-more : (k : ℕ) → 0 < k → k ≡ suc (k - 1)
-    one-more k h = omega arith
+pow-twice k h = ap (λ (x : ℕ). 2 ^ x) (sym (one-back k h)) ∙ pow-succ' 2 (k - 1)
 
 pub size-gt : (n j : ℕ) → 2 ^ j ≤ n → j < size n
 size-gt n j h = lt-of-not-le (λ (g : size n ≤ j). not-le-of-lt (lt-of-lt-of-le (size-lt n) (pow-mono g)) h)

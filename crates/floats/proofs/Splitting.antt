@@ -1,14 +1,14 @@
 -- The loop of `split`, which doubles the digits of a subnormal f64 until it has all of them.
 use mathlib.Core.Path.{_≡_, sym, ap, _∙_, subst}
 use mathlib.Core.Bool.{cond}
-use Prim.Native.Nat.{ℕ, suc, _+_, _-_, _*_, _/_, _%_, _^_, _≤_, _<_}
+use Prim.Native.Nat.{ℕ, _+_, _-_, _*_, _/_, _%_, _^_, _≤_, _<_}
 use native.Mathlib.Nat.{le-trans, le-of-eq, lt-of-le-of-lt, mul-assoc, one-mul, mul-le-mul-right, pow-succ', zero-add}
 use native.Mathlib.Omega.{arith}
 use lib.Dec.{eqb}
 use lib.Pow.{pow-add, shl-lt}
 use lib.Ieee.{binary64}
 use Rattle.floats.specs.Steps.{digits, unitsOf, IsSplit}
-use Rattle.floats.proofs.Sizes.{pow-lt-back}
+use Rattle.floats.proofs.Sizes.{none-left, one-back, pow-lt-back}
 use Rattle.floats.proofs.Patterns.{digits-normal, digits-lt, units-pos}
 
 pub record Doubling (a q e : ℕ) : Type 0 where
@@ -38,10 +38,7 @@ begun-normal a q e h k p r = begun a q e h (p ∙ sym (digits-normal binary64 a 
 
 pub begun-subnormal : (a q e : ℕ) → a < 0x7ff0_0000_0000_0000 → a / 2 ^ 52 ≤ 0 → q ≡ a % 2 ^ 52 → e ≡ 126 → Doubling a q e
 begun-subnormal a q e h k p r =
-    begun a q e h (p ∙ sym (zero-add (a % 2 ^ 52)) ∙ ap (λ (x : ℕ). cond (eqb x 0) 0 (2 ^ 52) + a % 2 ^ 52) (sym (none (a / 2 ^ 52) k))) (r ∙ ap (λ (x : ℕ). x - 1 + 126) (sym (none (a / 2 ^ 52) k)))
-  where
-    none : (x : ℕ) → x ≤ 0 → x ≡ 0
-    none x h = omega arith
+    begun a q e h (p ∙ sym (zero-add (a % 2 ^ 52)) ∙ ap (λ (x : ℕ). cond (eqb x 0) 0 (2 ^ 52) + a % 2 ^ 52) (sym (none-left (a / 2 ^ 52) k))) (r ∙ ap (λ (x : ℕ). x - 1 + 126) (sym (none-left (a / 2 ^ 52) k)))
 
 module _ (a q e : ℕ) (h : 0 < a) (g : Doubling a q e) where
   -- there is one unit at least, so digits that are few stand high
@@ -59,13 +56,13 @@ module _ (a q e : ℕ) (h : 0 < a) (g : Doubling a q e) where
 
   pub doubled : q < 2 ^ 52 → Doubling a (q * 2) (e - 1)
   doubled l = record {
-    value = mul-assoc q 2 (2 ^ (e - 1)) ∙ ap (λ (x : ℕ). q * x) (sym (pow-succ' 2 (e - 1)) ∙ ap (λ (x : ℕ). 2 ^ x) (back e (falls l))) ∙ g .value;
+    value = mul-assoc q 2 (2 ^ (e - 1)) ∙ ap (λ (x : ℕ). q * x) (sym (pow-succ' 2 (e - 1)) ∙ ap (λ (x : ℕ). 2 ^ x) (one-back e (above-zero e (falls l)))) ∙ g .value;
     top = two q l;
     high = less e (g .high);
   }
     where
-      back : (e : ℕ) → 74 < e → suc (e - 1) ≡ e
-      back e h = omega arith
+      above-zero : (e : ℕ) → 74 < e → 0 < e
+      above-zero e h = omega arith
 
       two : (q : ℕ) → q < 4503599627370496 → q * 2 < 9007199254740992
       two q h = omega arith

@@ -1,7 +1,8 @@
 -- Squares, and the whole part of a root.
 use mathlib.Core.Path.{_≡_, sym, ap, _∙_, subst}
-use Prim.Native.Nat.{ℕ, suc, _+_, _*_, _≤_, _<_}
-use native.Mathlib.Nat.{le-of-suc-le-suc, lt-of-le-of-lt, lt-of-not-le, not-le-of-lt, mul-mul-mul-comm, add-mul, mul-add, mul-le-mul}
+use Prim.Native.Nat.{ℕ, _+_, _*_, _≤_, _<_}
+use native.Mathlib.Nat.{le-of-suc-le-suc, lt-of-le-of-lt, lt-of-not-le, not-le-of-lt, mul-mul-mul-comm, add-mul, mul-add, mul-le-mul, le-intro}
+use native.Mathlib.Numerals.{add-one}
 use native.Mathlib.Omega.{arith}
 use Rattle.floats.specs.Steps.{IsRooted}
 
@@ -18,11 +19,8 @@ pub sq-lt-back : (a b : ℕ) → a * a < b * b → a < b
 sq-lt-back a b h = lt-of-not-le (λ (g : b ≤ a). not-le-of-lt h (mul-le-mul g g))
 
 pub sq-le-back : (a b : ℕ) → a * a ≤ b * b → a ≤ b
-sq-le-back a b h = le-of-suc-le-suc (subst (λ (x : ℕ). a < x) (one b) (sq-lt-back a (b + 1) (lt-of-le-of-lt h (subst (λ (x : ℕ). b * b < x) (sym (sq-next b)) (more (b * b) b)))))
+sq-le-back a b h = le-of-suc-le-suc (subst (λ (x : ℕ). a < x) (add-one b) (sq-lt-back a (b + 1) (lt-of-le-of-lt h (subst (λ (x : ℕ). b * b < x) (sym (sq-next b)) (more (b * b) b)))))
   where
-    one : (b : ℕ) → b + 1 ≡ suc b
-    one b = omega arith
-
     more : (s b : ℕ) → s < s + b * 2 + 1
     more s b = omega arith
 
@@ -32,10 +30,7 @@ pub record IsRoot (n r : ℕ) : Type 0 where
   pub over : n < (r + 1) * (r + 1)
 
 pub rooted-is : (n r d : ℕ) → IsRooted n r d → IsRoot n r
-rooted-is n r d h = record { under = go (r * r) d n (h .sum); over = subst (λ (x : ℕ). n < x) (sym (sq-next r)) (top (r * r) d n r (h .sum) (h .most)) }
+rooted-is n r d h = record { under = le-intro (r * r) d (h .sum); over = subst (λ (x : ℕ). n < x) (sym (sq-next r)) (top (r * r) d n r (h .sum) (h .most)) }
   where
-    go : (s d n : ℕ) → s + d ≡ n → s ≤ n
-    go s d n e = omega arith
-
     top : (s d n r : ℕ) → s + d ≡ n → d ≤ 2 * r → n < s + r * 2 + 1
     top s d n r e h = omega arith

@@ -1,7 +1,7 @@
 -- Rooms that the calls write: a frame and a prefix row in their rings.
 use mathlib.Core.Path.{_≡_, sym, ap, _∙_}
 use mathlib.Core.Bool.{true}
-use mathlib.Core.List.{List, [], _∷_, foldl}
+use mathlib.Core.List.{List, foldl}
 use mathlib.Core.Logic.{_⊎_, ⊎-elim}
 use Prim.Native.Nat.{ℕ, _+_, _-_, _≤_, _<_, min, max}
 use native.Mathlib.Omega.{arith}
@@ -21,6 +21,7 @@ use Rattle.definition.specs.Stream.{rising}
 use Rattle.limits.proofs.Ordered.{min-first}
 use Rattle.program.specs.Rooms.{ringAt}
 use Rattle.program.specs.Calls.{pushedFrames, pushedRows, forgetMark}
+use Rattle.program.proofs.Waiting.{lowest-under}
 
 -- a frame copied in
 pub copied : {A : Type 0} (d : A) (a i : ℕ) (xs room : List A) {s : List A} → i ≤ length xs → length xs ≤ i → s ≡ put a (build i (λ k. getD xs k d)) room → s ≡ put a xs room
@@ -73,10 +74,6 @@ module _ (low : ℕ) (fs : List ℕ) (n : ℕ) where
   pub lowest-first : {r : ℕ} → 0 < n → n ≤ length fs → rising 0 (take n fs) ≡ true → r ≡ min low (getD fs 0 0) → r ≡ foldl min low (take n fs)
   lowest-first p l o e =
       e ∙ ap (min low) (sym (getD-take n fs 0 0 p)) ∙ sym (min-first low 0 (take n fs) (omega (arith, length-take-le n fs l)) o)
-
-lowest-under : (low : ℕ) (fs : List ℕ) → foldl min low fs ≤ low
-lowest-under low [] = omega arith
-lowest-under low (f ∷ fs) = omega (arith, lowest-under (min low f) fs)
 
 -- the new mark, as code comes to it, and that it is no later than the statistics
 module _ (s : IvectorStream) (fs : List ℕ) (f : ℕ) {reached first kept mark : ℕ} (a : reached ≡ min f (s .«num_frames_stats»)) (b : first ≡ foldl min reached (take (s .waiting) fs))

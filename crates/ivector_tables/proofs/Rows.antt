@@ -50,19 +50,11 @@ abbrev pub quadraticRow : ℕ → ℕ → List Float → List Float → ℕ → 
 quadraticRow d s m sim p q = sum₆₄ zero₆₄ d (λ b. at m (b * s + p) *₆₄ at sim (b * s + q))
 
 module _ (d s : ℕ) (si m : List Float) where
-  pub length-sigma : length (sigmaInvM d s si m) ≡ d * s
-  unfolding sigmaInvM
-  length-sigma = length-cells d s (sigmaRow d s si m)
-
   pub sigma-whole : {y : List Float} (room : List Float) → length room ≡ d * s → y ≡ over (flat d (λ a. build s (sigmaRow d s si m a))) room → y ≡ sigmaInvM d s si m
   unfolding sigmaInvM
   sigma-whole room l e = e ∙ over-whole _ _ (length-cells d s (sigmaRow d s si m) ∙ sym l)
 
 module _ (d s : ℕ) (m sim : List Float) where
-  pub length-quadratic : length (quadraticTerm d s m sim) ≡ s * (s + 1) / 2
-  unfolding quadraticTerm
-  length-quadratic = length-triangle (quadraticRow d s m sim) s
-
   pub quadratic-whole : {y : List Float} (room : List Float) → length room ≡ s * (s + 1) / 2 → y ≡ over (flat s (λ p. build (p + 1) (quadraticRow d s m sim p))) room → y ≡ quadraticTerm d s m sim
   unfolding quadraticTerm
   quadratic-whole room l e = e ∙ over-whole _ _ (length-triangle (quadraticRow d s m sim) s ∙ sym l)

@@ -6,11 +6,11 @@ use Prim.Native.Nat.{ℕ, _-_, _≤_}
 use borrow.Author.Tests.{eq-eqb, eqb-true}
 use lib.Ieee.{Float, binary64}
 use Rattle.loops.specs.Lists.{allOf}
+use Rattle.loops.proofs.Choose.{and-holds}
 use Rattle.definition.specs.Options.{maxGauss, maxFeat, maxIvector}
 use Rattle.definition.specs.Reader.{Got, Parser, after, give, times, text, refused, read}
 use Rattle.definition.specs.Kaldi.{token, dim, Matrix, Packed, Extractor, matrix, single, matrixAt, alike, extractorHeading, extractor}
 use Rattle.kaldi_io.specs.Answers.{MatrixIn}
-use Rattle.kaldi_io.proofs.Bytes.{both-true}
 use Rattle.kaldi_io.proofs.Chain.{goes, stops, met, unmet}
 use Rattle.kaldi_files.specs.Answers.{means, inverses, items, extractorOf, sizedAs, squareAs, ExtractorIn}
 use Rattle.kaldi_files.specs.Steps.{tally, Counted, counted, MeansIn, closing}
@@ -113,7 +113,7 @@ module _ (s : List ℕ) {count rows cols : ℕ} {even : Bool} {m next : ℕ} (o 
 
   pub extractor-in : both ≡ true → ExtractorIn s count rows cols m sigma
   extractor-in x =
-      let h = both-true even square (sym is ∙ x) in
+      let h = and-holds even square (sym is ∙ x) in
       record {
         m-end = next;
         m-stands = o .stands;
@@ -181,4 +181,4 @@ module _ (s : List ℕ) where
 -- ---- what the tests of a block say
 
 pub sized-is : (rows cols : ℕ) (m : Matrix) → sizedAs rows cols m ≡ true → (m .rows ≡ rows) × (m .cols ≡ cols)
-sized-is rows cols m e = let h = both-true _ _ e in (eqb-true _ _ (h .0), eqb-true _ _ (h .1))
+sized-is rows cols m e = let h = and-holds _ _ e in (eqb-true _ _ (h .0), eqb-true _ _ (h .1))

@@ -1,6 +1,6 @@
 -- Laws of bytes: the next ones, runs, words, and numbers of four and eight bytes.
 use mathlib.Core.Path.{_≡_, refl, sym, ap, _∙_, subst}
-use mathlib.Core.Bool.{Bool, true, false, not, _&&_, false≢true}
+use mathlib.Core.Bool.{Bool, true, false, not, _&&_}
 use mathlib.Core.List.{List, [], _∷_}
 use mathlib.Core.Logic.{⊎-elim}
 use Prim.Native.Nat.{ℕ, suc, _+_, _-_, _*_, _≤_, _<_}
@@ -8,7 +8,7 @@ use native.Mathlib.Nat.{eq-or-lt-of-le, add-assoc, mul-le-mul}
 use native.Mathlib.Omega.{arith}
 use mir.Syntax.{w64}
 use mir.Val.{Fits}
-use borrow.Author.Tests.{le-leb, lt-leb, eq-eqb, ne-eqb, lt-ltb, le-ltb, leb-true}
+use borrow.Author.Tests.{le-leb, lt-leb, eq-eqb, ne-eqb, lt-ltb, le-ltb}
 use lib.Dec.{leb, eqb}
 use lib.ListN.{length, take, drop, getD, drop-of-length-le}
 use Rattle.loops.specs.Lists.{if_then_else_}
@@ -17,6 +17,7 @@ use Rattle.loops.proofs.Parts.{drop-next, length-part, at-part}
 use Rattle.definition.specs.Options.{within}
 use Rattle.definition.specs.Reader.{Got, Parser, after, _>>=_, _>>_, give, need, bytes, run, same, littleEndian, refused, read}
 use Rattle.definition.specs.Kaldi.{binary, blank, word, token, dim}
+use Rattle.definition.proofs.Ranges.{in-limits}
 use Rattle.kaldi_io.specs.Answers.{tagged}
 use Rattle.kaldi_io.proofs.Chain.{not-read, same-value}
 
@@ -212,19 +213,12 @@ too-high low high n h l = simp (le-leb low n h, lt-leb n high l)
 pub in-range : (low high n : ℕ) → low ≤ n → n ≤ high → within low high n ≡ true
 in-range low high n h l = simp (le-leb low n h, le-leb n high l)
 
-pub both-true : (a b : Bool) → (a && b) ≡ true → (a ≡ true) × (b ≡ true)
-both-true true b e = (refl, e)
-both-true false b e = absurd (false≢true e)
-
-range-of : (low high n : ℕ) → within low high n ≡ true → (low ≤ n) × (n ≤ high)
-range-of low high n e = let h = both-true (leb low n) (leb n high) e in (leb-true low n (h .0), leb-true n high (h .1))
-
 -- a dimension that was read is in its range
 pub dim-in : (low high : ℕ) (s : List ℕ) (at : ℕ) {n z : ℕ} → dim low high s at ≡ read n z → (low ≤ n) × (n ≤ high)
 unfolding dim
 dim-in low high s at e =
     let h = sized-in 4 (within low high) 4 (λ n. n) s at e in
-    subst (λ (n : ℕ). (low ≤ n) × (n ≤ high)) (h .1) (range-of low high _ (h .0))
+    subst (λ (n : ℕ). (low ≤ n) × (n ≤ high)) (h .1) (in-limits low high _ (h .0))
 
 -- and so is one behind a tag
 pub tagged-in : (tag : List ℕ) (low high : ℕ) (s : List ℕ) (at : ℕ) {n z : ℕ} → tagged tag low high s at ≡ read n z → (low ≤ n) × (n ≤ high)

@@ -14,13 +14,13 @@ use lib.Ieee.Scale.{finite}
 use lib.Ieee.Bits.{nanBits-is}
 use Rattle.loops.specs.Lists.{allOf}
 use Rattle.loops.specs.Steps.{fill}
-use Rattle.loops.proofs.Choose.{by-test}
+use Rattle.loops.proofs.Choose.{by-test, and-holds}
 use Rattle.loops.proofs.Fill.{fill-none, fill-turn, fill-end, fill-list}
 use Rattle.loops.proofs.Tests.{each-at, at-each, all-turn, all-fails, all-end}
 use Rattle.floats.specs.Operators.{zero₃₂, at}
 use Rattle.definition.specs.Reader.{littleEndian, byteWidth, numbers, kept, floats, refused, read}
 use Rattle.kaldi_io.specs.Answers.{Ready}
-use Rattle.kaldi_io.proofs.Bytes.{bytes-ok, bytes-short, both-true}
+use Rattle.kaldi_io.proofs.Bytes.{bytes-ok, bytes-short}
 
 -- ---- which patterns are finite
 
@@ -64,7 +64,7 @@ finite-pattern f b e = subst (λ (t : Bool). T (not t)) (sym (nanBits-is f b ∙
 
 kept-finite : (positive : Bool) (x : Float) → kept positive x ≡ true → finite x ≡ true
 unfolding kept
-kept-finite true x e = both-true (finite x) (lt zero₃₂ x) e .0
+kept-finite true x e = and-holds (finite x) (lt zero₃₂ x) e .0
 kept-finite false x e = e
 
 pub kept-is : (x : Float) → kept false x ≡ finite x

@@ -9,10 +9,10 @@ use types.Run.{OneOf}
 use borrow.Author.Tests.{ne-eqb, lt-ltb, le-ltb, ltb-true}
 use lib.Dec.{eqb}
 use lib.ListN.{length, getD}
+use Rattle.loops.proofs.Choose.{and-holds}
 use Rattle.definition.specs.Options.{within}
 use Rattle.definition.specs.Reader.{here}
 use Rattle.definition.specs.Text.{space}
-use Rattle.kaldi_io.proofs.Bytes.{both-true}
 use Rattle.kaldi_text.specs.Steps.{tag, isMinus, Sorted}
 use Rattle.kaldi_text.specs.declared.Kind.{Kind}
 use Rattle.kaldi_text.proofs.Kind as Declared
@@ -89,7 +89,7 @@ module _ (t : ℕ → Bool) (s : List ℕ) (at : ℕ) where
 
   pub here-inside : here t s at ≡ true → at < length s
   unfolding here
-  here-inside e = ltb-true at (length s) (both-true _ _ e .0)
+  here-inside e = ltb-true at (length s) (and-holds _ _ e .0)
 
 module _ (s : List ℕ) (at : ℕ) where
   pub sorted-in : {k : Kind} → at < length s → Sorted (λ t. t (getD s at 0)) k → Sorted (λ t. here t s at) k

@@ -8,18 +8,73 @@ use lib.ListN.{length, getD, take}
 use lib.Seq.{take-all, take-length}
 use native.Mathlib.Nat.{min-eq-left, min-eq-right}
 use native.Mathlib.Decide.{decLe}
-use lib.Dec.{leb, ltb}
+use lib.Dec.{leb, ltb, eqb}
 use borrow.Author.Tests.{ltb-false, not-false, le-leb, lt-leb}
 use Rattle.loops.specs.Lists.{anyOf}
 use Rattle.loops.specs.Ring.{rowsIn}
 use Rattle.loops.proofs.Tests.{none-of, at-some, at-fail}
+use Rattle.definition.specs.declared.IvectorOptions.{IvectorOptions}
 use Rattle.definition.specs.declared.Dimensions.{Dimensions}
+use Rattle.definition.specs.declared.TableLengths.{TableLengths}
+use Rattle.definition.specs.declared.RingLengths.{RingLengths}
+use Rattle.definition.specs.declared.EstimateLengths.{EstimateLengths}
 use Rattle.definition.specs.declared.RoomLengths.{RoomLengths}
 use Rattle.definition.specs.declared.IvectorStream.{IvectorStream}
 use Rattle.definition.specs.Machine.{framesHeld, rowsHeld, waitingRoom}
-use Rattle.definition.specs.Stream.{infoSound, streamScratch, estimateLengths, estimateSizes, roomsFit, rising, breaks, isBroken}
-use Rattle.limits.specs.Steps.{waitingBroken}
+use Rattle.definition.specs.Model.{tableSizes, tableLengths, tablesFit}
+use Rattle.definition.specs.Stream.{infoSound, sameTables, ringLengths, sameRings, streamScratch, estimateLengths, estimateSizes, roomsFit, rising, breaks, isBroken}
+use Rattle.limits.specs.Steps.{sameEstimate, waitingBroken}
 use Rattle.limits.proofs.Listed.{FirstAre, all-last, any-rest, pair-fail, pair-last}
+
+-- ---- lists of lengths, side by side: one pair that fails decides, or the last one
+
+module _ (o : IvectorOptions) (d : Dimensions) (z : TableLengths) where
+  abbrev pub table-tests : List Bool
+  table-tests = zipWith leb (tableLengths (tableSizes o d)) (tableLengths z)
+
+  pub short-table : (k : ℕ) → k < length table-tests → getD table-tests k false ≡ false → false ≡ tablesFit o d z
+  unfolding tablesFit
+  short-table k l h = pair-fail leb (tableLengths (tableSizes o d)) (tableLengths z) k refl l h
+
+  pub last-table : FirstAre true 7 table-tests → getD table-tests 7 false ≡ tablesFit o d z
+  unfolding tablesFit zipWith
+  last-table h = pair-last leb (tableLengths (tableSizes o d)) (tableLengths z) 7 refl refl h
+
+module _ (a b : TableLengths) where
+  abbrev pub same-table-tests : List Bool
+  same-table-tests = zipWith eqb (tableLengths a) (tableLengths b)
+
+  pub other-table : (k : ℕ) → k < length same-table-tests → getD same-table-tests k false ≡ false → false ≡ sameTables a b
+  unfolding sameTables
+  other-table k l h = pair-fail eqb (tableLengths a) (tableLengths b) k refl l h
+
+  pub last-same-table : FirstAre true 7 same-table-tests → getD same-table-tests 7 false ≡ sameTables a b
+  unfolding sameTables zipWith
+  last-same-table h = pair-last eqb (tableLengths a) (tableLengths b) 7 refl refl h
+
+module _ (a b : RingLengths) where
+  abbrev pub ring-tests : List Bool
+  ring-tests = zipWith eqb (ringLengths a) (ringLengths b)
+
+  pub other-ring : (k : ℕ) → k < length ring-tests → getD ring-tests k false ≡ false → false ≡ sameRings a b
+  unfolding sameRings
+  other-ring k l h = pair-fail eqb (ringLengths a) (ringLengths b) k refl l h
+
+  pub last-ring : FirstAre true 3 ring-tests → getD ring-tests 3 false ≡ sameRings a b
+  unfolding sameRings zipWith
+  last-ring h = pair-last eqb (ringLengths a) (ringLengths b) 3 refl refl h
+
+module _ (a b : EstimateLengths) where
+  abbrev pub same-room-tests : List Bool
+  same-room-tests = zipWith eqb (estimateLengths a) (estimateLengths b)
+
+  pub other-room : (k : ℕ) → k < length same-room-tests → getD same-room-tests k false ≡ false → false ≡ sameEstimate a b
+  unfolding sameEstimate
+  other-room k l h = pair-fail eqb (estimateLengths a) (estimateLengths b) k refl l h
+
+  pub last-same-room : FirstAre true 4 same-room-tests → getD same-room-tests 4 false ≡ sameEstimate a b
+  unfolding sameEstimate zipWith
+  last-same-room h = pair-last eqb (estimateLengths a) (estimateLengths b) 4 refl refl h
 
 -- ---- rooms
 

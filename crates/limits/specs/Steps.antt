@@ -2,9 +2,14 @@
 use Prim.Native.Nat.{ℕ, _-_}
 use mathlib.Core.Bool.{Bool, not, _||_}
 use mathlib.Core.List.{List}
-use lib.Dec.{ltb}
-use Rattle.loops.specs.Lists.{anyOf}
-use Rattle.definition.specs.Stream.{rising}
+use lib.Dec.{ltb, eqb}
+use Rattle.loops.specs.Lists.{anyOf, pairwise}
+use Rattle.definition.specs.declared.EstimateLengths.{EstimateLengths}
+use Rattle.definition.specs.Stream.{estimateLengths, rising}
+
+-- the second part of `sameRooms`
+unfoldable pub sameEstimate : EstimateLengths → EstimateLengths → Bool
+sameEstimate a b = pairwise eqb (estimateLengths a) (estimateLengths b)
 
 -- the last two of `breaks`
 unfoldable pub waitingBroken : List ℕ → ℕ → ℕ → Bool

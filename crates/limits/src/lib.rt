@@ -13,15 +13,13 @@ use definition::TableLengths;
 ghost use mathlib.Core.Path.{_≡_};
 ghost use mathlib.Core.Bool.{true, _&&_};
 ghost use Prim.Native.Nat.{_≤_};
-ghost use lib.Dec.{eqb};
 ghost use lib.Ieee.{le, lt};
-ghost use Rattle.loops.specs.Lists.{pairwise};
 ghost use Rattle.floats.specs.Operators.{zero₃₂, one₃₂};
 ghost use Rattle.definition.specs.Options.{within, optionsInRange, dimsInRange, dimsAgree};
 ghost use Rattle.definition.specs.Model.{tablesFit, loadScratch};
 ghost use Rattle.definition.specs.Machine.{framesHeld, rowsHeld, framesReady};
-ghost use Rattle.definition.specs.Stream.{recordSound, infoSound, sameTables, streamScratch, estimateLengths, roomsFit, isBroken, sameRings, sameRooms};
-ghost use Rattle.limits.specs.Steps.{waitingBroken};
+ghost use Rattle.definition.specs.Stream.{recordSound, infoSound, sameTables, streamScratch, roomsFit, isBroken, sameRings, sameRooms};
+ghost use Rattle.limits.specs.Steps.{sameEstimate, waitingBroken};
 
 // ---- options and dimensions
 
@@ -270,7 +268,7 @@ pub fn same_rings(a: RingLengths, b: RingLengths) -> bool
 
 // Of the rooms that a fetch is lent besides.
 fn same_estimate(a: EstimateLengths, b: EstimateLengths) -> bool
-    ensures { λ r. ⌜ r ≡ pairwise eqb (estimateLengths a) (estimateLengths b) ⌝ }
+    ensures { λ r. ⌜ r ≡ sameEstimate a b ⌝ }
 {
     if a.cmvn_stats != b.cmvn_stats {
         return false;

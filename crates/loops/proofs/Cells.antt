@@ -1,9 +1,9 @@
 -- Places of a table, row after row, each row w wide: element j of row i stands at i * w + j.
-use mathlib.Core.Path.{_≡_, _∙_}
-use Prim.Native.Nat.{ℕ, _+_, _*_, _/_, _%_, _≤_, _<_, _^_}
+use mathlib.Core.Path.{_≡_}
+use Prim.Native.Nat.{ℕ, _+_, _*_, _≤_, _<_, _^_}
 use mir.Syntax.{w64}
 use mir.Val.{Fits}
-use native.Mathlib.Nat.{suc-mul, add-mul, mul-assoc, mul-le-mul-right, mul-add-div-right, mul-add-mod-self-right, div-eq-of-lt, mod-eq-of-lt, mod-lt, div-lt-iff-lt-mul}
+use native.Mathlib.Nat.{suc-mul, add-mul, mul-assoc, mul-le-mul-right}
 use native.Mathlib.Omega.{arith}
 
 -- row i lies within n: with this in a loop's invariant, `omega` does each index and each sum of a turn
@@ -24,20 +24,6 @@ row-fits i h w n l f p = omega (arith, row-in i h w n l p)
 
 pub end-fits : (i h w n : ℕ) → h * w ≤ n → n < 2 ^ 64 → i < h → Fits w64 (i * w + w)
 end-fits i h w n l f p = omega (arith, row-in i h w n l p)
-
--- row and column from the place
-pub cell-row : (i j w : ℕ) → j < w → (i * w + j) / w ≡ i
-cell-row i j w h = mul-add-div-right (omega arith) i j ∙ omega (arith, div-eq-of-lt h)
-
-pub cell-column : (i j w : ℕ) → j < w → (i * w + j) % w ≡ j
-cell-column i j w h = mul-add-mod-self-right i w j ∙ mod-eq-of-lt h
-
-pub row-below : (k h w : ℕ) → 0 < w → k < h * w → k / w < h
-row-below k h w p l = div-lt-iff-lt-mul p .1 l
-
--- place k of a table of m rows, h wide, that is made by turning one of h rows, w wide
-pub turned-below : (k h w m : ℕ) → 0 < h → m ≤ w → k < m * h → k % h * w + k / h < h * w
-turned-below k h w m p l q = cell-below (k % h) (k / h) h w (mod-lt k p) (omega (arith, row-below k m h p q))
 
 -- element c of row a of table g, by one place and by three
 pub cell-nest : (g h a w c : ℕ) → (g * h + a) * w + c ≡ g * (h * w) + (a * w + c)

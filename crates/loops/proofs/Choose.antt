@@ -52,9 +52,3 @@ module _ (a b : Bool) where
 
   pub and-holds : (a && b) ≡ true → (a ≡ true) × (b ≡ true)
   and-holds e = by-test a (λ h. (h, rw h at e)) (λ h. absurd (false≢true (rw h at e)))
-
-pub or-assoc : (a b c : Bool) → ((a || b) || c) ≡ (a || (b || c))
-or-assoc a b c = by-test a (λ e. rw e) (λ e. rw e)
-
-pub or-false : (a : Bool) → (a || false) ≡ a
-or-false a = by-test a (λ e. rw e) (λ e. rw e)

@@ -1,7 +1,7 @@
 -- A room of n places, each with a counted loop of its own: code does turn k at all places before turn k + 1.
-use mathlib.Core.Path.{_≡_, refl, sym, ap, _∙_}
+use mathlib.Core.Path.{_≡_, sym, ap, _∙_}
 use mathlib.Core.List.{List}
-use Prim.Native.Nat.{ℕ, zero, suc, _+_, _≤_}
+use Prim.Native.Nat.{ℕ, _+_, _≤_}
 use lib.ListN.{length, getD}
 use Rattle.loops.specs.Loop.{iter}
 use Rattle.loops.specs.Lists.{build}
@@ -12,10 +12,6 @@ use Rattle.loops.proofs.Fill.{fill-whole}
 
 -- place r starts at s r, and turn k takes it through f r k
 module _ {A : Type 0} (d : A) (n : ℕ) (f : ℕ → ℕ → A → A) (s : ℕ → A) where
-  pub columns-none : (x : List A) {y : List A} → length x ≡ n → y ≡ fill n s x → y ≡ build n (λ r. iter 0 (f r) (s r))
-  unfolding iter
-  columns-none x l e = e ∙ fill-whole s n x l
-
   pub columns-turn : (k : ℕ) {x y : List A} → x ≡ build n (λ r. iter k (f r) (s r)) → y ≡ fill n (λ r. f r k (getD x r d)) x → y ≡ build n (λ r. iter (k + 1) (f r) (s r))
   columns-turn k {x} e h =
       h ∙ fill-whole _ n x (ap length e ∙ length-build n _)
@@ -23,9 +19,3 @@ module _ {A : Type 0} (d : A) (n : ℕ) (f : ℕ → ℕ → A → A) (s : ℕ �
 
   pub columns-end : (k m : ℕ) {x : List A} → k ≤ m → m ≤ k → x ≡ build n (λ r. iter k (f r) (s r)) → x ≡ build n (λ r. iter m (f r) (s r))
   columns-end k m = at-end (λ k. build n (λ r. iter k (f r) (s r))) k m
-
-  pub iter-columns : (m : ℕ) → iter m (λ k x. build n (λ r. f r k (getD x r d))) (build n s) ≡ build n (λ r. iter m (f r) (s r))
-  unfolding iter
-  iter-columns zero = refl
-  iter-columns (suc m) =
-      ap (λ (x : List A). build n (λ r. f r m (getD x r d))) (iter-columns m) ∙ build-ext n _ _ (λ r l. ap (f r m) (at-build d n _ r l))

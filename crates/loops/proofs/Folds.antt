@@ -5,7 +5,7 @@ use Prim.Native.Nat.{ℕ, zero, suc, _+_, _≤_, _<_}
 use lib.ListN.{length, getD, drop, drop-of-length-le}
 use Rattle.loops.specs.Loop.{iter}
 use Rattle.loops.specs.Lists.{build}
-use Rattle.loops.proofs.Build.{build-snoc, build-list}
+use Rattle.loops.proofs.Build.{build-snoc}
 use Rattle.loops.proofs.Parts.{drop-next}
 
 module _ {A B : Type 0} (f : B → A → B) where
@@ -13,9 +13,6 @@ module _ {A B : Type 0} (f : B → A → B) where
   unfolding iter build
   iter-foldl g zero b = refl
   iter-foldl g (suc n) b = ap (λ (s : B). f s (g n)) (iter-foldl g n b) ∙ sym (ap (foldl f b) (build-snoc n g) ∙ foldl-append f b (build n g) (g n ∷ []))
-
-  pub iter-list : (d : A) (xs : List A) (b : B) → iter (length xs) (λ i s. f s (getD xs i d)) b ≡ foldl f b xs
-  iter-list d xs b = iter-foldl (λ k. getD xs k d) (length xs) b ∙ ap (foldl f b) (build-list d xs)
 
   -- a loop over the list, by what is left from i
   pub fold-turn : (d : A) (xs : List A) (i : ℕ) {s t b : B} → i < length xs → t ≡ f s (getD xs i d) → foldl f s (drop i xs) ≡ b → foldl f t (drop (i + 1) xs) ≡ b
@@ -28,7 +25,3 @@ module _ {A B : Type 0} (f : B → A → B) where
   pub foldl-keeps : (P : B → Type 0) (b : B) (xs : List A) → ((s : B) (x : A) → P s → P (f s x)) → P b → P (foldl f b xs)
   foldl-keeps P b [] k p = p
   foldl-keeps P b (x ∷ xs) k p = foldl-keeps P (f b x) xs k (k b x p)
-
-pub foldl-ext : {A B : Type 0} (f g : B → A → B) (b : B) (xs : List A) → ((s : B) (x : A) → f s x ≡ g s x) → foldl f b xs ≡ foldl g b xs
-foldl-ext f g b [] e = refl
-foldl-ext f g b (x ∷ xs) e = ap (λ (s : _). foldl f s xs) (e b x) ∙ foldl-ext f g (g b x) xs e

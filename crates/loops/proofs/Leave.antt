@@ -6,7 +6,7 @@ use Prim.Native.Nat.{ℕ, zero, suc, _+_, _≤_, _<_}
 use native.Mathlib.Nat.{eq-or-lt-of-le, le-of-suc-le-suc}
 use native.Mathlib.Numerals.{add-one}
 use native.Mathlib.Omega.{arith}
-use Rattle.loops.specs.Loop.{iter, Out, on, off, next, leave, final}
+use Rattle.loops.specs.Loop.{Out, on, off, next, leave, final}
 use Rattle.loops.specs.Steps.{done}
 use Rattle.loops.proofs.Loop.{at-end}
 
@@ -39,13 +39,6 @@ module _ {S : Type 0} (f : ℕ → S → Out S) (s : S) where
   pub leave-left : (i n : ℕ) {x y : S} → i < n → on x ≡ leave i f s → off y ≡ f i x → off y ≡ leave n f s
   leave-left i n p e h = left-stays (i + 1) n (omega arith) (leave-step i e h)
 
--- a Bool, as code returns it, says whether the loop goes on
-pub done-on : {S : Type 0} (b : Bool) (x : S) → b ≡ true → on x ≡ done b x
-done-on b x e = rw e
-
-pub done-off : {S : Type 0} (b : Bool) (x : S) → b ≡ false → off x ≡ done b x
-done-off b x e = rw e
-
 -- a Bool says that the turn was the last
 pub goes-on : {S : Type 0} (b : Bool) (x : S) → b ≡ false → on x ≡ done (not b) x
 goes-on b x e = rw e
@@ -62,22 +55,6 @@ pub leave-keeps : {S : Type 0} (P : S → Type 0) (n : ℕ) (f : ℕ → S → O
 unfolding leave
 leave-keeps P zero f s k p = p
 leave-keeps P (suc n) f s k p = next-keeps P (f n) (leave n f s) (k n (omega arith)) (leave-keeps P n f s (λ i h. k i (omega arith)) p)
-
-next-ext : {S : Type 0} (f g : S → Out S) (o : Out S) → ((x : S) → f x ≡ g x) → next f o ≡ next g o
-next-ext f g (on x) e = e x
-next-ext f g (off x) e = refl
-
--- turns that agree leave the same
-pub leave-ext : {S : Type 0} (n : ℕ) (f g : ℕ → S → Out S) (s : S) → ((i : ℕ) → i < n → (x : S) → f i x ≡ g i x) → leave n f s ≡ leave n g s
-unfolding leave
-leave-ext zero f g s e = refl
-leave-ext (suc n) f g s e = next-ext (f n) (g n) (leave n f s) (e n (omega arith)) ∙ ap (next (g n)) (leave-ext n f g s (λ i h. e i (omega arith)))
-
--- a loop that no turn leaves
-pub leave-iter : {S : Type 0} (n : ℕ) (f : ℕ → S → S) (s : S) → leave n (λ i x. on (f i x)) s ≡ on (iter n f s)
-unfolding leave iter
-leave-iter zero f s = refl
-leave-iter (suc n) f s = ap (next (λ x. on (f n x))) (leave-iter n f s)
 
 -- for `search (loops, leaves)`
 pub ruleset leaves = (leave-none, leave-step, leave-end, leave-left)

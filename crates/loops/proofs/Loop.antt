@@ -57,20 +57,5 @@ unfolding iter
 iter-ext zero f g s e = refl
 iter-ext (suc n) f g s e = e n (omega arith) (iter n f s) ∙ ap (g n) (iter-ext n f g s (λ i h. e i (omega arith)))
 
--- the same, where they agree at the states that have P
-pub iter-ext-on : {S : Type 0} (P : S → Type 0) (n : ℕ) (f g : ℕ → S → S) (s : S) → ((i : ℕ) → i < n → (x : S) → P x → P (f i x)) → P s
-    → ((i : ℕ) → i < n → (x : S) → P x → f i x ≡ g i x) → iter n f s ≡ iter n g s
-unfolding iter
-iter-ext-on P zero f g s k p e = refl
-iter-ext-on P (suc n) f g s k p e =
-    e n (omega arith) (iter n f s) (iter-keeps P n f s (λ i h. k i (omega arith)) p)
-    ∙ ap (g n) (iter-ext-on P n f g s (λ i h. k i (omega arith)) p (λ i h. e i (omega arith)))
-
--- a loop seen through h
-pub iter-map : {S T : Type 0} (h : S → T) (n : ℕ) (f : ℕ → S → S) (g : ℕ → T → T) (s : S) → ((i : ℕ) → i < n → (x : S) → h (f i x) ≡ g i (h x)) → h (iter n f s) ≡ iter n g (h s)
-unfolding iter
-iter-map h zero f g s e = refl
-iter-map h (suc n) f g s e = e n (omega arith) (iter n f s) ∙ ap (g n) (iter-map h n f g s (λ i l. e i (omega arith)))
-
 -- what the needs of a counted loop are searched with
 pub ruleset loops = (needs, iter-none, iter-next, iter-step, iter-end, iter-then)

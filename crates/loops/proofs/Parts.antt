@@ -5,7 +5,7 @@ use Prim.Native.Nat.{ℕ, zero, suc, _+_, _-_, _≤_, _<_}
 use native.Mathlib.Nat.{not-suc-le-zero, le-of-suc-le-suc}
 use native.Mathlib.Numerals.{add-one}
 use native.Mathlib.Omega.{arith}
-use lib.ListN.{length, getD, set, take, drop, length-drop}
+use lib.ListN.{length, getD, take, drop, length-drop}
 use lib.Seq.{drop-cons, take-suc, take-take, length-take-le, getD-take, getD-drop}
 use Rattle.loops.specs.Lists.{build}
 
@@ -16,12 +16,6 @@ module _ {A : Type 0} where
 
   pub take-next : (d : A) (l : List A) (i : ℕ) → i < length l → take (i + 1) l ≡ take i l ++ (getD l i d ∷ [])
   take-next d l i h = rw (add-one i) (take-suc l i d h)
-
-  -- what is left from i of the first n
-  pub rest-next : (d : A) (l : List A) (i n : ℕ) → i < n → n ≤ length l → drop i (take n l) ≡ getD l i d ∷ drop (i + 1) (take n l)
-  rest-next d l i n h g =
-      let s : i < length (take n l) = omega (arith, length-take-le n l g) in
-      drop-next d (take n l) i s ∙ ap (λ (x : A). x ∷ drop (i + 1) (take n l)) (getD-take n l i d h)
 
   pub take-cons : (n : ℕ) (x : A) (l : List A) → take n (x ∷ take n l) ≡ take n (x ∷ l)
   take-cons zero x l = refl
@@ -44,14 +38,6 @@ module _ {A : Type 0} where
 -- ---- two lists side by side
 
 module _ {A B C : Type 0} (f : A → B → C) where
-  pub zip-set : (xs : List A) (ys : List B) (k : ℕ) (x : A) (y : B) → zipWith f (set xs k x) (set ys k y) ≡ set (zipWith f xs ys) k (f x y)
-  unfolding zipWith
-  zip-set [] ys k x y = refl
-  zip-set (a ∷ xs) [] zero x y = refl
-  zip-set (a ∷ xs) [] (suc k) x y = refl
-  zip-set (a ∷ xs) (b ∷ ys) zero x y = refl
-  zip-set (a ∷ xs) (b ∷ ys) (suc k) x y = ap (λ (s : List C). f a b ∷ s) (zip-set xs ys k x y)
-
   pub zip-at : (a : A) (b : B) (d : C) (xs : List A) (ys : List B) (k : ℕ) → k < length xs → k < length ys → getD (zipWith f xs ys) k d ≡ f (getD xs k a) (getD ys k b)
   unfolding zipWith
   zip-at a b d [] ys k h g = absurd (not-suc-le-zero h)

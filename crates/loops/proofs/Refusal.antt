@@ -87,7 +87,6 @@ module _ {A : Type 0} where
   taken-old zero new old h = absurd (h refl)
   taken-old (suc r) new old h = refl
 
--- seen through h
-pub taken-map : {A B : Type 0} (h : A → B) (r : ℕ) (new old : A) → h (taken r new old) ≡ taken r (h new) (h old)
-taken-map h zero new old = refl
-taken-map h (suc r) new old = refl
+  pub taken-same : (r : ℕ) (a : A) → taken r a a ≡ a
+  taken-same zero a = refl
+  taken-same (suc r) a = refl

@@ -81,10 +81,6 @@ rows-apart n w t u l h = go (decLe (suc (t % rowsIn n w)) (u % rowsIn n w)) (dec
     go (no p) (yes q) = inr (row-apart w _ _ q)
     go (no p) (no q) = absurd (mod-apart (rowsIn n w) t u l h (omega arith))
 
--- none of their elements share a place
-pub places-apart : (n w t u i j : ℕ) → t < u → u < t + rowsIn n w → i < w → j < w → place n w t + i ≡ place n w u + j → ⊥
-places-apart n w t u i j l h p q e = ⊎-elim (λ a. omega arith) (λ a. omega arith) (rows-apart n w t u l h)
-
 -- ---- row t is written: what stands there, and what stands in an earlier row of the window
 
 module _ {A : Type 0} (d : A) (n w t : ℕ) (xs room : List A) (e : length room ≡ n) (f : length xs ≡ w) where

@@ -1,6 +1,6 @@
 -- Laws of tests over lists.
 use mathlib.Core.Path.{_≡_, refl, sym, ap, _∙_}
-use mathlib.Core.Bool.{Bool, true, false, _||_, false≢true}
+use mathlib.Core.Bool.{Bool, true, false, not, _||_, false≢true, or-assoc, or-false}
 use mathlib.Core.List.{List, [], _∷_, _++_, map, append-nil}
 use Prim.Native.Nat.{ℕ, zero, suc, _+_, _≤_, _<_}
 use native.Mathlib.Nat.{not-suc-le-zero, le-of-suc-le-suc}
@@ -8,10 +8,10 @@ use native.Mathlib.Omega.{arith}
 use lib.ListN.{length, getD, take, drop, take-append-drop, length-take, length-drop, drop-of-length-le}
 use lib.Seq.{getD-take, getD-drop}
 use lib.Dec.{eqb}
-use borrow.Author.Tests.{eqb-true, eq-eqb}
+use borrow.Author.Tests.{eq-eqb, not-true, not-false}
 use Rattle.loops.specs.Lists.{those, anyOf, allOf, pairwise}
-use Rattle.loops.proofs.Choose.{by-test, or-second, or-fails, or-assoc, or-false, and-second, and-both, and-holds}
-use Rattle.loops.proofs.Parts.{drop-next, take-next}
+use Rattle.loops.proofs.Choose.{by-test, or-second, or-fails, and-both, and-holds}
+use Rattle.loops.proofs.Parts.{drop-next}
 
 -- one fact for each element, nested to the right
 abbrev pub NoneOf : {A : Type 0} → (A → Bool) → List A → Type 0
@@ -75,8 +75,9 @@ module _ {A : Type 0} (p : A → Bool) where
   unfolding anyOf
   any-kept bad xs i l h = let g : (bad || anyOf p (drop i xs)) ≡ bad = rw (drop-of-length-le xs l) (or-false bad) in sym g ∙ h
 
-  -- ---- allOf
+-- ---- allOf
 
+module _ {A : Type 0} (p : A → Bool) where
   pub each-of : (xs : List A) → allOf p xs ≡ true → EachOf p xs
   unfolding allOf
   each-of [] e = tt
@@ -87,34 +88,29 @@ module _ {A : Type 0} (p : A → Bool) where
   of-each [] h = refl
   of-each (x ∷ xs) h = rw (h .0) (of-each xs (h .1))
 
+  -- all pass where none fails: each of these is the law of `anyOf` for the test turned round
+  all-any : (xs : List A) → allOf p xs ≡ not (anyOf (λ x. not (p x)) xs)
+  unfolding allOf anyOf
+  all-any [] = refl
+  all-any (x ∷ xs) = by-test (p x) (λ t. rw t (all-any xs)) (λ t. rw t)
+
   pub each-at : (d : A) (xs : List A) (k : ℕ) → allOf p xs ≡ true → k < length xs → p (getD xs k d) ≡ true
-  unfolding allOf
-  each-at d [] k e l = absurd (not-suc-le-zero l)
-  each-at d (x ∷ xs) zero e l = and-holds (p x) (allOf p xs) e .0
-  each-at d (x ∷ xs) (suc k) e l = each-at d xs k (and-holds (p x) (allOf p xs) e .1) (le-of-suc-le-suc l)
+  each-at d xs k e l = not-false _ (none-at (λ x. not (p x)) d xs k (not-true _ (sym (all-any xs) ∙ e)) l)
 
   pub at-each : (d : A) (xs : List A) → ((k : ℕ) → k < length xs → p (getD xs k d) ≡ true) → allOf p xs ≡ true
-  unfolding allOf
-  at-each d [] h = refl
-  at-each d (x ∷ xs) h = rw (h 0 (omega arith)) (at-each d xs (λ k l. h (suc k) (omega arith)))
+  at-each d xs h = all-any xs ∙ ap not (at-none (λ x. not (p x)) d xs (λ k l. ap not (h k l)))
 
   pub at-fail : (d : A) (xs : List A) (k : ℕ) → k < length xs → p (getD xs k d) ≡ false → allOf p xs ≡ false
-  unfolding allOf
-  at-fail d [] k l e = absurd (not-suc-le-zero l)
-  at-fail d (x ∷ xs) zero l e = rw e
-  at-fail d (x ∷ xs) (suc k) l e = and-second (p x) (allOf p xs) (at-fail d xs k (le-of-suc-le-suc l) e)
+  at-fail d xs k l e = all-any xs ∙ ap not (at-some (λ x. not (p x)) d xs k l (ap not e))
 
   pub all-turn : (d : A) (xs : List A) (i : ℕ) {b : Bool} → i < length xs → p (getD xs i d) ≡ true → allOf p (drop i xs) ≡ b → allOf p (drop (i + 1) xs) ≡ b
-  unfolding allOf
-  all-turn d xs i l e h = let g : allOf p (drop i xs) ≡ allOf p (drop (i + 1) xs) = rw (drop-next d xs i l, e) in sym g ∙ h
+  all-turn d xs i l e h = all-any _ ∙ ap not (any-turn (λ x. not (p x)) d xs i l (ap not e) refl) ∙ sym (all-any (drop i xs)) ∙ h
 
   pub all-fails : (d : A) (xs : List A) (i : ℕ) {b : Bool} → i < length xs → p (getD xs i d) ≡ false → allOf p (drop i xs) ≡ b → false ≡ b
-  unfolding allOf
-  all-fails d xs i l e h = let g : allOf p (drop i xs) ≡ false = rw (drop-next d xs i l, e) in sym g ∙ h
+  all-fails d xs i l e h = ap not (any-found (λ x. not (p x)) d xs i l (ap not e) refl) ∙ sym (all-any (drop i xs)) ∙ h
 
   pub all-end : (xs : List A) (i : ℕ) {b : Bool} → length xs ≤ i → allOf p (drop i xs) ≡ b → true ≡ b
-  unfolding allOf
-  all-end xs i l h = let g : allOf p (drop i xs) ≡ true = rw (drop-of-length-le xs l) in sym g ∙ h
+  all-end xs i l h = ap not (any-end (λ x. not (p x)) xs i l refl) ∙ sym (all-any (drop i xs)) ∙ h
 
   -- ---- those
 
@@ -138,82 +134,21 @@ module _ {A : Type 0} (p : A → Bool) where
   length-those [] = omega arith
   length-those (x ∷ xs) = let h = length-those xs in by-test (p x) (λ t. rw t (omega arith)) (λ t. rw t (omega arith))
 
-  -- none of the first k pass, and all from k on
-  pub those-drop : (d : A) (xs : List A) (k : ℕ) → ((i : ℕ) → i < k → i < length xs → p (getD xs i d) ≡ false) → ((i : ℕ) → k ≤ i → i < length xs → p (getD xs i d) ≡ true)
-      → those p xs ≡ drop k xs
-  those-drop d xs k low high =
-      ap (those p) (sym (take-append-drop k xs)) ∙ those-append (take k xs) (drop k xs)
-      ∙ ap (λ (s : List A). s ++ those p (drop k xs)) (those-none (take k xs) (at-none d (take k xs) (λ i l. let h : i < k = omega (arith, length-take k xs) in ap p (getD-take k xs i d h) ∙ low i h (omega (arith, length-take k xs)))))
-      ∙ those-all (drop k xs) (at-each d (drop k xs) (λ i l. ap p (getD-drop k xs i d) ∙ high (k + i) (omega arith) (omega (arith, length-drop k xs))))
-
+  -- all of the first k pass, and none from k on
   pub those-take : (d : A) (xs : List A) (k : ℕ) → ((i : ℕ) → i < k → i < length xs → p (getD xs i d) ≡ true) → ((i : ℕ) → k ≤ i → i < length xs → p (getD xs i d) ≡ false)
       → those p xs ≡ take k xs
   those-take d xs k low high =
-      ap (those p) (sym (take-append-drop k xs)) ∙ those-append (take k xs) (drop k xs)
-      ∙ ap (λ (s : List A). those p (take k xs) ++ s) (those-none (drop k xs) (at-none d (drop k xs) (λ i l. ap p (getD-drop k xs i d) ∙ high (k + i) (omega arith) (omega (arith, length-drop k xs)))))
-      ∙ append-nil _
-      ∙ those-all (take k xs) (at-each d (take k xs) (λ i l. let h : i < k = omega (arith, length-take k xs) in ap p (getD-take k xs i d h) ∙ low i h (omega (arith, length-take k xs))))
+      let first : those p (take k xs) ≡ take k xs = those-all (take k xs) (at-each d (take k xs) (λ i l. let h : i < k = omega (arith, length-take k xs) in
+      ap p (getD-take k xs i d h) ∙ low i h (omega (arith, length-take k xs)))) in
+      let rest : those p (drop k xs) ≡ [] = those-none (drop k xs) (at-none p d (drop k xs) (λ i l.
+      ap p (getD-drop k xs i d) ∙ high (k + i) (omega arith) (omega (arith, length-drop k xs)))) in
+      ap (those p) (sym (take-append-drop k xs)) ∙ those-append (take k xs) (drop k xs) ∙ rw (first, rest) (append-nil _)
 
-  -- a loop over the list, by the first i
-  pub those-more : (d : A) (xs : List A) (i : ℕ) → i < length xs → p (getD xs i d) ≡ true → those p (take (i + 1) xs) ≡ those p (take i xs) ++ (getD xs i d ∷ [])
-  unfolding those
-  those-more d xs i l e = ap (those p) (take-next d xs i l) ∙ those-append (take i xs) _ ∙ rw e
-
-  pub those-same : (d : A) (xs : List A) (i : ℕ) → i < length xs → p (getD xs i d) ≡ false → those p (take (i + 1) xs) ≡ those p (take i xs)
-  unfolding those
-  those-same d xs i l e = ap (those p) (take-next d xs i l) ∙ those-append (take i xs) _ ∙ rw e (append-nil _)
-
--- ---- tests that agree
-
-module _ {A : Type 0} (p q : A → Bool) where
-  pub those-ext : (xs : List A) → ((x : A) → p x ≡ q x) → those p xs ≡ those q xs
-  unfolding those
-  those-ext [] h = refl
-  those-ext (x ∷ xs) h = rw (h x, those-ext xs h)
-
-  pub anyOf-ext : (xs : List A) → ((x : A) → p x ≡ q x) → anyOf p xs ≡ anyOf q xs
-  unfolding anyOf
-  anyOf-ext [] h = refl
-  anyOf-ext (x ∷ xs) h = rw (h x, anyOf-ext xs h)
-
-  pub allOf-ext : (xs : List A) → ((x : A) → p x ≡ q x) → allOf p xs ≡ allOf q xs
-  unfolding allOf
-  allOf-ext [] h = refl
-  allOf-ext (x ∷ xs) h = rw (h x, allOf-ext xs h)
-
-  -- the same, where they agree on the list's elements
-  pub those-ext-at : (d : A) (xs : List A) → ((k : ℕ) → k < length xs → p (getD xs k d) ≡ q (getD xs k d)) → those p xs ≡ those q xs
-  unfolding those
-  those-ext-at d [] h = refl
-  those-ext-at d (x ∷ xs) h = rw (h 0 (omega arith), those-ext-at d xs (λ k l. h (suc k) (omega arith)))
-
-  pub anyOf-ext-at : (d : A) (xs : List A) → ((k : ℕ) → k < length xs → p (getD xs k d) ≡ q (getD xs k d)) → anyOf p xs ≡ anyOf q xs
-  unfolding anyOf
-  anyOf-ext-at d [] h = refl
-  anyOf-ext-at d (x ∷ xs) h = rw (h 0 (omega arith), anyOf-ext-at d xs (λ k l. h (suc k) (omega arith)))
-
-  pub allOf-ext-at : (d : A) (xs : List A) → ((k : ℕ) → k < length xs → p (getD xs k d) ≡ q (getD xs k d)) → allOf p xs ≡ allOf q xs
-  unfolding allOf
-  allOf-ext-at d [] h = refl
-  allOf-ext-at d (x ∷ xs) h = rw (h 0 (omega arith), allOf-ext-at d xs (λ k l. h (suc k) (omega arith)))
-
--- ---- through map
-
-module _ {A B : Type 0} (h : A → B) (p : B → Bool) where
-  pub those-map : (xs : List A) → those p (map h xs) ≡ map h (those (λ x. p (h x)) xs)
-  unfolding those
-  those-map [] = refl
-  those-map (x ∷ xs) = by-test (p (h x)) (λ t. rw (t, those-map xs)) (λ t. rw (t, those-map xs))
-
-  pub anyOf-map : (xs : List A) → anyOf p (map h xs) ≡ anyOf (λ x. p (h x)) xs
-  unfolding anyOf
-  anyOf-map [] = refl
-  anyOf-map (x ∷ xs) = rw (anyOf-map xs)
-
-  pub allOf-map : (xs : List A) → allOf p (map h xs) ≡ allOf (λ x. p (h x)) xs
-  unfolding allOf
-  allOf-map [] = refl
-  allOf-map (x ∷ xs) = rw (allOf-map xs)
+-- through map
+pub those-map : {A B : Type 0} (h : A → B) (p : B → Bool) (xs : List A) → those p (map h xs) ≡ map h (those (λ x. p (h x)) xs)
+unfolding those
+those-map h p [] = refl
+those-map h p (x ∷ xs) = by-test (p (h x)) (λ t. rw (t, those-map h p xs)) (λ t. rw (t, those-map h p xs))
 
 -- ---- pairwise
 
@@ -224,40 +159,13 @@ EachPair p [] (y ∷ ys) = ⊥
 EachPair p (x ∷ xs) [] = ⊥
 EachPair p (x ∷ xs) (y ∷ ys) = (p x y ≡ true) × EachPair p xs ys
 
-module _ {A B : Type 0} (p : A → B → Bool) where
-  pub each-pair : (xs : List A) (ys : List B) → pairwise p xs ys ≡ true → EachPair p xs ys
-  each-pair [] [] e = tt
-  each-pair [] (y ∷ ys) e = absurd (false≢true e)
-  each-pair (x ∷ xs) [] e = absurd (false≢true e)
-  each-pair (x ∷ xs) (y ∷ ys) e = let h = and-holds (p x y) (pairwise p xs ys) e in (h .0, each-pair xs ys (h .1))
-
-  pub pair-each : (xs : List A) (ys : List B) → EachPair p xs ys → pairwise p xs ys ≡ true
-  pair-each [] [] h = refl
-  pair-each [] (y ∷ ys) h = absurd h
-  pair-each (x ∷ xs) [] h = absurd h
-  pair-each (x ∷ xs) (y ∷ ys) h = and-both (p x y) (pairwise p xs ys) (h .0) (pair-each xs ys (h .1))
-
-  pub pair-at : (a : A) (b : B) (xs : List A) (ys : List B) (k : ℕ) → pairwise p xs ys ≡ true → k < length xs → p (getD xs k a) (getD ys k b) ≡ true
-  pair-at a b [] ys k e l = absurd (not-suc-le-zero l)
-  pair-at a b (x ∷ xs) [] k e l = absurd (false≢true e)
-  pair-at a b (x ∷ xs) (y ∷ ys) zero e l = and-holds (p x y) (pairwise p xs ys) e .0
-  pair-at a b (x ∷ xs) (y ∷ ys) (suc k) e l = pair-at a b xs ys k (and-holds (p x y) (pairwise p xs ys) e .1) (le-of-suc-le-suc l)
-
-  pub pair-length : (xs : List A) (ys : List B) → pairwise p xs ys ≡ true → length xs ≡ length ys
-  pair-length [] [] e = refl
-  pair-length [] (y ∷ ys) e = absurd (false≢true e)
-  pair-length (x ∷ xs) [] e = absurd (false≢true e)
-  pair-length (x ∷ xs) (y ∷ ys) e = ap suc (pair-length xs ys (and-holds (p x y) (pairwise p xs ys) e .1))
+pub each-pair : {A B : Type 0} (p : A → B → Bool) (xs : List A) (ys : List B) → pairwise p xs ys ≡ true → EachPair p xs ys
+each-pair p [] [] e = tt
+each-pair p [] (y ∷ ys) e = absurd (false≢true e)
+each-pair p (x ∷ xs) [] e = absurd (false≢true e)
+each-pair p (x ∷ xs) (y ∷ ys) e = let h = and-holds (p x y) (pairwise p xs ys) e in (h .0, each-pair p xs ys (h .1))
 
 -- equal lists of numbers
-pub pair-same : (xs ys : List ℕ) → pairwise eqb xs ys ≡ true → xs ≡ ys
-pair-same [] [] e = refl
-pair-same [] (y ∷ ys) e = absurd (false≢true e)
-pair-same (x ∷ xs) [] e = absurd (false≢true e)
-pair-same (x ∷ xs) (y ∷ ys) e =
-    let h = and-holds (eqb x y) (pairwise eqb xs ys) e in
-    ap (λ (z : ℕ). z ∷ xs) (eqb-true x y (h .0)) ∙ ap (λ (s : List ℕ). y ∷ s) (pair-same xs ys (h .1))
-
 pub same-pair : (xs ys : List ℕ) → xs ≡ ys → pairwise eqb xs ys ≡ true
 same-pair xs ys e = rw (← e) (go xs)
   where

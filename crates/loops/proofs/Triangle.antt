@@ -1,14 +1,11 @@
 -- A triangle, row after row: row p has p + 1 elements and begins at p * (p + 1) / 2.
-use mathlib.Core.Path.{_≡_, sym, ap, _∙_}
-use mathlib.Core.List.{List, _++_}
-use mathlib.Core.Logic.{⊎-elim}
+use mathlib.Core.Path.{_≡_, ap, _∙_}
 use Prim.Native.Nat.{ℕ, zero, suc, _+_, _*_, _/_, _≤_, _<_}
-use native.Mathlib.Nat.{mul-comm, add-mul, mul-le-mul, not-suc-le-zero, le-of-suc-le-suc, eq-or-lt-of-le}
+use native.Mathlib.Nat.{mul-comm, add-mul, mul-le-mul}
 use native.Mathlib.Omega.{arith}
-use lib.ListN.{length, getD, length-append, List·getD-append}
-use lib.Seq.{getD-append-add}
+use lib.ListN.{length, length-append}
 use Rattle.loops.specs.Lists.{build, flat}
-use Rattle.loops.proofs.Build.{length-build, at-build}
+use Rattle.loops.proofs.Build.{length-build}
 use Rattle.loops.proofs.Flat.{flat-none, flat-snoc}
 
 -- where the row after row n begins
@@ -31,15 +28,3 @@ module _ {A : Type 0} (f : ℕ → ℕ → A) where
       ap length (flat-snoc n (λ p. build (p + 1) (f p)))
       ∙ length-append (flat n (λ p. build (p + 1) (f p))) (build (n + 1) (f n))
       ∙ omega (arith, length-triangle n, length-build (n + 1) (f n), triangle-next n, ap (λ (k : ℕ). k * (k + 1) / 2) e)
-
-  pub at-triangle : (d : A) (n p q : ℕ) → q ≤ p → p < n → getD (flat n (λ p. build (p + 1) (f p))) (p * (p + 1) / 2 + q) d ≡ f p q
-  at-triangle d zero p q h l = absurd (not-suc-le-zero l)
-  at-triangle d (suc n) p q h l =
-      ap (λ (s : List A). getD s (p * (p + 1) / 2 + q) d) (flat-snoc n (λ p. build (p + 1) (f p)))
-      ∙ ⊎-elim
-      (λ (e : p ≡ n).
-      let k : p * (p + 1) / 2 + q ≡ length (flat n (λ p. build (p + 1) (f p))) + q = ap (λ (m : ℕ). m * (m + 1) / 2 + q) e ∙ ap (λ (m : ℕ). m + q) (sym (length-triangle n)) in
-      ap (λ (i : ℕ). getD (flat n (λ p. build (p + 1) (f p)) ++ build (n + 1) (f n)) i d) k ∙ getD-append-add (flat n (λ p. build (p + 1) (f p))) (build (n + 1) (f n)) q d
-      ∙ at-build d (n + 1) (f n) q (omega arith) ∙ ap (λ (m : ℕ). f m q) (sym e))
-      (λ (b : p < n). List·getD-append (flat n (λ p. build (p + 1) (f p))) (build (n + 1) (f n)) d (p * (p + 1) / 2 + q) (omega (arith, triangle-below p q n h b, length-triangle n)) ∙ at-triangle d n p q h b)
-      (eq-or-lt-of-le (le-of-suc-le-suc l))

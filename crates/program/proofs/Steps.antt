@@ -41,7 +41,7 @@ use Rattle.program.proofs.Pushed.{pushed-agrees}
 use Rattle.program.proofs.WaitingRooms.{waiting-over}
 use Rattle.program.proofs.InOrder.{length-inserts, inserts-rising}
 use Rattle.program.proofs.Facts.{ranges}
-use Rattle.program.proofs.Waiting.{inserts-none, those-rising, those-none, lowest-first, lowest-at, Each, merged-each, those-each}
+use Rattle.program.proofs.Waiting.{inserts-none, those-rising, those-none, lowest-under, lowest-at, Each, merged-each, those-each}
 use Rattle.program.proofs.Sound.{streamOf, Made, Inv, held-are, rings-long}
 
 -- a higher mark holds fewer rows
@@ -143,7 +143,7 @@ module _ (i : IvectorInfo) (z : RoomLengths) (n : ℕ) (t : Tables) (made : Made
         let fs : List ℕ = framesOf (k .changes .waiting) in
         let low : ℕ = foldl min (min f (k .next)) fs in
         let mark′ : ℕ = max (k .mark) (low - left) in
-        let below : low ≤ min f (k .next) = lowest-first (min f (k .next)) fs in
+        let below : low ≤ min f (k .next) = lowest-under (min f (k .next)) fs in
         let m : mark′ ≤ k .next - left = omega (arith, v .mark-is, below) in
         let back : anyOf (λ g. ltb (g - left) mark′) fs ≡ false =
         at-none (λ g. ltb (g - left) mark′) 0 fs (λ j l. le-ltb (getD fs j 0 - left) mark′ (omega (arith, lowest-at (min f (k .next)) fs j l, ltb-false (getD fs j 0 - left) (k .mark) (none-at (λ g. ltb (g - left) (k .mark)) 0 fs j (v .held-back) l)))) in (

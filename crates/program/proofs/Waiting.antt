@@ -61,13 +61,13 @@ module _ (p : ℕ → Bool) where
 
 -- ---- the lowest
 
-pub lowest-first : (a : ℕ) (fs : List ℕ) → foldl min a fs ≤ a
-lowest-first a [] = omega arith
-lowest-first a (f ∷ fs) = omega (arith, lowest-first (min a f) fs)
+pub lowest-under : (a : ℕ) (fs : List ℕ) → foldl min a fs ≤ a
+lowest-under a [] = omega arith
+lowest-under a (f ∷ fs) = omega (arith, lowest-under (min a f) fs)
 
 pub lowest-at : (a : ℕ) (fs : List ℕ) (k : ℕ) → k < length fs → foldl min a fs ≤ getD fs k 0
 lowest-at a [] k h = absurd (not-suc-le-zero h)
-lowest-at a (f ∷ fs) zero h = omega (arith, lowest-first (min a f) fs)
+lowest-at a (f ∷ fs) zero h = omega (arith, lowest-under (min a f) fs)
 lowest-at a (f ∷ fs) (suc k) h = lowest-at (min a f) fs k (omega arith)
 
 -- ---- merging: no frame but those of the changes

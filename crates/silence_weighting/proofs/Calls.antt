@@ -127,7 +127,17 @@ module _ (s : SilenceWeighting) (ks ss : List Bool) (ws : List Float) (ready fir
     unfolding asked
     some-asked = sym (choose-false _ (lt-leb (ready .0) (first .0) l) (ap (λ (z : ℕ). deltaWeights (s .«silence_weight») (s .subsampling) first (decoder z) (tableOf (s .length .0) ks ss ws)) size-is))
 
--- the refusal, from what the code's branches tell; the answer's lists have f and w places
+-- ---- the refusal, from what the code's branches tell
+
+-- no refusal before the count: the table is whole, the frames are in range, and its places reach the d decoder frames that are wanted
+pub record Reached (s : SilenceWeighting) (ks ss : List Bool) (ws : List Float) (ready first : InputFrame) (d : DecoderFrame) : Type 0 where
+  pub unbroken : tableBroken s (length ks) (length ss) (length ws) ≡ false
+  pub ready-in : ready .0 ≤ 1000000000
+  pub first-in : first .0 ≤ 1000000000
+  pub wanted-is : d ≡ wanted s ready first
+  pub in-places : d .0 ≤ places s
+
+-- the answer's lists have f and w places
 module _ (s : SilenceWeighting) (ks ss : List Bool) (ws : List Float) (ready first : InputFrame) (f w : ℕ) where
   abbrev refusal : ℕ
   refusal = getDeltaWeights s (tableRooms ks ss ws) ready first f w .refusal
@@ -145,40 +155,45 @@ module _ (s : SilenceWeighting) (ks ss : List Bool) (ws : List Float) (ready fir
     unfolding deltaTests getDeltaWeights
     refusal-first h = first-is 1 _ (b, or-first _ _ (or-second (ltb 1000000000 (ready .0)) _ (lt-ltb 1000000000 (first .0) h)))
 
-    module _ (hr : ready .0 ≤ 1000000000) (hf : first .0 ≤ 1000000000) (p : ℕ) (d : DecoderFrame) (ep : p ≡ places s) (ed : d ≡ wanted s ready first) where
-      wanted-is : d .0 ≡ wanted s ready first .0
-      wanted-is = ap (λ (x : DecoderFrame). x .0) ed
+    pub refusal-wanted : {p : ℕ} {d : DecoderFrame} → p ≡ places s → d ≡ wanted s ready first → p < d .0 → 23 ≡ refusal
+    unfolding deltaTests getDeltaWeights
+    refusal-wanted ep ed h =
+        let e = ap (λ (x : DecoderFrame). x .0) ed in
+        first-is 1 _ (b, or-second (ltb 1000000000 (ready .0) || ltb 1000000000 (first .0)) _ (lt-ltb (places s) (wanted s ready first .0) (omega arith)))
 
-      pub refusal-wanted : p < d .0 → 23 ≡ refusal
+  module _ {d : DecoderFrame} (q : Reached s ks ss ws ready first d) where
+    wanted-same : d .0 ≡ wanted s ready first .0
+    wanted-same = ap (λ (x : DecoderFrame). x .0) (q .wanted-is)
+
+    no-23 : (ltb 1000000000 (ready .0) || ltb 1000000000 (first .0) || ltb (places s) (wanted s ready first .0)) ≡ false
+    no-23 =
+        or-none _ _ (or-none _ _ (le-ltb 1000000000 (ready .0) (q .ready-in)) (le-ltb 1000000000 (first .0) (q .first-in)))
+        (le-ltb (places s) (wanted s ready first .0) (omega (arith, wanted-same, q .in-places)))
+
+    pub refusal-nothing : ready .0 ≤ first .0 → 0 ≡ refusal
+    unfolding deltaTests getDeltaWeights
+    refusal-nothing l = first-none _ (q .unbroken, (no-23, (le-ltb (min f w) _ (omega (arith, ap length (nothing-asked s ks ss ws ready first l))), tt)))
+
+    -- n frames are wanted, which give c changes, and r places are there for them
+    module _ (l : first .0 < ready .0) {n c r : ℕ} (en : n ≡ max (s .length .0) (d .0))
+        (ec : c ≡ length (deltaWeights (s .«silence_weight») (s .subsampling) first (decoder n) (tableOf (s .length .0) ks ss ws))) (er : r ≡ min f w) where
+      count-is : c ≡ length (asked s ready first (tableOf (s .length .0) ks ss ws))
+      count-is = ec ∙ ap length (sym (some-asked s ks ss ws ready first l n (en ∙ ap (max (s .length .0)) wanted-same)))
+
+      pub refusal-short : r < c → 24 ≡ refusal
       unfolding deltaTests getDeltaWeights
-      refusal-wanted h = first-is 1 _ (b, or-second (ltb 1000000000 (ready .0) || ltb 1000000000 (first .0)) _ (lt-ltb (places s) (wanted s ready first .0) (omega (arith, wanted-is))))
+      refusal-short h = first-is 2 _ (q .unbroken, (no-23, lt-ltb (min f w) (length (asked s ready first (tableOf (s .length .0) ks ss ws))) (omega (arith, count-is))))
 
-      module _ (hp : d .0 ≤ p) where
-        no-23 : (ltb 1000000000 (ready .0) || ltb 1000000000 (first .0) || ltb (places s) (wanted s ready first .0)) ≡ false
-        no-23 = or-none _ _ (or-none _ _ (le-ltb 1000000000 (ready .0) hr) (le-ltb 1000000000 (first .0) hf)) (le-ltb (places s) (wanted s ready first .0) (omega (arith, wanted-is)))
+      pub refusal-none : c ≤ r → 0 ≡ refusal
+      unfolding deltaTests getDeltaWeights
+      refusal-none h = first-none _ (q .unbroken, (no-23, (le-ltb (min f w) (length (asked s ready first (tableOf (s .length .0) ks ss ws))) (omega (arith, count-is)), tt)))
 
-        pub refusal-nothing : ready .0 ≤ first .0 → 0 ≡ refusal
-        unfolding deltaTests getDeltaWeights
-        refusal-nothing l = first-none _ (b, (no-23, (le-ltb (min f w) _ (omega (arith, ap length (nothing-asked s ks ss ws ready first l))), tt)))
-
-        module _ (l : first .0 < ready .0) (n c r : ℕ) (en : n ≡ max (s .length .0) (d .0)) (ec : c ≡ length (deltaWeights (s .«silence_weight») (s .subsampling) first (decoder n) (tableOf (s .length .0) ks ss ws))) (er : r ≡ min f w) where
-          count-is : c ≡ length (asked s ready first (tableOf (s .length .0) ks ss ws))
-          count-is = ec ∙ ap length (sym (some-asked s ks ss ws ready first l n (en ∙ ap (max (s .length .0)) wanted-is)))
-
-          pub refusal-short : r < c → 24 ≡ refusal
-          unfolding deltaTests getDeltaWeights
-          refusal-short h = first-is 2 _ (b, (no-23, lt-ltb (min f w) (length (asked s ready first (tableOf (s .length .0) ks ss ws))) (omega (arith, count-is))))
-
-          pub refusal-none : c ≤ r → 0 ≡ refusal
-          unfolding deltaTests getDeltaWeights
-          refusal-none h = first-none _ (b, (no-23, (le-ltb (min f w) (length (asked s ready first (tableOf (s .length .0) ks ss ws))) (omega (arith, count-is)), tt)))
-
-          -- where a change of each input frame would find room
-          pub refusal-roomy : (b o : ℕ) → b ≡ s .length .0 - 100 → o ≡ n - b → o * s .subsampling ≤ r → 0 ≡ refusal
-          refusal-roomy b o eb eo h =
-              let t : Table = tableOf (s .length .0) ks ss ws in
-              let e : o ≡ n - (length t - 100) = eo ∙ ap (λ (z : ℕ). n - z) (eb ∙ ap (λ (z : ℕ). z - 100) (sym (length-table (s .length .0) ks ss ws))) in
-              refusal-none (omega (arith, ec, few-changes (s .«silence_weight») (s .subsampling) first n t, ap (λ (z : ℕ). z * s .subsampling) e, h))
+      -- where a change of each input frame would find room
+      pub refusal-roomy : (b o : ℕ) → b ≡ s .length .0 - 100 → o ≡ n - b → o * s .subsampling ≤ r → 0 ≡ refusal
+      refusal-roomy b o eb eo h =
+          let t : Table = tableOf (s .length .0) ks ss ws in
+          let e : o ≡ n - (length t - 100) = eo ∙ ap (λ (z : ℕ). n - z) (eb ∙ ap (λ (z : ℕ). z - 100) (sym (length-table (s .length .0) ks ss ws))) in
+          refusal-none (omega (arith, ec, few-changes (s .«silence_weight») (s .subsampling) first n t, ap (λ (z : ℕ). z * s .subsampling) e, h))
 
 module _ (s : SilenceWeighting) (ks ss : List Bool) (ws : List Float) (ready first : InputFrame) (fs : List ℕ) (os : List Float) where
   abbrev t : Table

@@ -15,7 +15,7 @@ use Rattle.loops.specs.Refusal.{firstOf, taken}
 use Rattle.loops.proofs.Choose.{by-test, or-none, or-fails}
 use Rattle.loops.proofs.Build.{build-ext, build-list}
 use Rattle.loops.proofs.Fill.{length-over, over-at}
-use Rattle.loops.proofs.Refusal.{first-past}
+use Rattle.loops.proofs.Refusal.{first-past, taken-same}
 use Rattle.definition.specs.declared.InputFrame.{InputFrame}
 use Rattle.definition.specs.declared.DecoderFrame.{DecoderFrame}
 use Rattle.definition.specs.declared.SilenceWeighting.{SilenceWeighting}
@@ -151,10 +151,6 @@ answers-kept zero m s s′ t cs e = ap (λ (x : SilenceWeighting). answers x t c
 answers-kept (suc n) m s s′ t cs e = ap (λ (x : SilenceWeighting). answers x t cs) e
 
 -- ---- the lists of calls
-
-taken-same : {A : Type 0} (n : ℕ) (a : A) → taken n a a ≡ a
-taken-same zero a = refl
-taken-same (suc n) a = refl
 
 -- one call more
 module _ (s : SilenceWeighting) (z : TableRooms) (b : broken s z ≡ false) (c : Call) where

@@ -5,7 +5,7 @@ use lib.Ieee.{Float, nan}
 use Rattle.loops.specs.Loop.{iter}
 use Rattle.loops.proofs.Loop.{loops, iter-step}
 use Rattle.floats.specs.Operators.{_+₆₄_, _*₆₄_, at}
-use Rattle.batch_sums.proofs.Rows.{updated}
+use Rattle.loops.proofs.Fill.{updated}
 use Rattle.batch_sums.proofs.add_features.Statement.{statement}
 use Rattle.batch_sums.proofs.add_features.Tie as tie
 

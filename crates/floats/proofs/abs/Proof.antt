@@ -1,3 +1,4 @@
+-- `abs` gives `absolute x`. Three arms, by the laws of Extremes.antt: below zero, a zero of either sign (told by its being held as an f32), else.
 use denote.Floats.{passes}
 use Rattle.floats.proofs.Extremes.{abs-below, abs-zero, abs-else}
 use Rattle.floats.proofs.abs.Statement.{statement}

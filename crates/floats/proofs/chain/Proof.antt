@@ -1,3 +1,5 @@
+-- `chain` gives the chain of 17 terms from 1 on, `chained 17 1 q`. The loop goes from the last term to the first: with n terms to come,
+-- h is `chained (17 - n) (2 n + 1) q` (Series.antt).
 use mathlib.Core.Path.{_≡_}
 use Prim.Native.Nat.{_+_, _-_, _*_, _≤_}
 use native.Mathlib.Omega.{arith}
@@ -27,9 +29,6 @@ mul-h c = omega arith
 add-h : tie.Need-add-h Inv-loop μ-loop
 add-h c = omega arith
 
-int-to-float-h : tie.Need-int-to-float-h Inv-loop μ-loop
-int-to-float-h c = search needs
-
 loop-less : tie.Need-loop-less Inv-loop μ-loop
 loop-less c = omega arith
 
@@ -42,14 +41,4 @@ returns c = let l = c .before .loop in chain-last (c .before .before .args .q) (
 pub chain-spec : {M : Type 1} → statement M
 chain-spec =
     tie.close
-    (tie.spec
-    Inv-loop
-    μ-loop
-    loop-holds
-    sub-n
-    mul-h
-    add-h
-    int-to-float-h
-    loop-less
-    loop-again
-    returns)
+    (tie.spec Inv-loop μ-loop loop-holds sub-n mul-h add-h (λ c. search needs) loop-less loop-again returns)

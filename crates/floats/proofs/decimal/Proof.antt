@@ -1,3 +1,5 @@
+-- `decimal` gives `scaled minus m up down`: ±m and the power of ten are each held by an f64, so that one product or quotient rounds once
+-- (`times-ten`, `over-ten` in Tens.antt).
 use mathlib.Core.Path.{sym, subst}
 use mathlib.Core.Logic.{⊎-elim}
 use mathlib.Core.Bool.{Bool}
@@ -10,8 +12,9 @@ use Rattle.floats.proofs.decimal.Tie as tie
 -- x is ±m
 signed : (c : tie.Joined1) → let a = c .before .before .args in HasValue (c .if1 .x) (a .minus) (a .m) 1
 signed c =
-    let a = c .before .before .args in
-    let h = c .before .before .pre .0 in
+    let start = c .before .before in
+    let a = start .args in
+    let h = start .pre .0 in
     ⊎-elim
     (λ o. subst (λ (s : Bool). HasValue (c .if1 .x) s (a .m) 1) (sym (o .0 .taken)) (minus-value (a .m) (c .if1 .x) h (o .1)))
     (λ o. subst (λ (s : Bool). HasValue (c .if1 .x) s (a .m) 1) (sym (o .0 .left)) (plus-value (a .m) (c .if1 .x) h (o .1)))
@@ -19,15 +22,6 @@ signed c =
 
 int-to-float-x : tie.Need-int-to-float-x
 int-to-float-x c = whole-in _ (c .before .pre .0)
-
-ten-requires : tie.Need-ten-requires
-ten-requires c κs = search needs
-
-sub-ten : tie.Need-sub-ten
-sub-ten c = search needs
-
-ten-requires-2 : tie.Need-ten-requires-2
-ten-requires-2 c κs = search needs
 
 returns : tie.Need-returns
 returns c =
@@ -45,4 +39,5 @@ returns-2 c =
 
 pub decimal-spec : {M : Type 1} → statement M
 decimal-spec =
-    tie.close (tie.spec int-to-float-x ten-requires sub-ten ten-requires-2 returns returns-2)
+    tie.close
+    (tie.spec int-to-float-x (λ c κs. search needs) (λ c. search needs) (λ c κs. search needs) returns returns-2)

@@ -1,3 +1,4 @@
+-- `is_finite` gives `finite x`: x - x is a NaN of a NaN and of an infinity alone (`is-finite` in Extremes.antt, over any format).
 use lib.Ieee.{binary32}
 use Rattle.floats.proofs.Extremes.{is-finite}
 use Rattle.floats.proofs.is_finite.Statement.{statement}

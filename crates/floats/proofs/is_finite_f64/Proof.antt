@@ -1,3 +1,4 @@
+-- `is_finite_f64` gives `finite v`: the law `is-finite` of Extremes.antt, at f64.
 use lib.Ieee.{binary64}
 use Rattle.floats.proofs.Extremes.{is-finite}
 use Rattle.floats.proofs.is_finite_f64.Statement.{statement}

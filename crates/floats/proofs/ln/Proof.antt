@@ -1,3 +1,5 @@
+-- `ln` gives `lnOf v`, arm by arm as the bits tell them apart: a NaN, below zero, a zero of either sign, an infinity (Signs.antt, with `sqrt`),
+-- and else what `ln_bits` ensures of the same pattern.
 use mathlib.Core.Path.{_≡_}
 use mathlib.Core.Bool.{false}
 use lib.Dec.{T}
@@ -11,9 +13,9 @@ use Rattle.floats.proofs.Logs.{ln-from-zero, of-minus-zero, of-zero}
 use Rattle.floats.proofs.ln.Statement.{statement}
 use Rattle.floats.proofs.ln.Tie as tie
 
--- what owning an f64 tells: the format holds it
-held : (c : tie.Start) → T (fits binary64 (c .args .v))
-held c = passes _ (c .good .0 .1)
+-- where the argument is no NaN: what owning an f64 tells, that the format holds it, and what the first test tells
+held : (c : tie.Else1) → T (fits binary64 (c .before .args .v))
+held c = passes _ (c .before .good .0 .1)
 
 none : (c : tie.Else1) → isNan (c .before .args .v) ≡ false
 none c = no-nan (c .before .args .v) (c .if1 .left)
@@ -25,32 +27,27 @@ float-to-bits-b : tie.Need-float-to-bits-b
 float-to-bits-b c = false-not (isNan (c .before .args .v)) (none c)
 
 returns-2 : tie.Need-returns-2
-returns-2 c = let e = c .before .before .before in of-minus lnOf ln-from-zero (e .args .v) (held e) (none (c .before .before)) (c .if3 .taken)
+returns-2 c = let n = c .before .before in of-minus lnOf ln-from-zero (n .before .args .v) (held n) (none n) (c .if3 .taken)
 
 returns-3 : tie.Need-returns-3
-returns-3 c = let e = c .before .before .before in of-minus-zero (e .args .v) (held e) (none (c .before .before)) (c .before .if2 .taken) (c .if3 .left)
+returns-3 c =
+    let at-if2 = c .before in
+    let n = at-if2 .before in
+    of-minus-zero (n .before .args .v) (held n) (none n) (at-if2 .if2 .taken) (c .if3 .left)
 
 returns-4 : tie.Need-returns-4
-returns-4 c = let e = c .before .before .before in of-zero (e .args .v) (held e) (none (c .before .before)) (c .if4 .taken)
+returns-4 c = let n = c .before .before in of-zero (n .before .args .v) (held n) (none n) (c .if4 .taken)
 
 returns-5 : tie.Need-returns-5
-returns-5 c = let e = c .before .before .before .before in of-inf lnOf ln-from-zero (e .args .v) (held e) (none (c .before .before .before)) (c .before .before .if2 .left) (c .if5 .taken)
-
-ln-bits-requires : tie.Need-ln-bits-requires
-ln-bits-requires c κs = search needs
+returns-5 c =
+    let at-if2 = c .before .before in
+    let n = at-if2 .before in
+    of-inf lnOf ln-from-zero (n .before .args .v) (held n) (none n) (at-if2 .if2 .left) (c .if5 .taken)
 
 returns-6 : tie.Need-returns-6
-returns-6 c = let e = c .before .before .before .before .before in of-else lnOf ln-from-zero (e .args .v) (held e) (none (c .before .before .before .before)) (c .ln-bits .result) (c .ln-bits .ensures)
+returns-6 c = let n = c .before .before .before .before in of-else lnOf ln-from-zero (n .before .args .v) (held n) (none n) (c .ln-bits .result) (c .ln-bits .ensures)
 
 pub ln-spec : {M : Type 1} → statement M
 ln-spec =
     tie.close
-    (tie.spec
-    returns
-    float-to-bits-b
-    returns-2
-    returns-3
-    returns-4
-    returns-5
-    ln-bits-requires
-    returns-6)
+    (tie.spec returns float-to-bits-b returns-2 returns-3 returns-4 returns-5 (λ c κs. search needs) returns-6)

@@ -1,3 +1,4 @@
+-- `ln_f32` gives `lnNarrow x`: the contracts of the widening, of `ln` and of `narrow`, one after the other.
 use mathlib.Core.Path.{ap, _∙_}
 use lib.Ieee.{Float}
 use borrow.Author.Needs.{needs}

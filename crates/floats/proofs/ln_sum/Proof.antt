@@ -1,3 +1,4 @@
+-- `ln_sum` gives `lnSum m e`, once `chain` gives its chain (`sum-is` in Logs.antt).
 use borrow.Author.Needs.{needs}
 use Rattle.floats.proofs.Logs.{sum-is}
 use Rattle.floats.proofs.ln_sum.Statement.{statement}

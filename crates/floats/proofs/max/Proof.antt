@@ -1,3 +1,4 @@
+-- `max` gives `larger a b`: each arm is one of the three picks of Extremes.antt, which `min` and the two of f64 share.
 use lib.Ieee.{lt}
 use Rattle.floats.specs.Extremes.{larger}
 use Rattle.floats.proofs.Extremes.{pick-nan, pick-second, pick-first}

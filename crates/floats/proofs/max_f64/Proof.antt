@@ -1,3 +1,4 @@
+-- `max_f64` gives `larger x y`: the three picks of Extremes.antt.
 use lib.Ieee.{lt}
 use Rattle.floats.specs.Extremes.{larger}
 use Rattle.floats.proofs.Extremes.{pick-nan, pick-second, pick-first}

@@ -1,3 +1,4 @@
+-- `min` gives `smaller a b`: the three picks of Extremes.antt, with the operands of `<` exchanged.
 use lib.Ieee.{lt}
 use Rattle.floats.specs.Extremes.{smaller}
 use Rattle.floats.proofs.Extremes.{pick-nan, pick-second, pick-first}

@@ -1,3 +1,5 @@
+-- `narrow_bits` gives `magBits a`, an f32's pattern without sign, by the size of a: too large, normal, subnormal, none (Narrowing.antt).
+-- `mid-le` and `mag-le` say that the pattern fits 32 bits.
 use mathlib.Core.Path.{ap, _∙_}
 use Prim.Native.Nat.{ℕ, _+_, _-_, _*_, _/_, _^_}
 use native.Mathlib.Omega.{arith}
@@ -6,30 +8,16 @@ use Rattle.floats.proofs.Narrowing.{mag-top, mag-mid, mag-low, mag-none
 use Rattle.floats.proofs.narrow_bits.Statement.{statement}
 use Rattle.floats.proofs.narrow_bits.Tie as tie
 
-add-q : tie.Need-add-q
-add-q c = search needs
-
-mul-result : tie.Need-mul-result
-mul-result c = search needs
-
-shifted-requires : tie.Need-shifted-requires
-shifted-requires c κs = search needs
-
 add-result : tie.Need-add-result
 add-result c = omega (arith, c .shifted .ensures, mid-le (c .before .before .before .args .a) (omega arith))
 
 cast-result : tie.Need-cast-result
 cast-result c = omega (arith, c .shifted .ensures, mid-le (c .before .before .before .args .a) (omega arith))
 
-sub-shifted : tie.Need-sub-shifted
-sub-shifted c = search needs
-
-shifted-requires-2 : tie.Need-shifted-requires-2
-shifted-requires-2 c κs = search needs
-
 cast-result-2 : tie.Need-cast-result-2
 cast-result-2 c =
-    let a = c .before .before .before .before .args .a in
+    let start = c .before .before .before .before in
+    let a = start .args .a in
     omega (arith, c .shifted2 .ensures, mag-low a (omega arith) (omega arith), mag-le a)
 
 returns : tie.Need-returns
@@ -41,7 +29,9 @@ returns-2 c =
     ap (λ (r : ℕ). (a / 2 ^ 52 - 897) * 8388608 + r) (c .shifted .ensures) ∙ mag-mid a (omega arith) (omega arith)
 
 returns-3 : tie.Need-returns-3
-returns-3 c = c .shifted2 .ensures ∙ mag-low (c .before .before .before .before .args .a) (omega arith) (omega arith)
+returns-3 c =
+    let start = c .before .before .before .before in
+    c .shifted2 .ensures ∙ mag-low (start .args .a) (omega arith) (omega arith)
 
 returns-4 : tie.Need-returns-4
 returns-4 c = mag-none (c .before .before .before .args .a) (omega arith)
@@ -49,16 +39,5 @@ returns-4 c = mag-none (c .before .before .before .args .a) (omega arith)
 pub narrow-bits-spec : {M : Type 1} → statement M
 narrow-bits-spec =
     tie.close
-    (tie.spec
-    add-q
-    mul-result
-    shifted-requires
-    add-result
-    cast-result
-    sub-shifted
-    shifted-requires-2
-    cast-result-2
-    returns
-    returns-2
-    returns-3
-    returns-4)
+    (tie.spec (λ c. search needs) (λ c. search needs) (λ c κs. search needs) add-result cast-result (λ c. search needs)
+    (λ c κs. search needs) cast-result-2 returns returns-2 returns-3 returns-4)

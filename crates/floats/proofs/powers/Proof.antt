@@ -1,3 +1,5 @@
+-- `powers` gives the series of 16 terms, `series 16 1 y`. The loop goes from the last term to the first: with k terms to come, h is
+-- `series (16 - k) (k + 1) y` (Series.antt).
 use mathlib.Core.Path.{_≡_}
 use Prim.Native.Nat.{_+_, _-_, _≤_}
 use native.Mathlib.Omega.{arith}
@@ -18,9 +20,6 @@ abbrev μ-loop : tie.MeasureT-loop
 loop-holds : tie.Need-loop-holds Inv-loop μ-loop
 loop-holds c = (lit≤ tt, series-first (c .args .y))
 
-int-to-float-h : tie.Need-int-to-float-h Inv-loop μ-loop
-int-to-float-h c = search needs
-
 sub-k : tie.Need-sub-k Inv-loop μ-loop
 sub-k c = omega arith
 
@@ -36,4 +35,4 @@ returns c = let l = c .before .loop in series-last (c .before .before .args .y) 
 pub powers-spec : {M : Type 1} → statement M
 powers-spec =
     tie.close
-    (tie.spec Inv-loop μ-loop loop-holds int-to-float-h sub-k loop-less loop-again returns)
+    (tie.spec Inv-loop μ-loop loop-holds (λ c. search needs) sub-k loop-less loop-again returns)

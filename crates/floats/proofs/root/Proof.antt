@@ -1,3 +1,5 @@
+-- `root` gives the whole part of the root of w * 2^54, and what is left over. Each turn finds one binary digit, and the invariant `Going` says
+-- what the digits found so far are the root of; `digit-one` and `digit-zero` keep it (Rooting.antt).
 use mathlib.Core.Logic.{⊎-elim}
 use native.Mathlib.Omega.{arith}
 use Rattle.floats.proofs.Rooting.{Going, few-lt, start, digit-one, digit-zero, finish, moved}

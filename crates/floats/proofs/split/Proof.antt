@@ -1,3 +1,5 @@
+-- `split` gives digits and exponent of a pattern, `IsSplit`. The loop doubles the digits of a subnormal and takes one from the exponent; the
+-- invariant `Doubling` says that the product stays (Splitting.antt).
 use mathlib.Core.Logic.{⊎-elim}
 use native.Mathlib.Omega.{arith}
 use Rattle.floats.proofs.Splitting.{Doubling, begun-normal, begun-subnormal, falls, doubled, done}
@@ -28,17 +30,37 @@ loop-holds c =
 mul-q : tie.Need-mul-q Inv-loop μ-loop
 mul-q c = omega arith
 
+-- the loop's turn, from its end
+abbrev turn : tie.After-row-known2 Inv-loop μ-loop → tie.In-loop Inv-loop μ-loop
+turn c = c .before .before
+
 sub-e : tie.Need-sub-e Inv-loop μ-loop
-sub-e c = let l = c .before .before .before .loop in let s = c .before .before .before .before .before in omega (arith, falls (s .args .a) (l .q) (l .e) (s .pre .0) (l .inv) (c .before .before .loop-test .taken))
+sub-e c =
+    let at-loop = turn c .before in
+    let s = at-loop .before .before in
+    let l = at-loop .loop in
+    omega (arith, falls (s .args .a) (l .q) (l .e) (s .pre .0) (l .inv) (turn c .loop-test .taken))
 
 loop-less : tie.Need-loop-less Inv-loop μ-loop
-loop-less c = let l = c .before .before .before .loop in let s = c .before .before .before .before .before in omega (arith, falls (s .args .a) (l .q) (l .e) (s .pre .0) (l .inv) (c .before .before .loop-test .taken))
+loop-less c =
+    let at-loop = turn c .before in
+    let s = at-loop .before .before in
+    let l = at-loop .loop in
+    omega (arith, falls (s .args .a) (l .q) (l .e) (s .pre .0) (l .inv) (turn c .loop-test .taken))
 
 loop-again : tie.Need-loop-again Inv-loop μ-loop
-loop-again c = let l = c .before .before .before .loop in let s = c .before .before .before .before .before in doubled (s .args .a) (l .q) (l .e) (s .pre .0) (l .inv) (c .before .before .loop-test .taken)
+loop-again c =
+    let at-loop = turn c .before in
+    let s = at-loop .before .before in
+    let l = at-loop .loop in
+    doubled (s .args .a) (l .q) (l .e) (s .pre .0) (l .inv) (turn c .loop-test .taken)
 
 returns : tie.Need-returns Inv-loop μ-loop
-returns c = let l = c .before .loop in let s = c .before .before .before in done (s .args .a) (l .q) (l .e) (s .pre .0) (l .inv) (c .loop-test .left)
+returns c =
+    let at-loop = c .before in
+    let s = at-loop .before .before in
+    let l = at-loop .loop in
+    done (s .args .a) (l .q) (l .e) (s .pre .0) (l .inv) (c .loop-test .left)
 
 pub split-spec : {M : Type 1} → statement M
 split-spec =

@@ -1,3 +1,4 @@
+-- `squared` gives `squares 7 h`: the definition computes to the seven products.
 use mathlib.Core.Path.{refl}
 use Rattle.floats.specs.Exp.{squares}
 use Rattle.floats.proofs.squared.Statement.{statement}

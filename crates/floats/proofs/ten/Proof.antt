@@ -1,3 +1,4 @@
+-- `ten` gives 10^k as an f64: the table is, element for element, the list that the definition makes.
 use Prim.Native.Nat.{ℕ, _^_}
 use native.Mathlib.Omega.{arith}
 use lib.Ieee.{nan, round, ofInt, ofBits}

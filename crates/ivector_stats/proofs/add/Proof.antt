@@ -5,7 +5,7 @@ use lib.Ieee.{Float, nan}
 use Rattle.loops.specs.Loop.{iter}
 use Rattle.loops.proofs.Loop.{loops}
 use Rattle.floats.specs.Operators.{_+₆₄_, at}
-use Rattle.batch_sums.proofs.Rows.{updated}
+use Rattle.loops.proofs.Fill.{updated}
 use Rattle.ivector_stats.proofs.add.Statement.{statement}
 use Rattle.ivector_stats.proofs.add.Tie as tie
 

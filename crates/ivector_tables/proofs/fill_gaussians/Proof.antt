@@ -16,7 +16,8 @@ use Rattle.floats.specs.Operators.{at}
 use Rattle.definition.specs.Model.{packed, quadraticTerm}
 use Rattle.ivector_tables.specs.Steps.{mAt, sigmaInvMAt}
 use Rattle.ivector_tables.proofs.Gmm.{few}
-use Rattle.ivector_tables.proofs.Rows.{length-sigma, length-quadratic, sigma-by, quadratic-by}
+use Rattle.definition.proofs.Lengths.{length-sigma, length-quadratic}
+use Rattle.ivector_tables.proofs.Rows.{sigma-by, quadratic-by}
 use Rattle.ivector_tables.proofs.Again.{MFrom, SigmaFrom, m-start, sigma-start, m-at, m-is, m-next, sigma-at, sigma-is, sigma-next, sims-whole, quadratics-whole}
 use Rattle.ivector_tables.proofs.fill_gaussians.Statement.{statement}
 use Rattle.ivector_tables.proofs.fill_gaussians.Tie as tie

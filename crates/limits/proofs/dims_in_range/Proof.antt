@@ -9,43 +9,25 @@ use Rattle.definition.specs.Options.{dimsInRange}
 use Rattle.limits.proofs.dims_in_range.Statement.{statement}
 use Rattle.limits.proofs.dims_in_range.Tie as tie
 
-in-limits-requires : tie.Need-in-limits-requires
-in-limits-requires c κs = search needs
-
 returns : tie.Need-returns
 unfolding dimsInRange
 returns c = sym (at-fail (λ t. t) false _ 0 (omega arith) (fails (c .before .in-limits .ensures) (c .if1 .taken)))
-
-in-limits-requires-2 : tie.Need-in-limits-requires-2
-in-limits-requires-2 c κs = search needs
 
 returns-2 : tie.Need-returns-2
 unfolding dimsInRange
 returns-2 c = sym (at-fail (λ t. t) false _ 1 (omega arith) (fails (c .before .in-limits2 .ensures) (c .if2 .taken)))
 
-in-limits-requires-3 : tie.Need-in-limits-requires-3
-in-limits-requires-3 c κs = search needs
-
 returns-3 : tie.Need-returns-3
 unfolding dimsInRange
 returns-3 c = sym (at-fail (λ t. t) false _ 2 (omega arith) (fails (c .before .in-limits3 .ensures) (c .if3 .taken)))
-
-in-limits-requires-4 : tie.Need-in-limits-requires-4
-in-limits-requires-4 c κs = search needs
 
 returns-4 : tie.Need-returns-4
 unfolding dimsInRange
 returns-4 c = sym (at-fail (λ t. t) false _ 3 (omega arith) (fails (c .before .in-limits4 .ensures) (c .if4 .taken)))
 
-in-limits-requires-5 : tie.Need-in-limits-requires-5
-in-limits-requires-5 c κs = search needs
-
 returns-5 : tie.Need-returns-5
 unfolding dimsInRange
 returns-5 c = sym (at-fail (λ t. t) false _ 4 (omega arith) (fails (c .before .in-limits5 .ensures) (c .if5 .taken)))
-
-in-limits-requires-6 : tie.Need-in-limits-requires-6
-in-limits-requires-6 c κs = search needs
 
 returns-6 : tie.Need-returns-6
 unfolding dimsInRange
@@ -74,16 +56,5 @@ returns-6 c =
 pub dims-in-range-spec : {M : Type 1} → statement M
 dims-in-range-spec =
     tie.close
-    (tie.spec
-    in-limits-requires
-    returns
-    in-limits-requires-2
-    returns-2
-    in-limits-requires-3
-    returns-3
-    in-limits-requires-4
-    returns-4
-    in-limits-requires-5
-    returns-5
-    in-limits-requires-6
-    returns-6)
+    (tie.spec (λ c κs. search needs) returns (λ c κs. search needs) returns-2 (λ c κs. search needs) returns-3
+    (λ c κs. search needs) returns-4 (λ c κs. search needs) returns-5 (λ c κs. search needs) returns-6)

@@ -1,11 +1,8 @@
--- `limits::frames_held` meets its contract. Assumes nothing.
+-- Frames held are what `less` ensures: those accepted less the mark.
 use borrow.Author.Needs.{needs}
 use Rattle.definition.specs.Machine.{framesHeld}
 use Rattle.limits.proofs.frames_held.Statement.{statement}
 use Rattle.limits.proofs.frames_held.Tie as tie
-
-less-requires : tie.Need-less-requires
-less-requires c κs = search needs
 
 returns : tie.Need-returns
 unfolding framesHeld
@@ -14,6 +11,4 @@ returns c = c .less .ensures
 pub frames-held-spec : {M : Type 1} → statement M
 frames-held-spec =
     tie.close
-    (tie.spec
-    less-requires
-    returns)
+    (tie.spec (λ c κs. search needs) returns)

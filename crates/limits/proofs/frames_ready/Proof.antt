@@ -1,4 +1,4 @@
--- `limits::frames_ready` meets its contract. Assumes nothing.
+-- Frames ready: all that were accepted once the input is finished, else those whose right context is there.
 use borrow.Author.Needs.{needs}
 use Rattle.loops.proofs.Choose.{choose-true, choose-false}
 use mathlib.Core.Path.{refl}
@@ -10,9 +10,6 @@ returns : tie.Need-returns
 unfolding framesReady
 returns c = choose-true _ (c .if1 .taken) refl
 
-less-requires : tie.Need-less-requires
-less-requires c κs = search needs
-
 returns-2 : tie.Need-returns-2
 unfolding framesReady
 returns-2 c = choose-false _ (c .before .if1 .left) (c .less .ensures)
@@ -20,7 +17,4 @@ returns-2 c = choose-false _ (c .before .if1 .left) (c .less .ensures)
 pub frames-ready-spec : {M : Type 1} → statement M
 frames-ready-spec =
     tie.close
-    (tie.spec
-    returns
-    less-requires
-    returns-2)
+    (tie.spec returns (λ c κs. search needs) returns-2)

@@ -1,4 +1,4 @@
--- `limits::in_limits` meets its contract. Assumes nothing.
+-- Both ends of a range: where the lower test fails so does `within`, else the upper one decides.
 use mathlib.Core.Path.{sym}
 use borrow.Author.Tests.{le-leb, lt-leb}
 use Rattle.loops.proofs.Choose.{and-first}

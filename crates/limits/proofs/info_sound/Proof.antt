@@ -8,9 +8,6 @@ use Rattle.limits.proofs.Listed.{holds, fails}
 use Rattle.limits.proofs.info_sound.Statement.{statement}
 use Rattle.limits.proofs.info_sound.Tie as tie
 
-record-sound-requires : tie.Need-record-sound-requires
-record-sound-requires c κs = search needs
-
 returns : tie.Need-returns
 unfolding infoSound
 returns c = sym (and-first _ _ (fails (c .before .record-sound .ensures) (c .if1 .taken)))
@@ -25,8 +22,4 @@ returns-2 c = c .tables-fit .ensures ∙ sym (rw (holds (c .before .before .reco
 pub info-sound-spec : {M : Type 1} → statement M
 info-sound-spec =
     tie.close
-    (tie.spec
-    record-sound-requires
-    returns
-    tables-fit-requires
-    returns-2)
+    (tie.spec (λ c κs. search needs) returns tables-fit-requires returns-2)

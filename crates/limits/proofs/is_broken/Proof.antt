@@ -22,8 +22,15 @@ sound : (c : tie.Else1) →
     DimRanges (start .args .s .info .dims)
 sound c = dim-ranges _ (info-sound _ (holds (c .before .info-sound .ensures) (c .if1 .left)) .0 .dims-are)
 
-info-sound-requires : tie.Need-info-sound-requires
-info-sound-requires c κs = search needs
+-- from the test of frames held, and of rows held, back to the third test and to the first
+abbrev third : tie.After-frames-held → tie.Else3
+third c = c .before .before .before .before .before .before
+
+abbrev first : tie.Else3 → tie.Else1
+first c = c .before .before .before .before
+
+abbrev frames-of : tie.After-rows-held → tie.After-frames-held
+frames-of c = c .before .before .before .before
 
 returns : tie.Need-returns
 unfolding breaks
@@ -44,30 +51,23 @@ returns-4 : tie.Need-returns-4
 unfolding breaks
 returns-4 c = broken-at _ _ 3 (omega arith) (lt-ltb _ _ (c .if4 .taken))
 
-less-requires : tie.Need-less-requires
-less-requires c κs = search needs
-
 returns-5 : tie.Need-returns-5
 unfolding breaks
 returns-5 c = broken-at _ _ 4 (omega arith) (lt-test (c .before .before .less .ensures) refl (c .if5 .taken))
 
-frames-held-requires : tie.Need-frames-held-requires
-frames-held-requires c κs = search needs
-
 mul-if6 : tie.Need-mul-if6
 mul-if6 c =
-    let at-if3 = c .before .before .before .before .before .before .before in
-    let at-if1 = at-if3 .before .before .before .before in
-    let start = at-if1 .before .before .before .before .before .before .before .before in
-    let few : c .before .frames-held .result ≤ 1000000000 = omega (arith, frames-few (start .args .s .accepted) (start .args .s .mark) (c .before .frames-held .ensures), at-if3 .if3 .left) in
-    omega (arith, mul-le-mul few (sound at-if1 .base-is))
+    let at-frames-held = c .before in
+    let at-if3 = third at-frames-held in
+    let few : at-frames-held .frames-held .result ≤ 1000000000 = omega (arith, frames-few _ _ (at-frames-held .frames-held .ensures), at-if3 .if3 .left) in
+    omega (arith, mul-le-mul few (sound (first at-if3) .base-is))
 
 returns-6 : tie.Need-returns-6
 unfolding breaks
 returns-6 c =
     let at-frames-held = c .before .before .before in
-    let at-if1 = at-frames-held .before .before .before .before .before .before .before .before .before .before in
-    broken-at _ _ 5 (omega arith) (lt-test refl (at-frames-held .frames-held .ensures) (rows-under _ _ (at-frames-held .frames-held .result) (sound at-if1 .some-base) (c .if6 .taken)))
+    let some = sound (first (third at-frames-held)) .some-base in
+    broken-at _ _ 5 (omega arith) (lt-test refl (at-frames-held .frames-held .ensures) (rows-under _ _ (at-frames-held .frames-held .result) some (c .if6 .taken)))
 
 rows-held-requires : tie.Need-rows-held-requires
 rows-held-requires c κs =
@@ -79,55 +79,45 @@ rows-held-requires c κs =
 
 mul-if7 : tie.Need-mul-if7
 mul-if7 c =
-    let at-if3 = c .before .before .before .before .before .before .before .before .before .before .before in
-    let at-if1 = at-if3 .before .before .before .before in
-    let start = at-if1 .before .before .before .before .before .before .before .before in
-    let few : c .before .rows-held .result ≤ 1000000001 = omega (arith, rows-few (start .args .s .info .opts .«cmn_window») (start .args .s .accepted) (start .args .s .mark) (c .before .rows-held .ensures), at-if3 .if3 .left) in
-    omega (arith, mul-le-mul few (sound at-if1 .base-is))
+    let at-rows-held = c .before in
+    let at-if3 = third (frames-of at-rows-held) in
+    let few : at-rows-held .rows-held .result ≤ 1000000001 = omega (arith, rows-few _ _ _ (at-rows-held .rows-held .ensures), at-if3 .if3 .left) in
+    omega (arith, mul-le-mul few (sound (first at-if3) .base-is))
 
 returns-7 : tie.Need-returns-7
 unfolding breaks
 returns-7 c =
     let at-rows-held = c .before .before .before in
-    let at-if1 = at-rows-held .before .before .before .before .before .before .before .before .before .before .before .before .before .before in
-    broken-at _ _ 6 (omega arith) (lt-test refl (at-rows-held .rows-held .ensures) (rows-under _ _ (at-rows-held .rows-held .result) (sound at-if1 .some-base) (c .if7 .taken)))
-
-smaller-requires : tie.Need-smaller-requires
-smaller-requires c κs = search needs
+    let some = sound (first (third (frames-of at-rows-held))) .some-base in
+    broken-at _ _ 6 (omega arith) (lt-test refl (at-rows-held .rows-held .ensures) (rows-under _ _ (at-rows-held .rows-held .result) some (c .if7 .taken)))
 
 returns-8 : tie.Need-returns-8
 unfolding breaks
 returns-8 c = broken-at _ _ 7 (omega arith) (lt-test (c .before .before .smaller .ensures) refl (c .if8 .taken))
 
-smaller-requires-2 : tie.Need-smaller-requires-2
-smaller-requires-2 c κs = search needs
-
 slice-aggregate-waiting-broken : tie.Need-slice-aggregate-waiting-broken
 slice-aggregate-waiting-broken c = sym (length-take-le _ _ (omega (arith, c .before .smaller2 .ensures)))
-
-waiting-broken-requires : tie.Need-waiting-broken-requires
-waiting-broken-requires c κs = search needs
 
 returns-9 : tie.Need-returns-9
 unfolding breaks
 returns-9 c =
-    let at-smaller = c .before .before .before .before .before in
+    let at-smaller2 = c .before .before in
+    let at-if8 = at-smaller2 .before in
+    let at-smaller = at-if8 .before .before in
     let at-if7 = at-smaller .before in
     let at-rows-held = at-if7 .before .before .before in
     let at-if6 = at-rows-held .before in
-    let at-frames-held = at-if6 .before .before .before in
+    let at-frames-held = frames-of at-rows-held in
     let at-if5 = at-frames-held .before in
     let at-less = at-if5 .before .before in
     let at-if4 = at-less .before in
-    let at-if3 = at-if4 .before .before in
+    let at-if3 = third at-frames-held in
     let at-if2 = at-if3 .before .before in
     let at-rooms-fit = at-if2 .before in
-    let at-if1 = at-rooms-fit .before in
-    let at-info-sound = at-if1 .before in
-    let start = at-info-sound .before .before .before .before .before .before .before in
+    let at-if1 = first at-if3 in
     let some = sound at-if1 .some-base in
-    c .waiting-broken .ensures ∙ waiting-last (start .args .s) (start .args .waiting .now) (c .before .before .smaller2 .ensures) (
-      ap not (holds (at-info-sound .info-sound .ensures) (at-if1 .if1 .left)),
+    c .waiting-broken .ensures ∙ waiting-last _ _ (at-smaller2 .smaller2 .ensures) (
+      ap not (holds (at-if1 .before .info-sound .ensures) (at-if1 .if1 .left)),
       (
         ap not (holds (at-rooms-fit .rooms-fit .ensures) (at-if2 .if2 .left)),
         (
@@ -140,7 +130,7 @@ returns-9 c =
                 le-test refl (at-frames-held .frames-held .ensures) (rows-reach _ _ (at-frames-held .frames-held .result) some (at-if6 .if6 .left)),
                 (
                   le-test refl (at-rows-held .rows-held .ensures) (rows-reach _ _ (at-rows-held .rows-held .result) some (at-if7 .if7 .left)),
-                  (le-test (at-smaller .smaller .ensures) refl (c .before .before .before .if8 .left), tt),
+                  (le-test (at-smaller .smaller .ensures) refl (at-if8 .if8 .left), tt),
                 ),
               ),
             ),
@@ -152,24 +142,6 @@ returns-9 c =
 pub is-broken-spec : {M : Type 1} → statement M
 is-broken-spec =
     tie.close
-    (tie.spec
-    info-sound-requires
-    returns
-    rooms-fit-requires
-    returns-2
-    returns-3
-    returns-4
-    less-requires
-    returns-5
-    frames-held-requires
-    mul-if6
-    returns-6
-    rows-held-requires
-    mul-if7
-    returns-7
-    smaller-requires
-    returns-8
-    smaller-requires-2
-    slice-aggregate-waiting-broken
-    waiting-broken-requires
-    returns-9)
+    (tie.spec (λ c κs. search needs) returns rooms-fit-requires returns-2 returns-3 returns-4 (λ c κs. search needs)
+    returns-5 (λ c κs. search needs) mul-if6 returns-6 rows-held-requires mul-if7 returns-7 (λ c κs. search needs)
+    returns-8 (λ c κs. search needs) slice-aggregate-waiting-broken (λ c κs. search needs) returns-9)

@@ -1,4 +1,4 @@
--- `limits::is_share` meets its contract. Assumes nothing.
+-- A share's two tests: where the first fails so does their conjunction, else the second decides.
 use mathlib.Core.Path.{sym}
 use Rattle.limits.proofs.is_share.Statement.{statement}
 use Rattle.limits.proofs.is_share.Tie as tie

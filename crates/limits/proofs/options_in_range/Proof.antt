@@ -9,71 +9,41 @@ use Rattle.definition.specs.Options.{optionsInRange}
 use Rattle.limits.proofs.options_in_range.Statement.{statement}
 use Rattle.limits.proofs.options_in_range.Tie as tie
 
-in-limits-requires : tie.Need-in-limits-requires
-in-limits-requires c κs = search needs
-
 returns : tie.Need-returns
 unfolding optionsInRange
 returns c = sym (at-fail (λ t. t) false _ 0 (omega arith) (fails (c .before .in-limits .ensures) (c .if1 .taken)))
-
-in-limits-requires-2 : tie.Need-in-limits-requires-2
-in-limits-requires-2 c κs = search needs
 
 returns-2 : tie.Need-returns-2
 unfolding optionsInRange
 returns-2 c = sym (at-fail (λ t. t) false _ 1 (omega arith) (fails (c .before .in-limits2 .ensures) (c .if2 .taken)))
 
-in-limits-requires-3 : tie.Need-in-limits-requires-3
-in-limits-requires-3 c κs = search needs
-
 returns-3 : tie.Need-returns-3
 unfolding optionsInRange
 returns-3 c = sym (at-fail (λ t. t) false _ 2 (omega arith) (fails (c .before .in-limits3 .ensures) (c .if3 .taken)))
-
-in-limits-requires-4 : tie.Need-in-limits-requires-4
-in-limits-requires-4 c κs = search needs
 
 returns-4 : tie.Need-returns-4
 unfolding optionsInRange
 returns-4 c = sym (at-fail (λ t. t) false _ 3 (omega arith) (fails (c .before .in-limits4 .ensures) (c .if4 .taken)))
 
-in-limits-requires-5 : tie.Need-in-limits-requires-5
-in-limits-requires-5 c κs = search needs
-
 returns-5 : tie.Need-returns-5
 unfolding optionsInRange
 returns-5 c = sym (at-fail (λ t. t) false _ 4 (omega arith) (fails (c .before .in-limits5 .ensures) (c .if5 .taken)))
-
-in-limits-requires-6 : tie.Need-in-limits-requires-6
-in-limits-requires-6 c κs = search needs
 
 returns-6 : tie.Need-returns-6
 unfolding optionsInRange
 returns-6 c = sym (at-fail (λ t. t) false _ 5 (omega arith) (fails (c .before .in-limits6 .ensures) (c .if6 .taken)))
 
-is-share-requires : tie.Need-is-share-requires
-is-share-requires c κs = search needs
-
 returns-7 : tie.Need-returns-7
 unfolding optionsInRange
 returns-7 c = sym (at-fail (λ t. t) false _ 6 (omega arith) (fails (c .before .is-share .ensures) (c .if7 .taken)))
-
-is-finite-requires : tie.Need-is-finite-requires
-is-finite-requires c κs = search needs
 
 returns-8 : tie.Need-returns-8
 unfolding optionsInRange
 returns-8 c = sym (at-fail (λ t. t) false _ 7 (omega arith) (fails (c .before .is-finite .ensures) (c .if8 .taken)))
 
-is-finite-f64-requires : tie.Need-is-finite-f64-requires
-is-finite-f64-requires c κs = search needs
-
 returns-9 : tie.Need-returns-9
 unfolding optionsInRange
 returns-9 c = sym (at-fail (λ t. t) false _ 8 (omega arith) (fails (c .before .is-finite-f64 .ensures) (c .if9 .taken)))
-
-is-finite-requires-2 : tie.Need-is-finite-requires-2
-is-finite-requires-2 c κs = search needs
 
 returns-10 : tie.Need-returns-10
 unfolding optionsInRange
@@ -122,24 +92,7 @@ returns-10 c =
 pub options-in-range-spec : {M : Type 1} → statement M
 options-in-range-spec =
     tie.close
-    (tie.spec
-    in-limits-requires
-    returns
-    in-limits-requires-2
-    returns-2
-    in-limits-requires-3
-    returns-3
-    in-limits-requires-4
-    returns-4
-    in-limits-requires-5
-    returns-5
-    in-limits-requires-6
-    returns-6
-    is-share-requires
-    returns-7
-    is-finite-requires
-    returns-8
-    is-finite-f64-requires
-    returns-9
-    is-finite-requires-2
-    returns-10)
+    (tie.spec (λ c κs. search needs) returns (λ c κs. search needs) returns-2 (λ c κs. search needs) returns-3
+    (λ c κs. search needs) returns-4 (λ c κs. search needs) returns-5 (λ c κs. search needs) returns-6
+    (λ c κs. search needs) returns-7 (λ c κs. search needs) returns-8 (λ c κs. search needs) returns-9
+    (λ c κs. search needs) returns-10)

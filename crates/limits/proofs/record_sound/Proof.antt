@@ -9,15 +9,9 @@ use Rattle.definition.specs.Stream.{recordSound}
 use Rattle.limits.proofs.record_sound.Statement.{statement}
 use Rattle.limits.proofs.record_sound.Tie as tie
 
-options-in-range-requires : tie.Need-options-in-range-requires
-options-in-range-requires c κs = search needs
-
 returns : tie.Need-returns
 unfolding recordSound
 returns c = sym (at-fail (λ t. t) false _ 0 (omega arith) (fails (c .before .options-in-range .ensures) (c .if1 .taken)))
-
-dims-in-range-requires : tie.Need-dims-in-range-requires
-dims-in-range-requires c κs = search needs
 
 returns-2 : tie.Need-returns-2
 unfolding recordSound
@@ -35,10 +29,4 @@ returns-3 c =
 pub record-sound-spec : {M : Type 1} → statement M
 record-sound-spec =
     tie.close
-    (tie.spec
-    options-in-range-requires
-    returns
-    dims-in-range-requires
-    returns-2
-    dims-agree-requires
-    returns-3)
+    (tie.spec (λ c κs. search needs) returns (λ c κs. search needs) returns-2 dims-agree-requires returns-3)

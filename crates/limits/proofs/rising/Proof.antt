@@ -1,4 +1,4 @@
--- `limits::rising` meets its contract. Assumes nothing.
+-- Frames in order, by a loop: what is left from i on is in order above the last one seen exactly where the whole list is (Ordered.antt).
 use borrow.Author.Needs.{needs}
 use mathlib.Core.Path.{_≡_, refl}
 use Prim.Native.Nat.{_-_, _≤_}
@@ -19,23 +19,17 @@ abbrev μ-loop : tie.MeasureT-loop
 loop-holds : tie.Need-loop-holds Inv-loop μ-loop
 loop-holds c = (search needs, search needs, refl)
 
-mul-f : tie.Need-mul-f Inv-loop μ-loop
-mul-f c = search needs
-
-shared-slice-read-f : tie.Need-shared-slice-read-f Inv-loop μ-loop
-shared-slice-read-f c = search needs
-
 returns : tie.Need-returns Inv-loop μ-loop
-returns c = rising-fails (c .before .before .before .before .args .frames .now) (c .before .before .before .loop .i) (c .before .before .before .loop .last) (omega arith) (c .if1 .taken) (c .before .before .before .loop .inv .2)
-
-add-i : tie.Need-add-i Inv-loop μ-loop
-add-i c = search needs
-
-loop-less : tie.Need-loop-less Inv-loop μ-loop
-loop-less c = search needs
+returns c =
+    let at-loop = c .before .before .before in
+    let start = at-loop .before in
+    rising-fails (start .args .frames .now) (at-loop .loop .i) (at-loop .loop .last) (omega arith) (c .if1 .taken) (at-loop .loop .inv .2)
 
 loop-again : tie.Need-loop-again Inv-loop μ-loop
-loop-again c = (omega arith, omega arith, rising-turn (c .before .before .before .before .args .frames .now) (c .before .before .before .loop .i) (c .before .before .before .loop .last) (omega arith) (c .if1 .left) (c .before .before .before .loop .inv .2))
+loop-again c =
+    let at-loop = c .before .before .before in
+    let start = at-loop .before in
+    (omega arith, omega arith, rising-turn (start .args .frames .now) (at-loop .loop .i) (at-loop .loop .last) (omega arith) (c .if1 .left) (at-loop .loop .inv .2))
 
 returns-2 : tie.Need-returns-2 Inv-loop μ-loop
 returns-2 c = rising-end (c .before .before .args .frames .now) (c .before .loop .i) (c .before .loop .last) (omega arith) (c .before .loop .inv .2)
@@ -43,14 +37,5 @@ returns-2 c = rising-end (c .before .before .args .frames .now) (c .before .loop
 pub rising-spec : {M : Type 1} → statement M
 rising-spec =
     tie.close
-    (tie.spec
-    Inv-loop
-    μ-loop
-    loop-holds
-    mul-f
-    shared-slice-read-f
-    returns
-    add-i
-    loop-less
-    loop-again
-    returns-2)
+    (tie.spec Inv-loop μ-loop loop-holds (λ c. search needs) (λ c. search needs) returns (λ c. search needs)
+    (λ c. search needs) loop-again returns-2)

@@ -1,4 +1,4 @@
--- `limits::stream_scratch` meets its contract. Assumes nothing.
+-- A fetch's scratch is the larger of two products, each within a word by the ranges of dimensions, which are required.
 use borrow.Author.Needs.{needs}
 use native.Mathlib.Omega.{arith}
 use Rattle.definition.proofs.Ranges.{dim-products}
@@ -12,9 +12,6 @@ mul-larger c = omega (arith, dim-products _ ((c .before .pre)))
 mul-larger-2 : tie.Need-mul-larger-2
 mul-larger-2 c = omega (arith, dim-products _ ((c .before .before .pre)))
 
-larger-requires : tie.Need-larger-requires
-larger-requires c κs = search needs
-
 returns : tie.Need-returns
 unfolding streamScratch
 returns c = c .larger .ensures
@@ -22,8 +19,4 @@ returns c = c .larger .ensures
 pub stream-scratch-spec : {M : Type 1} → statement M
 stream-scratch-spec =
     tie.close
-    (tie.spec
-    mul-larger
-    mul-larger-2
-    larger-requires
-    returns)
+    (tie.spec mul-larger mul-larger-2 (λ c κs. search needs) returns)

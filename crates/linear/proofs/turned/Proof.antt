@@ -6,7 +6,7 @@ use Rattle.floats.specs.Operators.{_-₆₄_, _*₆₄_, at}
 use Rattle.loops.specs.Loop.{iter}
 use Rattle.loops.proofs.Loop.{loops}
 use lib.Ieee.{nan}
-use Rattle.packed_matrix.proofs.Rooms.{updated}
+use Rattle.loops.proofs.Fill.{updated-whole}
 use Rattle.linear.proofs.turned.Statement.{statement}
 use Rattle.linear.proofs.turned.Tie as tie
 
@@ -53,7 +53,7 @@ same-length c = search loops
 returns : tie.Need-returns Inv-loop μ-loop
 returns c =
     let start = c .before .before in
-    updated nan (λ i v. (start .args) .beta *₆₄ v -₆₄ at ((start .args) .r .now) i) _ _ _ ((c .before .loop) .inv .0) ((c .loop-test) .left) ((start .pre) .1) ((c .before .loop) .inv .2)
+    updated-whole nan (λ i v. (start .args) .beta *₆₄ v -₆₄ at ((start .args) .r .now) i) _ _ _ ((c .before .loop) .inv .0) ((c .loop-test) .left) ((start .pre) .1) ((c .before .loop) .inv .2)
 
 pub turned-spec : {M : Type 1} → statement M
 turned-spec =

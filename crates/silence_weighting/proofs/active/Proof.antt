@@ -1,3 +1,4 @@
+-- `active` is the definition's: with no silence phones it is false, else the weight's test decides.
 use borrow.Author.Tests.{eq-eqb, ne-eqb}
 use Rattle.definition.specs.Silence.{active}
 use Rattle.silence_weighting.proofs.active.Statement.{statement}

@@ -1,3 +1,4 @@
+-- What a taken call answers is `silenceAnswer` at 0, by computing.
 use mathlib.Core.Path.{refl}
 use Rattle.definition.specs.Silence.{silenceAnswer}
 use Rattle.silence_weighting.proofs.answered.Statement.{statement}

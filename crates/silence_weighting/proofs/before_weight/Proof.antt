@@ -4,19 +4,10 @@ use Rattle.silence_weighting.proofs.Walk.{before-first, before-later}
 use Rattle.silence_weighting.proofs.before_weight.Statement.{statement}
 use Rattle.silence_weighting.proofs.before_weight.Tie as tie
 
-walk-begin-requires : tie.Need-walk-begin-requires
-walk-begin-requires c κs = search needs
-
 returns : tie.Need-returns
 returns c =
     let at-walk-begin = c .before .before in
     λ ks ss. before-first _ ks ss _ _ _ (at-walk-begin .walk-begin .ensures) (c .if1 .taken)
-
-sub-t5 : tie.Need-sub-t5
-sub-t5 c = search needs
-
-weight-at-requires : tie.Need-weight-at-requires
-weight-at-requires c κs = search needs
 
 returns-2 : tie.Need-returns-2
 returns-2 c =
@@ -27,9 +18,4 @@ returns-2 c =
 pub before-weight-spec : {M : Type 1} → statement M
 before-weight-spec =
     tie.close
-    (tie.spec
-    walk-begin-requires
-    returns
-    sub-t5
-    weight-at-requires
-    returns-2)
+    (tie.spec (λ c κs. search needs) returns (λ c. search needs) (λ c κs. search needs) returns-2)

@@ -1,3 +1,5 @@
+-- Whether a phone is one of the silence phones: what is left of the list from i on has one exactly where the whole list has. Phones are compared
+-- as machine words; that equal words are equal phones is in Phones.antt.
 use borrow.Author.Needs.{needs}
 use mathlib.Core.Path.{_≡_, refl}
 use native.Mathlib.Omega.{arith}
@@ -22,23 +24,15 @@ abbrev μ-loop : tie.MeasureT-loop
 loop-holds : tie.Need-loop-holds Inv-loop μ-loop
 loop-holds c = (search needs, search needs, refl)
 
-mul-q : tie.Need-mul-q Inv-loop μ-loop
-mul-q c = search needs
-
-shared-slice-copy-out-q : tie.Need-shared-slice-copy-out-q Inv-loop μ-loop
-shared-slice-copy-out-q c = search needs
-
 returns : tie.Need-returns Inv-loop μ-loop
-returns c = phone-found _ _ (c .before .before .before .before .fits .p) _ _ (c .before .before .before .loop .inv .2) (omega arith) (record { sfits = c .before .q .given }) (c .if1 .taken)
-
-add-i : tie.Need-add-i Inv-loop μ-loop
-add-i c = search needs
-
-loop-less : tie.Need-loop-less Inv-loop μ-loop
-loop-less c = search needs
+returns c =
+    let start = c .before .before .before .before in
+    phone-found _ _ (start .fits .p) _ _ (c .before .before .before .loop .inv .2) (omega arith) (record { sfits = c .before .q .given }) (c .if1 .taken)
 
 loop-again : tie.Need-loop-again Inv-loop μ-loop
-loop-again c = (search needs, search needs, phone-turn _ _ (c .before .before .before .before .fits .p) _ _ (c .before .before .before .loop .inv .2) (omega arith) (c .if1 .left))
+loop-again c =
+    let start = c .before .before .before .before in
+    (search needs, search needs, phone-turn _ _ (start .fits .p) _ _ (c .before .before .before .loop .inv .2) (omega arith) (c .if1 .left))
 
 returns-2 : tie.Need-returns-2 Inv-loop μ-loop
 returns-2 c = phone-end _ _ (c .before .before .fits .p) (pos 0) (c .before .loop .i) (c .before .loop .inv .2) (omega arith)
@@ -46,14 +40,5 @@ returns-2 c = phone-end _ _ (c .before .before .fits .p) (pos 0) (c .before .loo
 pub contains-spec : {M : Type 1} → statement M
 contains-spec =
     tie.close
-    (tie.spec
-    Inv-loop
-    μ-loop
-    loop-holds
-    mul-q
-    shared-slice-copy-out-q
-    returns
-    add-i
-    loop-less
-    loop-again
-    returns-2)
+    (tie.spec Inv-loop μ-loop loop-holds (λ c. search needs) (λ c. search needs) returns (λ c. search needs)
+    (λ c. search needs) loop-again returns-2)

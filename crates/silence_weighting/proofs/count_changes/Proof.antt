@@ -19,18 +19,6 @@ Inv-loop s known is-silence current-weight n b blind weight₀ count₀ out i₀
 abbrev μ-loop : tie.MeasureT-loop
 μ-loop s known is-silence current-weight n b blind weight₀ count₀ out i₀ weight count i = out - i
 
-walk-begin-requires : tie.Need-walk-begin-requires Inv-loop μ-loop
-walk-begin-requires c κs = search needs
-
-flag-at-requires : tie.Need-flag-at-requires Inv-loop μ-loop
-flag-at-requires c κs = search needs
-
-before-weight-requires : tie.Need-before-weight-requires Inv-loop μ-loop
-before-weight-requires c κs = search needs
-
-less-requires : tie.Need-less-requires Inv-loop μ-loop
-less-requires c κs = search needs
-
 loop-holds : tie.Need-loop-holds Inv-loop μ-loop
 loop-holds c =
     let at-before-weight = c .before in
@@ -41,29 +29,13 @@ loop-holds c =
       omega arith,
     )
 
-add-count : tie.Need-add-count Inv-loop μ-loop
-add-count c = search needs
-
-next-weight-requires : tie.Need-next-weight-requires Inv-loop μ-loop
-next-weight-requires c κs = search needs
-
-weight-at-requires : tie.Need-weight-at-requires Inv-loop μ-loop
-weight-at-requires c κs = search needs
-
-add-number-of : tie.Need-add-number-of Inv-loop μ-loop
-add-number-of c = search needs
-
-number-of-requires : tie.Need-number-of-requires Inv-loop μ-loop
-number-of-requires c κs = search needs
+abbrev entry : tie.At-loop Inv-loop μ-loop → tie.Start Inv-loop μ-loop
+entry c = c .before .before .before .before .before .before .before .before
 
 add-count-2 : tie.Need-add-count-2 Inv-loop μ-loop
-add-count-2 c = omega (arith, number-le _ _ _ _ (c .number-of .ensures), c .before .before .before .before .before .before .before .loop .inv .2)
-
-add-offset : tie.Need-add-offset Inv-loop μ-loop
-add-offset c = search needs
-
-loop-less : tie.Need-loop-less Inv-loop μ-loop
-loop-less c = search needs
+add-count-2 c =
+    let at-loop = c .before .before .before .before .before .before .before in
+    omega (arith, number-le _ _ _ _ (c .number-of .ensures), at-loop .loop .inv .2)
 
 loop-again : tie.Need-loop-again Inv-loop μ-loop
 loop-again c =
@@ -77,33 +49,18 @@ loop-again c =
     let d = walk-difference (v .0) q (at-weight-at .weight-at .ensures) in (
       walk-turn (v .0) q (at-loop-test .loop-test .taken),
       λ first. count-turn _ _ first _ _ _ _ _ _ _ (walk-frame (v .0) q) (v .1 first) d r,
-      omega (arith, number-le _ _ _ _ r, v .2, c .before .before .before .before .before .before .before .before .before .before .before .before .before .before .before .pre .5),
+      omega (arith, number-le _ _ _ _ r, v .2, entry at-loop .pre .5),
     )
 
 returns : tie.Need-returns Inv-loop μ-loop
 returns c =
     let at-loop = c .before in
-    let args = at-loop .before .before .before .before .before .before .before .before .args in
+    let args = entry at-loop .args in
     λ first. at-loop .loop .inv .1 first ∙ ap length (walk-end (at-loop .loop .inv .0) (args .s .subsampling) first (c .loop-test .left))
 
 pub count-changes-spec : {M : Type 1} → statement M
 count-changes-spec =
     tie.close
-    (tie.spec
-    Inv-loop
-    μ-loop
-    walk-begin-requires
-    flag-at-requires
-    before-weight-requires
-    less-requires
-    loop-holds
-    add-count
-    next-weight-requires
-    weight-at-requires
-    add-number-of
-    number-of-requires
-    add-count-2
-    add-offset
-    loop-less
-    loop-again
-    returns)
+    (tie.spec Inv-loop μ-loop (λ c κs. search needs) (λ c κs. search needs) (λ c κs. search needs)
+    (λ c κs. search needs) loop-holds (λ c. search needs) (λ c κs. search needs) (λ c κs. search needs)
+    (λ c. search needs) (λ c κs. search needs) add-count-2 (λ c. search needs) (λ c. search needs) loop-again returns)

@@ -1,3 +1,4 @@
+-- The same of weights: after i turns the first i places from `a` on hold the weight, by the laws of `put` (loops/proofs/Fill.antt).
 use borrow.Author.Needs.{needs}
 use mathlib.Core.Path.{_≡_, refl}
 use native.Mathlib.Omega.{arith}
@@ -16,29 +17,8 @@ Inv-loop room₀ a n v i₀ room i =
 abbrev μ-loop : tie.MeasureT-loop
 μ-loop room₀ a n v i₀ room i = n - i
 
-loop-holds : tie.Need-loop-holds Inv-loop μ-loop
-loop-holds c = search puts
-
-add-room : tie.Need-add-room Inv-loop μ-loop
-add-room c = search needs
-
-mul-room : tie.Need-mul-room Inv-loop μ-loop
-mul-room c = search needs
-
-slice-write-room : tie.Need-slice-write-room Inv-loop μ-loop
-slice-write-room c = search needs
-
-add-i : tie.Need-add-i Inv-loop μ-loop
-add-i c = search needs
-
-loop-less : tie.Need-loop-less Inv-loop μ-loop
-loop-less c = search needs
-
 loop-again : tie.Need-loop-again Inv-loop μ-loop
 loop-again c = (search needs, search needs, put-turn _ _ _ _ (omega arith) (c .before .loop .inv .2) refl)
-
-same-length : tie.Need-same-length Inv-loop μ-loop
-same-length c = search needs
 
 returns : tie.Need-returns Inv-loop μ-loop
 returns c = put-end _ _ _ _ _ (omega arith) (omega arith) (c .before .loop .inv .2)
@@ -46,15 +26,5 @@ returns c = put-end _ _ _ _ _ (omega arith) (omega arith) (c .before .loop .inv 
 pub fill-weights-spec : {M : Type 1} → statement M
 fill-weights-spec =
     tie.close
-    (tie.spec
-    Inv-loop
-    μ-loop
-    loop-holds
-    add-room
-    mul-room
-    slice-write-room
-    add-i
-    loop-less
-    loop-again
-    same-length
-    returns)
+    (tie.spec Inv-loop μ-loop (λ c. search puts) (λ c. search needs) (λ c. search needs) (λ c. search needs)
+    (λ c. search needs) (λ c. search needs) loop-again (λ c. search needs) returns)

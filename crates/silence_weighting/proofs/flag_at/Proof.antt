@@ -1,11 +1,9 @@
+-- A frame's flag is the room's inside the table, and false past it (`place-in`, `place-past` in Tables.antt).
 use borrow.Author.Needs.{needs}
 use native.Mathlib.Omega.{arith}
 use Rattle.silence_weighting.proofs.Tables.{place-in, place-past}
 use Rattle.silence_weighting.proofs.flag_at.Statement.{statement}
 use Rattle.silence_weighting.proofs.flag_at.Tie as tie
-
-shared-slice-read-result : tie.Need-shared-slice-read-result
-shared-slice-read-result c = search needs
 
 returns : tie.Need-returns
 returns c = place-in _ _ _ _ _ (omega arith)
@@ -16,7 +14,4 @@ returns-2 c = place-past _ _ _ _ _ (omega arith)
 pub flag-at-spec : {M : Type 1} → statement M
 flag-at-spec =
     tie.close
-    (tie.spec
-    shared-slice-read-result
-    returns
-    returns-2)
+    (tie.spec (λ c. search needs) returns returns-2)

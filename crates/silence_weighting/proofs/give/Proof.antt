@@ -20,9 +20,6 @@ Inv-loop frames₀ weights₀ at subsampling first k diff last n j₀ frames wei
 abbrev μ-loop : tie.MeasureT-loop
 μ-loop frames₀ weights₀ at subsampling first k diff last n j₀ frames weights j = n - j
 
-number-of-requires : tie.Need-number-of-requires Inv-loop μ-loop
-number-of-requires c κs = search needs
-
 loop-holds : tie.Need-loop-holds Inv-loop μ-loop
 loop-holds c = (search needs, search needs, search needs, put-none _ _ _, put-none _ _ _)
 
@@ -31,41 +28,10 @@ input-frame-requires c κs =
     let n = number-le _ _ _ _ (c .before .before .number-of .ensures) in
     (omega arith, omega arith, omega arith, omega arith)
 
-add-frames : tie.Need-add-frames Inv-loop μ-loop
-add-frames c = search needs
-
-mul-frames : tie.Need-mul-frames Inv-loop μ-loop
-mul-frames c = search needs
-
-slice-write-frames : tie.Need-slice-write-frames Inv-loop μ-loop
-slice-write-frames c = search needs
-
-add-weights : tie.Need-add-weights Inv-loop μ-loop
-add-weights c = search needs
-
-mul-weights : tie.Need-mul-weights Inv-loop μ-loop
-mul-weights c = search needs
-
-slice-write-weights : tie.Need-slice-write-weights Inv-loop μ-loop
-slice-write-weights c = search needs
-
-add-j : tie.Need-add-j Inv-loop μ-loop
-add-j c = search needs
-
-loop-less : tie.Need-loop-less Inv-loop μ-loop
-loop-less c = search needs
-
 loop-again : tie.Need-loop-again Inv-loop μ-loop
-loop-again c = (search needs, search needs, search needs, put-turn _ _ _ _ (omega arith) (c .before .before .loop .inv .3) (ap (λ (x : InputFrame). x .0) (c .input-frame .ensures)), put-turn _ _ _ _ (omega arith) (c .before .before .loop .inv .4) refl)
-
-add-result : tie.Need-add-result Inv-loop μ-loop
-add-result c = search needs
-
-same-length : tie.Need-same-length Inv-loop μ-loop
-same-length c = search needs
-
-same-length-2 : tie.Need-same-length-2 Inv-loop μ-loop
-same-length-2 c = search needs
+loop-again c =
+    let at-loop = c .before .before in
+    (search needs, search needs, search needs, put-turn _ _ _ _ (omega arith) (at-loop .loop .inv .3) (ap (λ (x : InputFrame). x .0) (c .input-frame .ensures)), put-turn _ _ _ _ (omega arith) (at-loop .loop .inv .4) refl)
 
 returns : tie.Need-returns Inv-loop μ-loop
 returns c =
@@ -81,22 +47,7 @@ returns c =
 pub give-spec : {M : Type 1} → statement M
 give-spec =
     tie.close
-    (tie.spec
-    Inv-loop
-    μ-loop
-    number-of-requires
-    loop-holds
-    input-frame-requires
-    add-frames
-    mul-frames
-    slice-write-frames
-    add-weights
-    mul-weights
-    slice-write-weights
-    add-j
-    loop-less
-    loop-again
-    add-result
-    same-length
-    same-length-2
+    (tie.spec Inv-loop μ-loop (λ c κs. search needs) loop-holds input-frame-requires (λ c. search needs)
+    (λ c. search needs) (λ c. search needs) (λ c. search needs) (λ c. search needs) (λ c. search needs)
+    (λ c. search needs) (λ c. search needs) loop-again (λ c. search needs) (λ c. search needs) (λ c. search needs)
     returns)

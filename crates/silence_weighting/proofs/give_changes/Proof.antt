@@ -29,18 +29,6 @@ Inv-loop s known is-silence current-weight₀ n first frames₀ weights₀ b bli
 abbrev μ-loop : tie.MeasureT-loop
 μ-loop s known is-silence current-weight₀ n first frames₀ weights₀ b blind weight₀ at₀ out i₀ current-weight frames weights weight at i = out - i
 
-walk-begin-requires : tie.Need-walk-begin-requires Inv-loop μ-loop
-walk-begin-requires c κs = search needs
-
-flag-at-requires : tie.Need-flag-at-requires Inv-loop μ-loop
-flag-at-requires c κs = search needs
-
-before-weight-requires : tie.Need-before-weight-requires Inv-loop μ-loop
-before-weight-requires c κs = search needs
-
-less-requires : tie.Need-less-requires Inv-loop μ-loop
-less-requires c κs = search needs
-
 loop-holds : tie.Need-loop-holds Inv-loop μ-loop
 loop-holds c =
     let at-before-weight = c .before in
@@ -57,65 +45,43 @@ loop-holds c =
       give-none _ _ _ _ _ (λ (x : Change). x .1) _,
     )
 
-add-current-weight : tie.Need-add-current-weight Inv-loop μ-loop
-add-current-weight c = search needs
-
-next-weight-requires : tie.Need-next-weight-requires Inv-loop μ-loop
-next-weight-requires c κs = search needs
-
-weight-at-requires : tie.Need-weight-at-requires Inv-loop μ-loop
-weight-at-requires c κs = search needs
-
-mul-current-weight : tie.Need-mul-current-weight Inv-loop μ-loop
-mul-current-weight c = search needs
-
-slice-write-current-weight : tie.Need-slice-write-current-weight Inv-loop μ-loop
-slice-write-current-weight c = search needs
-
-add-give : tie.Need-add-give Inv-loop μ-loop
-add-give c = search needs
-
 give-requires : tie.Need-give-requires Inv-loop μ-loop
 give-requires c κs =
-    let v = c .before .before .before .before .before .before .before .before .before .loop .inv in
-    let q = c .before .before .before .before .before .before .next-weight .ensures _ in
-    let pre = c .before .before .before .before .before .before .before .before .before .before .before .before .before .before .before .before .before .before .before .before .pre in
-    let d = walk-difference (v .0) q (unwritten _ _ (v .0) (pre .3) (pre .2) (v .6) (c .before .before .before .before .weight-at .ensures)) in
-    let r = room-for (v .0) _ _ _ _ (c .before .before .before .before .before .before .before .before .loop-test .taken) (count-turn _ _ _ _ _ _ _ _ _ _ (walk-frame (v .0) q) (v .1) d refl) (v .5) in
+    let at-weight-at = c .before .before .before .before in
+    let at-next-weight = at-weight-at .before .before in
+    let at-loop-test = at-next-weight .before .before in
+    let at-loop = at-loop-test .before in
+    let start = at-loop .before .before .before .before .before .before .before .before .before .before .before in
+    let v = at-loop .loop .inv in
+    let q = at-next-weight .next-weight .ensures _ in
+    let pre = start .pre in
+    let d = walk-difference (v .0) q (unwritten _ _ (v .0) (pre .3) (pre .2) (v .6) (at-weight-at .weight-at .ensures)) in
+    let r = room-for (v .0) _ _ _ _ (at-loop-test .loop-test .taken) (count-turn _ _ _ _ _ _ _ _ _ _ (walk-frame (v .0) q) (v .1) d refl) (v .5) in
     (omega arith, omega arith, omega arith, omega arith, omega arith)
-
-add-offset : tie.Need-add-offset Inv-loop μ-loop
-add-offset c = search needs
-
-loop-less : tie.Need-loop-less Inv-loop μ-loop
-loop-less c = search needs
 
 loop-again : tie.Need-loop-again Inv-loop μ-loop
 loop-again c =
-    let v = c .before .before .before .before .before .before .before .before .before .before .before .before .before .before .loop .inv in
-    let q = c .before .before .before .before .before .before .before .before .before .before .before .next-weight .ensures _ in
-    let pre = c .before .before .before .before .before .before .before .before .before .before .before .before .before .before .before .before .before .before .before .before .before .before .before .before .before .pre in
-    let d = walk-difference (v .0) q (unwritten _ _ (v .0) (pre .3) (pre .2) (v .6) (c .before .before .before .before .before .before .before .before .before .weight-at .ensures)) in
-    let g = c .before .before .before .before .give .ensures in (
-      walk-turn (v .0) q (c .before .before .before .before .before .before .before .before .before .before .before .before .before .loop-test .taken),
+    let at-give = c .before .before .before .before in
+    let at-weight-at = at-give .before .before .before .before .before in
+    let at-next-weight = at-weight-at .before .before in
+    let at-loop-test = at-next-weight .before .before in
+    let at-loop = at-loop-test .before in
+    let start = at-loop .before .before .before .before .before .before .before .before .before .before .before in
+    let v = at-loop .loop .inv in
+    let q = at-next-weight .next-weight .ensures _ in
+    let pre = start .pre in
+    let d = walk-difference (v .0) q (unwritten _ _ (v .0) (pre .3) (pre .2) (v .6) (at-weight-at .weight-at .ensures)) in
+    let g = at-give .give .ensures in (
+      walk-turn (v .0) q (at-loop-test .loop-test .taken),
       g .0 ∙ count-turn _ _ _ _ _ _ _ _ _ _ (walk-frame (v .0) q) (v .1) d refl,
       simp length-set (v .2),
       omega arith,
       omega arith,
       v .5,
-      put-turn _ _ _ _ (omega (arith, v .0 .out-is, v .0 .begin-is, c .before .before .before .before .before .before .before .before .before .before .before .before .before .loop-test .taken)) (v .6) (walk-weight (v .0) q),
+      put-turn _ _ _ _ (omega (arith, v .0 .out-is, v .0 .begin-is, at-loop-test .loop-test .taken)) (v .6) (walk-weight (v .0) q),
       give-turn _ _ _ _ _ _ _ _ 0 _ (walk-frame (v .0) q) (v .1) d (λ (x : Change). x .0) _ _ _ (v .7) (g .1),
       give-turn _ _ _ _ _ _ _ _ 0 _ (walk-frame (v .0) q) (v .1) d (λ (x : Change). x .1) _ _ _ (v .8) (g .2),
     )
-
-same-length : tie.Need-same-length Inv-loop μ-loop
-same-length c = search needs
-
-same-length-2 : tie.Need-same-length-2 Inv-loop μ-loop
-same-length-2 c = search needs
-
-same-length-3 : tie.Need-same-length-3 Inv-loop μ-loop
-same-length-3 c = search needs
 
 returns : tie.Need-returns Inv-loop μ-loop
 returns c =
@@ -132,25 +98,7 @@ returns c =
 pub give-changes-spec : {M : Type 1} → statement M
 give-changes-spec =
     tie.close
-    (tie.spec
-    Inv-loop
-    μ-loop
-    walk-begin-requires
-    flag-at-requires
-    before-weight-requires
-    less-requires
-    loop-holds
-    add-current-weight
-    next-weight-requires
-    weight-at-requires
-    mul-current-weight
-    slice-write-current-weight
-    add-give
-    give-requires
-    add-offset
-    loop-less
-    loop-again
-    same-length
-    same-length-2
-    same-length-3
-    returns)
+    (tie.spec Inv-loop μ-loop (λ c κs. search needs) (λ c κs. search needs) (λ c κs. search needs)
+    (λ c κs. search needs) loop-holds (λ c. search needs) (λ c κs. search needs) (λ c κs. search needs)
+    (λ c. search needs) (λ c. search needs) (λ c. search needs) give-requires (λ c. search needs) (λ c. search needs)
+    loop-again (λ c. search needs) (λ c. search needs) (λ c. search needs) returns)

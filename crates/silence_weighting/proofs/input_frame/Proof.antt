@@ -1,3 +1,4 @@
+-- The conversion to input frames is the definition's, by computing; the ranges that are required keep it within a word.
 use mathlib.Core.Path.{refl}
 use native.Mathlib.Omega.{arith}
 use native.Mathlib.Nat.{mul-le-mul}
@@ -9,10 +10,14 @@ mul-t5 : tie.Need-mul-t5
 mul-t5 c = omega (arith, mul-le-mul {n₂ = 1000000} {m₂ = 16} (c .before .pre .2) (c .before .pre .0))
 
 add-t6 : tie.Need-add-t6
-add-t6 c = omega (arith, mul-le-mul {n₂ = 1000000} {m₂ = 16} (c .before .before .pre .2) (c .before .before .pre .0))
+add-t6 c =
+    let start = c .before .before in
+    omega (arith, mul-le-mul {n₂ = 1000000} {m₂ = 16} (start .pre .2) (start .pre .0))
 
 add-t7 : tie.Need-add-t7
-add-t7 c = omega (arith, mul-le-mul {n₂ = 1000000} {m₂ = 16} (c .before .before .pre .2) (c .before .before .pre .0))
+add-t7 c =
+    let start = c .before .before in
+    omega (arith, mul-le-mul {n₂ = 1000000} {m₂ = 16} (start .pre .2) (start .pre .0))
 
 returns : tie.Need-returns
 unfolding inputFrame

@@ -1,3 +1,4 @@
+-- A new table is refused by the number that `settings_refusal` gives, or has the definition's record: the two sides of `taken`.
 use borrow.Author.Needs.{needs}
 use mathlib.Core.Path.{sym, ap, _∙_}
 use Rattle.definition.specs.Silence.{newTable}
@@ -5,9 +6,6 @@ use Rattle.loops.proofs.Refusal.{taken-new, taken-old}
 use Rattle.definition.specs.declared.NewTable.the-variants.{Refused}
 use Rattle.silence_weighting.proofs.new.Statement.{statement}
 use Rattle.silence_weighting.proofs.new.Tie as tie
-
-settings-refusal-requires : tie.Need-settings-refusal-requires
-settings-refusal-requires c κs = search needs
 
 returns : tie.Need-returns
 unfolding newTable
@@ -20,7 +18,4 @@ returns-2 c = sym (taken-new _ _ _ (sym (c .before .settings-refusal .ensures) �
 pub new-spec : {M : Type 1} → statement M
 new-spec =
     tie.close
-    (tie.spec
-    settings-refusal-requires
-    returns
-    returns-2)
+    (tie.spec (λ c κs. search needs) returns returns-2)

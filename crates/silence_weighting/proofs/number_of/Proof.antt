@@ -1,3 +1,4 @@
+-- How many changes a frame gives: one for each of its input frames where its weight changed or it is the last, else none (Walk.antt).
 use Rattle.silence_weighting.proofs.Walk.{number-changed, number-last, number-none}
 use Rattle.silence_weighting.proofs.number_of.Statement.{statement}
 use Rattle.silence_weighting.proofs.number_of.Tie as tie

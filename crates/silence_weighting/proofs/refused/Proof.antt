@@ -1,3 +1,4 @@
+-- What a refused call answers is `silenceAnswer` at its number, which is not 0.
 use mathlib.Core.Path.{_≡_, refl}
 use Prim.Native.Nat.{ℕ, zero, suc}
 use Rattle.definition.specs.declared.SilenceWeighting.{SilenceWeighting}

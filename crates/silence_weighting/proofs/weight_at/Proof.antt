@@ -1,14 +1,9 @@
+-- A frame's weight is the room's inside the table, and 0 past it (`place-in`, `place-past` in Tables.antt).
 use borrow.Author.Needs.{needs}
 use native.Mathlib.Omega.{arith}
 use Rattle.silence_weighting.proofs.Tables.{place-in, place-past}
 use Rattle.silence_weighting.proofs.weight_at.Statement.{statement}
 use Rattle.silence_weighting.proofs.weight_at.Tie as tie
-
-mul-result : tie.Need-mul-result
-mul-result c = search needs
-
-shared-slice-read-result : tie.Need-shared-slice-read-result
-shared-slice-read-result c = search needs
 
 returns : tie.Need-returns
 returns c = place-in _ _ _ _ _ (omega arith)
@@ -19,8 +14,4 @@ returns-2 c = place-past _ _ _ _ _ (omega arith)
 pub weight-at-spec : {M : Type 1} → statement M
 weight-at-spec =
     tie.close
-    (tie.spec
-    mul-result
-    shared-slice-read-result
-    returns
-    returns-2)
+    (tie.spec (λ c. search needs) (λ c. search needs) returns returns-2)
