@@ -2,7 +2,7 @@
 use mathlib.Core.Path.{_≡_, refl, sym, ap, ap₂, subst, _∙_}
 use mathlib.Core.Bool.{Bool, true, false, not, _&&_}
 use mathlib.Core.List.{List, [], _∷_}
-use Prim.Native.Nat.{ℕ, zero, suc, _-_, _≤_, _<_}
+use Prim.Native.Nat.{ℕ, _-_, _≤_, _<_}
 use native.Mathlib.Omega.{arith}
 use lib.Dec.{eqb, leb}
 use borrow.Author.Tests.{not-false, not-true, eqb-true, lt-leb, le-leb, leb-false}
@@ -64,12 +64,6 @@ same-rooms a b e =
     (four (λ (p q r s : ℕ). record { «cmvn_stats» = p; linear = q; quadratic = r; current = s; scratch = a .estimate .scratch })
     (eqb-true _ _ (k .0)) (eqb-true _ _ (k .1 .0)) (eqb-true _ _ (k .1 .1 .0)) (eqb-true _ _ (k .1 .1 .1 .0))
     ∙ ap (λ (p : ℕ). record { «cmvn_stats» = b .estimate .«cmvn_stats»; linear = b .estimate .linear; quadratic = b .estimate .quadratic; current = b .estimate .current; scratch = p }) (eqb-true _ _ (k .1 .1 .1 .1 .0)))
-
--- the first k tests fail, and P
-abbrev pub Past : ℕ → List (Bool × ℕ) → Type 0 → Type 0
-Past zero ts P = P
-Past (suc k) [] P = P
-Past (suc k) (t ∷ ts) P = (t .0 ≡ false) × Past k ts P
 
 module _ (s : IvectorStream) (t : TableLengths) (z : RoomLengths) (fs : List ℕ) (f n : ℕ) where
   abbrev pub fetchList : List (Bool × ℕ)

@@ -2,7 +2,7 @@
 use mathlib.Core.Path.{_≡_, sym, ap, _∙_}
 use mathlib.Core.Bool.{Bool, true, false, not, _||_}
 use mathlib.Core.List.{List, [], _∷_, _++_}
-use Prim.Native.Nat.{ℕ, _+_, _-_, _≤_, _<_}
+use Prim.Native.Nat.{ℕ, zero, suc, _+_, _-_, _≤_, _<_}
 use native.Mathlib.Nat.{div-mul-le-self, mul-le-mul-right}
 use native.Mathlib.Omega.{arith}
 use lib.ListN.{length}
@@ -25,6 +25,12 @@ use Rattle.definition.proofs.Ranges.{DimRanges, dim-ranges, record-sound, Fitti
 use Rattle.program.specs.Rooms.{Rings}
 use Rattle.program.specs.Calls.{recordTests, pushFrame, updateFrameWeights}
 use Rattle.ivector_stream.proofs.Records.{Passed, tests-passed, other-few, already, then-first, then-none}
+
+-- the first k tests fail, and P
+abbrev pub Past : ℕ → List (Bool × ℕ) → Type 0 → Type 0
+Past zero ts P = P
+Past (suc k) [] P = P
+Past (suc k) (t ∷ ts) P = (t .0 ≡ false) × Past k ts P
 
 -- ---- a fresh stream
 

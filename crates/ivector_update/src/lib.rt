@@ -12,7 +12,7 @@ ghost use Rattle.definition.specs.Model.{Tables, tablesFrom, tableLengthsOf, ta
 ghost use Rattle.definition.specs.Views.{Frames};
 ghost use Rattle.definition.specs.Statistics.{Entry};
 ghost use Rattle.definition.specs.Changes.{Batch};
-ghost use Rattle.definition.specs.Estimate.{Estimate, entries, accumulated, updated};
+ghost use Rattle.definition.specs.Estimate.{Estimate, entries, updated};
 ghost use Rattle.definition.specs.Stream.{recordSound, roomsFit};
 ghost use Rattle.program.specs.Rooms.{ringsFrom, EstimateRooms, estimateFrom, Rooms, roomsFrom, roomLengthsOf, ringFrames, waitingIn, estimateAt};
 ghost use Rattle.program.specs.Calls.{overEstimate};
@@ -226,100 +226,9 @@ fn take_batch(
     m
 }
 
-// What a fetch of f brings in goes into the statistics: frames next .. f, or, once a change call was taken, those of the first n
-// waiting changes. Where there are none, nothing is added. The answer is the frame count.
-fn acc_until(
-    info: IvectorInfo,
-    accepted: usize,
-    called: bool,
-    next: usize,
-    f: usize,
-    n: usize,
-    waiting_frames: &[usize],
-    waiting_weights: &[f32],
-    gconsts: &[f32],
-    means_invvars_t: &[f32],
-    inv_vars_t: &[f32],
-    sigma_inv_m: &[f64],
-    u: &[f64],
-    lda_t: &[f32],
-    lda_offset: &[f32],
-    global: &[f64],
-    frames: &[f32],
-    rows: &[f64],
-    cmvn: &mut [f64],
-    num_frames: f64,
-    linear: &mut [f64],
-    quadratic: &mut [f64],
-    scratch: &mut [f64],
-) -> f64
-    requires { ⌜ Lent (info .dims .«base_dim») accepted (now global) (now frames) (now rows) (now cmvn) ⌝ }
-    requires { ⌜ (
-        let t : Tables = tablesFrom (now gconsts) (now «means_invvars_t») (now «inv_vars_t») (now «sigma_inv_m») (now u) (now «lda_t») (now «lda_offset») (now global) in
-        Ready info t × Solvable info t (now linear) (now quadratic) (length (now scratch))) ⌝ }
-    requires { ⌜ (next ≤ f) × (f < accepted) × (n ≤ length (now «waiting_frames»)) × (n ≤ length (now «waiting_weights»)) × ((k : ℕ) → k < n → getD (now «waiting_frames») k 0 < accepted) ⌝ }
-    ensures { λ r. ⌜ (
-        let M : Model = model info (tablesFrom (now (gconsts .entry)) (now («means_invvars_t» .entry)) (now («inv_vars_t» .entry)) (now («sigma_inv_m» .entry)) (now (u .entry)) (now («lda_t» .entry)) (now («lda_offset» .entry)) (now (global .entry))) in
-        let F : Frames = ringFrames (info .dims .«base_dim») accepted (now (frames .entry)) (now (rows .entry)) in
-        let bs : Batch = batchOf (info .opts) called next f (waitingIn n (now («waiting_frames» .entry)) (now («waiting_weights» .entry))) in
-        let x = entries M F bs (now (cmvn .entry)) in
-        (now (cmvn .exit) ≡ x .0)
-        × (statsIn r (now (linear .exit)) (now (quadratic .exit)) ≡ accumulated M bs (x .1) (statsIn «num_frames» (now (linear .entry)) (now (quadratic .entry))))) ⌝ }
-{
-    let places = batch_length(called, next, f, n);
-    if places == 0 {
-        return num_frames;
-    }
-    let mut normalized = [0.0f32; 64];
-    let mut raw = [0.0f32; 64];
-    let mut seen = [0usize; 1024];
-    let mut tot = [0.0f64; 1024];
-    let o = info.opts;
-    let dims = info.dims;
-    let d = dims.feat_dim;
-    let m = take_batch(
-        info,
-        accepted,
-        called,
-        next,
-        places,
-        waiting_frames,
-        waiting_weights,
-        gconsts,
-        means_invvars_t,
-        inv_vars_t,
-        lda_t,
-        lda_offset,
-        global,
-        frames,
-        rows,
-        cmvn,
-        &mut normalized[..d],
-        &mut raw[..d],
-        &mut seen,
-        &mut tot,
-        scratch,
-    );
-    ivector_stats::acc(
-        o,
-        d,
-        dims.ivector_dim,
-        info.prior_offset,
-        sigma_inv_m,
-        u,
-        dims.num_gauss,
-        m,
-        &seen,
-        &tot,
-        scratch,
-        num_frames,
-        linear,
-        quadratic,
-    )
-}
-
-// `update_stats_until`: what a fetch of f brings in goes into the statistics, and the current vector is solved for. The answer is the
-// frame count; scratch is free.
+// `update_stats_until`: what a fetch of f brings in goes into the statistics (frames next .. f, or, once a change call was taken, those of
+// the first n waiting changes; where there are none, nothing is added), and the current vector is solved for. The answer is the frame
+// count; scratch is free.
 pub fn update_stats_until(
     info: IvectorInfo,
     accepted: usize,
@@ -360,33 +269,66 @@ pub fn update_stats_until(
         let e : Estimate = updated M F bs e₀ in
         (now (cmvn .exit) ≡ e .cmvn) × (statsIn r (now (linear .exit)) (now (quadratic .exit)) ≡ e .stats) × (now (current .exit) ≡ e .current)) ⌝ }
 {
-    let count = acc_until(
+    let o = info.opts;
+    let dims = info.dims;
+    let places = batch_length(called, next, f, n);
+    if places == 0 {
+        ivector_stats::get_ivector(
+            o,
+            dims.ivector_dim,
+            info.prior_offset,
+            num_frames,
+            linear,
+            quadratic,
+            current,
+            scratch,
+        );
+        return num_frames;
+    }
+    let mut normalized = [0.0f32; 64];
+    let mut raw = [0.0f32; 64];
+    let mut seen = [0usize; 1024];
+    let mut tot = [0.0f64; 1024];
+    let d = dims.feat_dim;
+    let m = take_batch(
         info,
         accepted,
         called,
         next,
-        f,
-        n,
+        places,
         waiting_frames,
         waiting_weights,
         gconsts,
         means_invvars_t,
         inv_vars_t,
-        sigma_inv_m,
-        u,
         lda_t,
         lda_offset,
         global,
         frames,
         rows,
         cmvn,
+        &mut normalized[..d],
+        &mut raw[..d],
+        &mut seen,
+        &mut tot,
+        scratch,
+    );
+    let count = ivector_stats::acc(
+        o,
+        d,
+        dims.ivector_dim,
+        info.prior_offset,
+        sigma_inv_m,
+        u,
+        dims.num_gauss,
+        m,
+        &seen,
+        &tot,
+        scratch,
         num_frames,
         linear,
         quadratic,
-        scratch,
     );
-    let o = info.opts;
-    let dims = info.dims;
     ivector_stats::get_ivector(
         o,
         dims.ivector_dim,

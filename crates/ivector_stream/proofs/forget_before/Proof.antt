@@ -19,33 +19,37 @@ lent start = ringsFrom (start .args .frames .now) (start .args .rows .now) (star
 abbrev step : tie.Start → RingStep
 step start = forgetBefore (start .args .s) (lent start) (start .args .frame)
 
+-- the start, from behind the refusal
+abbrev begun : tie.After-plain-refusal → tie.Start
+begun c = c .before .before .before .before .before
+
 -- once it is taken
-known : (c : tie.Else1) →
-    let start = c .before .before .before .before .before .before in
-    Passed (start .args .s) (lent start)
-known c =
-    let start = c .before .before .before .before .before .before in
-    plain-passed (start .args .s) (lent start) (c .before .plain-refusal .ensures) (c .if1 .left)
+known : (c : tie.Else1) → Passed (begun (c .before) .args .s) (lent (begun (c .before)))
+known c = plain-passed _ (lent (begun (c .before))) (c .before .plain-refusal .ensures) (c .if1 .left)
+
+-- places: one that comes before another
+abbrev to-if1 : tie.After-smaller → tie.Else1
+to-if1 c = c .before .before .before
 
 plain-refusal-requires : tie.Need-plain-refusal-requires
 plain-refusal-requires c κs = search needs
 
 reply-requires : tie.Need-reply-requires
 reply-requires c κs =
-    let start = c .before .before .before .before .before .before in
+    let start = begun (c .before) in
     other-few (start .args .s) (lent start) [] (c .before .plain-refusal .ensures)
 
 returns : tie.Need-returns
 unfolding forgetBefore
 returns c =
-    let start = c .before .before .before .before .before .before .before in
+    let start = begun (c .before .before) in
     refused (start .args .s) (lent start) (step start) (c .before .before .plain-refusal .ensures) (c .before .if1 .taken) (c .reply .ensures)
 
 smaller-requires : tie.Need-smaller-requires
 smaller-requires c κs = search needs
 
 lowest-requires : tie.Need-lowest-requires
-lowest-requires c κs = let k = known (c .before .before .before) in (omega (arith, k), k .whole-is .in-order)
+lowest-requires c κs = let k = known (to-if1 c) in (omega (arith, k), k .whole-is .in-order)
 
 less-requires : tie.Need-less-requires
 less-requires c κs = search needs
@@ -55,8 +59,8 @@ larger-requires c κs = search needs
 
 reply-requires-2 : tie.Need-reply-requires-2
 reply-requires-2 c κs =
-    let at-if1 = c .before .before .before .before .before .before in
-    let start = at-if1 .before .before .before .before .before .before in
+    let at-if1 = to-if1 (c .before .before .before) in
+    let start = begun (at-if1 .before) in
     λ h.
     let k = known at-if1 in
     let a = start .args in
@@ -66,9 +70,9 @@ returns-2 : tie.Need-returns-2
 unfolding forgetBefore
 returns-2 c =
     let at-smaller = c .before .before .before .before in
-    let at-if1 = at-smaller .before .before .before in
+    let at-if1 = to-if1 at-smaller in
     let at-plain-refusal = at-if1 .before in
-    let start = at-plain-refusal .before .before .before .before .before in
+    let start = begun at-plain-refusal in
     let a = start .args in
     let mark = forget-is (a .s) (a .waiting-frames .now) (a .frame) (at-smaller .smaller .ensures) (c .before .before .before .lowest .ensures) (c .before .before .less .ensures) (c .before .larger .ensures) in
     done (a .s) (lent start) (step start) (at-plain-refusal .plain-refusal .ensures) (at-if1 .if1 .left) (c .reply2 .ensures ∙ ap (λ (m : ℕ). callOf 0 (withMark (a .s) m) 0) mark) refl

@@ -23,20 +23,39 @@ lent start = ringsFrom (start .args .frames .now) (start .args .rows .now) (star
 abbrev step : tie.Start → RingStep
 step start = pushFrame (start .args .s) (lent start) (start .args .frame .now)
 
+-- the start, from behind the refusal; and behind that, from where both places in the rings are known
+abbrev begun : tie.After-push-refusal → tie.Start
+begun c = c .before .before .before .before .before .before .before .before
+
+abbrev taken-from : tie.After-row-after → tie.Else1
+taken-from c = c .before .before .before .before .before .before .before .before .before
+
 -- once it is taken
 known : (c : tie.Else1) →
-    let start = c .before .before .before .before .before .before .before .before .before in
+    let start = begun (c .before) in
     PushTaken (start .args .s) (lent start) (start .args .frame .now)
 known c = push-taken _ _ _ (c .before .push-refusal .ensures) (c .if1 .left)
 
 -- the row after, as a place of the ring
 next-is : (c : tie.After-row-after) →
-    let start = c .before .before .before .before .before .before .before .before .before .before .before .before .before .before .before .before .before .before in
+    let start = begun (taken-from c .before) in
     c .row-after .result ≡ place (length (start .args .rows .now)) (start .args .s .info .dims .«base_dim») (start .args .s .accepted + 1)
 next-is c =
-    let at-if1 = c .before .before .before .before .before .before .before .before .before in
-    let k = known at-if1 in
+    let k = known (taken-from c) in
     place-turned _ _ _ (k .passed .dims-are .some-base) (omega (arith, k .passed .row-room)) (c .before .row-place2 .ensures) (c .row-after .ensures)
+
+-- places: one that comes before another
+abbrev to-add-frame : tie.After-reply2 → tie.After-add-frame
+to-add-frame c = c .before .before .before .before
+
+abbrev to-add-frame-from-struct-known : tie.After-struct-known → tie.After-add-frame
+to-add-frame-from-struct-known c = c .before .before .before
+
+abbrev to-if1 : tie.After-row-place → tie.Else1
+to-if1 c = c .before .before .before
+
+abbrev to-put-frame : tie.After-row-place2 → tie.After-put-frame
+to-put-frame c = c .before .before .before
 
 push-refusal-requires : tie.Need-push-refusal-requires
 push-refusal-requires c κs = search needs
@@ -52,7 +71,7 @@ same-length-2 c = refl
 
 returns : tie.Need-returns
 returns c =
-    let start = c .before .before .before .before .before .before .before .before .before .before in
+    let start = begun (c .before .before) in
     refused (start .args .s) (lent start) (step start) (c .before .before .push-refusal .ensures) (c .before .if1 .taken) (c .reply .ensures)
 
 row-place-requires : tie.Need-row-place-requires
@@ -60,20 +79,20 @@ row-place-requires c κs = let k = known (c .before .before) in (k .passed .dims
 
 put-frame-requires : tie.Need-put-frame-requires
 put-frame-requires c κs =
-    let at-if1 = c .before .before .before .before in
-    let start = at-if1 .before .before .before .before .before .before .before .before .before in
+    let at-if1 = to-if1 (c .before) in
+    let start = begun (at-if1 .before) in
     let k = known at-if1 in
     omega (arith, place-in (length (start .args .frames .now)) (start .args .s .info .dims .«base_dim») (start .args .s .accepted) (k .passed .frame-room), c .before .row-place .ensures, k .wide)
 
 row-place-requires-2 : tie.Need-row-place-requires-2
 row-place-requires-2 c κs =
-    let at-if1 = c .before .before .before .before .before .before .before in
+    let at-if1 = to-if1 (c .before .before .before .before) in
     let k = known at-if1 in (k .passed .dims-are .some-base, omega (arith, k .passed .row-room))
 
 row-after-requires : tie.Need-row-after-requires
 row-after-requires c κs =
-    let at-if1 = c .before .before .before .before .before .before .before .before in
-    let start = at-if1 .before .before .before .before .before .before .before .before .before in
+    let at-if1 = to-if1 (to-put-frame c .before .before) in
+    let start = begun (at-if1 .before) in
     let k = known at-if1 in
     let some : 0 < rowsIn (length (start .args .rows .now)) (start .args .s .info .dims .«base_dim») = omega (arith, k .passed .row-room) in
     (k .passed .dims-are .base-is, omega (arith, place-in (length (start .args .rows .now)) (start .args .s .info .dims .«base_dim») (start .args .s .accepted) some, c .row-place2 .ensures))
@@ -81,8 +100,8 @@ row-after-requires c κs =
 add-frame-requires : tie.Need-add-frame-requires
 add-frame-requires c κs =
     let at-row-place2 = c .before .before in
-    let at-if1 = at-row-place2 .before .before .before .before .before .before .before .before in
-    let start = at-if1 .before .before .before .before .before .before .before .before .before in
+    let at-if1 = taken-from (c .before) in
+    let start = begun (at-if1 .before) in
     let k = known at-if1 in
     let n = length (start .args .rows .now) in
     let b = start .args .s .info .dims .«base_dim» in
@@ -95,35 +114,35 @@ add-frame-requires c κs =
 
 add-s : tie.Need-add-s
 add-s c =
-    let at-if1 = c .before .before .before .before .before .before .before .before .before .before .before .before .before .before in
+    let at-if1 = taken-from (to-add-frame-from-struct-known c .before .before) in
     omega (arith, known at-if1 .more)
 
 reply-requires-2 : tie.Need-reply-requires-2
 reply-requires-2 c κs =
-    let at-if1 = c .before .before .before .before .before .before .before .before .before .before .before .before .before .before in
+    let at-if1 = taken-from (to-add-frame-from-struct-known c .before .before) in
     λ h. let k = known at-if1 in (omega (arith, k .more), few _ _ (k .passed) .1)
 
 same-length-3 : tie.Need-same-length-3
 same-length-3 c =
-    let at-put-frame = c .before .before .before .before .before .before .before .before .before .before in
+    let at-put-frame = to-put-frame (to-add-frame c .before .before .before) in
     at-put-frame .put-frame .kept .0
 
 same-length-4 : tie.Need-same-length-4
 same-length-4 c =
-    let at-add-frame = c .before .before .before .before in
+    let at-add-frame = to-add-frame c in
     at-add-frame .add-frame .kept .0
 
 returns-2 : tie.Need-returns-2
 unfolding pushFrame
 returns-2 c =
-    let at-add-frame = c .before .before .before .before in
+    let at-add-frame = to-add-frame c in
     let at-row-after = at-add-frame .before .before in
     let at-row-place2 = at-row-after .before in
-    let at-put-frame = at-row-place2 .before .before .before in
+    let at-put-frame = to-put-frame at-row-place2 in
     let at-row-place = at-put-frame .before .before in
-    let at-if1 = at-row-place .before .before .before in
+    let at-if1 = to-if1 at-row-place in
     let at-push-refusal = at-if1 .before in
-    let start = at-push-refusal .before .before .before .before .before .before .before .before in
+    let start = begun at-push-refusal in
     let s = start .args .s in
     let x = start .args .frame .now in
     done s (lent start) (step start) (at-push-refusal .push-refusal .ensures) (at-if1 .if1 .left) (c .reply2 .ensures) (rings-are

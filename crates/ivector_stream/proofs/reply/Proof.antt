@@ -4,6 +4,10 @@ use Rattle.ivector_stream.proofs.Replies.{reply-10, reply-held}
 use Rattle.ivector_stream.proofs.reply.Statement.{statement}
 use Rattle.ivector_stream.proofs.reply.Tie as tie
 
+-- places: one that comes before another
+abbrev to-if1 : tie.After-frames-held → tie.Else1
+to-if1 c = c .before .before .before
+
 returns : tie.Need-returns
 returns c = reply-10 _ _ _ (c .if1 .taken)
 
@@ -12,8 +16,8 @@ frames-held-requires c κs = search needs
 
 rows-held-requires : tie.Need-rows-held-requires
 rows-held-requires c κs =
-    let start = c .before .before .before .before in
-    (start .pre) (c .before .before .before .if1 .left)
+    let start = to-if1 c .before in
+    (start .pre) (to-if1 c .if1 .left)
 
 returns-2 : tie.Need-returns-2
 returns-2 c =

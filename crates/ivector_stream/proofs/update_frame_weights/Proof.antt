@@ -20,11 +20,22 @@ lent start = ringsFrom (start .args .frames .now) (start .args .rows .now) (star
 abbrev step : tie.Start → RingStep
 step start = updateFrameWeights (start .args .s) (lent start) (start .args .delta-frames .now) (start .args .delta-weights .now)
 
+-- the start, from behind the refusal
+abbrev begun : tie.After-change-refusal → tie.Start
+begun c = c .before .before .before .before .before .before .before .before .before
+
 -- once it is taken
 known : (c : tie.Else1) →
-    let start = c .before .before .before .before .before .before .before .before .before .before in
+    let start = begun (c .before) in
     ChangeTaken (start .args .s) (lent start) (start .args .delta-frames .now) (start .args .delta-weights .now)
 known c = change-taken _ _ _ _ (c .before .change-refusal .ensures) (c .if1 .left)
+
+-- places: one that comes before another
+abbrev to-if1 : tie.After-update-frame-weights → tie.Else1
+to-if1 c = c .before .before .before
+
+abbrev to-update-frame-weights : tie.After-struct-known → tie.After-update-frame-weights
+to-update-frame-weights c = c .before .before .before .before .before
 
 change-refusal-requires : tie.Need-change-refusal-requires
 change-refusal-requires c κs = search needs
@@ -40,7 +51,7 @@ same-length-2 c = refl
 
 returns : tie.Need-returns
 returns c =
-    let start = c .before .before .before .before .before .before .before .before .before .before .before in
+    let start = begun (c .before .before) in
     refused (start .args .s) (lent start) (step start) (c .before .before .change-refusal .ensures) (c .before .if1 .taken) (c .reply .ensures)
 
 update-frame-weights-requires : tie.Need-update-frame-weights-requires
@@ -50,31 +61,31 @@ update-frame-weights-requires c κs =
 
 add-s : tie.Need-add-s
 add-s c =
-    let at-if1 = c .before .before .before .before .before .before .before .before in
+    let at-if1 = to-if1 (to-update-frame-weights c) in
     let k = known at-if1 in omega (arith, k .room-is, k .passed)
 
 reply-requires-2 : tie.Need-reply-requires-2
 reply-requires-2 c κs =
-    let at-if1 = c .before .before .before .before .before .before .before .before in
+    let at-if1 = to-if1 (to-update-frame-weights c) in
     λ h. few _ _ (known at-if1 .passed)
 
 same-length-3 : tie.Need-same-length-3
 same-length-3 c =
-    let at-update-frame-weights = c .before .before .before .before .before .before in
+    let at-update-frame-weights = to-update-frame-weights (c .before) in
     at-update-frame-weights .update-frame-weights .kept .0
 
 same-length-4 : tie.Need-same-length-4
 same-length-4 c =
-    let at-update-frame-weights = c .before .before .before .before .before .before in
+    let at-update-frame-weights = to-update-frame-weights (c .before) in
     at-update-frame-weights .update-frame-weights .kept .1 .0
 
 returns-2 : tie.Need-returns-2
 unfolding changed updateFrameWeights
 returns-2 c =
-    let at-update-frame-weights = c .before .before .before .before .before .before in
-    let at-if1 = at-update-frame-weights .before .before .before in
+    let at-update-frame-weights = to-update-frame-weights (c .before) in
+    let at-if1 = to-if1 at-update-frame-weights in
     let at-change-refusal = at-if1 .before in
-    let start = at-change-refusal .before .before .before .before .before .before .before .before .before in
+    let start = begun at-change-refusal in
     let s = start .args .s in
     let z = lent start in
     let next = changed-stream s z (start .args .delta-frames .now) (start .args .delta-weights .now) (at-update-frame-weights .update-frame-weights .ensures .2) in

@@ -56,11 +56,14 @@ abbrev taken-at : tie.After-new Inv-loop μ-loop → tie.Else1 Inv-loop μ-loop
 taken-at c = c .before .before .before .before .before .before .before .before .before .before
 
 -- behind the making, from its match and from the loop's start
+abbrev new-from : tie.After-slice-known16 Inv-loop μ-loop → tie.After-new Inv-loop μ-loop
+new-from c = c .before .before .before .before .before .before .before .before .before .before
+
 abbrev refused-from : tie.After-known-told Inv-loop μ-loop → tie.After-new Inv-loop μ-loop
-refused-from c = c .before .before .before .before .before .before .before .before .before .before .before .before .before
+refused-from c = new-from (c .before .before .before)
 
 abbrev made-from : tie.After-t Inv-loop μ-loop → tie.After-new Inv-loop μ-loop
-made-from c = c .before .before .before .before .before .before .before .before .before .before .before .before .before .before
+made-from c = new-from (c .before .before .before .before)
 
 -- the loop, from behind a call and from the end of a turn
 abbrev loop-from : tie.After-turn Inv-loop μ-loop → tie.After-call-at Inv-loop μ-loop

@@ -37,6 +37,10 @@ at-ring-call c = c .before .before .before .before .before .before .before .befo
 abbrev at-larger : tie.After-get-frame-arg9 → tie.After-larger
 at-larger c = c .before .before .before .before .before .before .before .before .before
 
+-- the start, from there
+abbrev lent-from : tie.After-larger → tie.Start
+lent-from c = begun (c .before .before .before .before)
+
 -- the fetch, from the end
 abbrev at-get-frame : tie.After-slice-known22 → tie.After-get-frame
 at-get-frame c = c .before .before .before .before .before .before .before .before .before .before .before .before .before .before .before .before
@@ -91,13 +95,13 @@ larger-requires : tie.Need-larger-requires
 larger-requires c κs = search needs
 
 -- its part of the outputs
-ends : (c : tie.After-larger) → (c .before .before .smaller .result ≤ c .larger .result) × (c .larger .result ≤ length (begun (c .before .before .before .before) .args .outs .now))
+ends : (c : tie.After-larger) → (c .before .before .smaller .result ≤ c .larger .result) × (c .larger .result ≤ length (lent-from c .args .outs .now))
 ends c = cut-ends _ _ _ _ _ _ (c .before .before .smaller .ensures) (c .before .smaller2 .ensures) (c .larger .ensures)
 
 mul-get-frame : tie.Need-mul-get-frame
 mul-get-frame c =
     let cut = at-larger c in
-    omega (arith, ends cut .0, ends cut .1, begun (cut .before .before .before .before) .good .1 .1 .1 .1 .1 .1 .1 .1 .1 .1 .1 .1 .1 .1 .1 .1 .1 .1 .1 .1 .1 .0)
+    omega (arith, ends cut .0, ends cut .1, lent-from cut .good .1 .1 .1 .1 .1 .1 .1 .1 .1 .1 .1 .1 .1 .1 .1 .1 .1 .1 .1 .1 .1 .0)
 
 sub-get-frame : tie.Need-sub-get-frame
 sub-get-frame c = search needs
@@ -143,7 +147,7 @@ same-length-14 c =
     let fetched = at-get-frame c in
     let cut = at-larger (fetched .before .before) in
     let from = cut .before .before .smaller .result in
-    lent-long from (cut .larger .result - from) (begun (cut .before .before .before .before) .args .outs .now) (fetched .get-frame .last .1 .1 .1 .1 .1 .1 .1 .1 .1 .1 .1 .1 .1 .1 .1 .1 .1 .1 .1 .0) (fetched .get-frame .kept .1 .1 .1 .1 .1 .1 .1 .1 .1 .1 .1 .1 .1 .1 .1 .1 .1 .1 .1 .0)
+    lent-long from (cut .larger .result - from) (lent-from cut .args .outs .now) (fetched .get-frame .last .1 .1 .1 .1 .1 .1 .1 .1 .1 .1 .1 .1 .1 .1 .1 .1 .1 .1 .1 .0) (fetched .get-frame .kept .1 .1 .1 .1 .1 .1 .1 .1 .1 .1 .1 .1 .1 .1 .1 .1 .1 .1 .1 .0)
 
 returns-2 : tie.Need-returns-2
 returns-2 c =
