@@ -16,7 +16,6 @@ use Rattle.loops.proofs.Parts.{lent-is, length-lent, at-part}
 use Rattle.basics.proofs.Rows.{times-comm}
 use Rattle.floats.specs.Operators.{_+₆₄_, _*₆₄_, zero₆₄, at, sum₆₄}
 
-
 -- ---- a part that is lent, and comes back
 
 -- row k of rows of d, after a loop that makes each place from its old value

@@ -10,7 +10,7 @@ use Rattle.ivector_stream.proofs.new.Statement.{statement}
 use Rattle.ivector_stream.proofs.new.Tie as tie
 
 -- places: one that comes before another
-abbrev to-clear : tie.After-struct-known → tie.After-clear
+abbrev to-clear : tie.After-struct-known → tie.After-clear-front
 to-clear c = c .before .before .before .before
 
 abbrev to-clear2 : tie.After-fresh-estimate-arg3 → tie.After-clear-front2
@@ -31,7 +31,7 @@ returns c = (new-refused _ _ _ (c .before .new-refusal .ensures) (c .if1 .taken)
 clear-front-requires : tie.Need-clear-front-requires
 clear-front-requires c κs = new-taken _ _ _ (c .before .before .before .new-refusal .ensures) (c .before .before .if1 .left) .row-long
 
-add-clear-front : tie.Need-add-clear-front-front
+add-clear-front : tie.Need-add-clear-front
 add-clear-front c =
     let at-if1 = to-if1 (to-clear c) in
     let at-new-refusal = at-if1 .before in
