@@ -1,6 +1,6 @@
--- Steps of `types.Kit`'s calculus that take a function's locals all at once, for the walks of this crate. `enters` allocates them and stores
--- the arguments, so that local i stands at place 2 · i after what was there before; `frees-all` gives them back where each holds a value; `arg`
--- reads a local as a call's operand. They say nothing of the crate.
+-- Steps of `types.Kit`'s calculus that take a function's locals all at once, for the walks of this crate: `enters` allocates them and stores the
+-- arguments, so that local i stands 2 · i entries after what was there before; `leaves` reads the result and frees them where each holds a value; `arg`
+-- reads a local as a call's operand; `again` borrows a `&mut` slice again as it stands. They say nothing of the crate.
 use mathlib.Core.Path.{_≡_, refl, sym, ap, subst}
 use Prim.Native.Nat.{ℕ, zero, suc, _+_}
 use mathlib.Core.List.{List, [], _∷_, _++_}

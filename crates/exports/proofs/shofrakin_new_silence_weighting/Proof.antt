@@ -1,3 +1,4 @@
+-- The plain `new` of a silence table, and its answer as a record: the one equation is that of `new` under `newTableAnswer`.
 use borrow.Author.Needs.{needs}
 use mathlib.Core.Path.{ap, _∙_}
 use Rattle.exports.specs.Answers.{newTableAnswer}

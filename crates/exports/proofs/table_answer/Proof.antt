@@ -1,3 +1,4 @@
+-- The record with the refusal's number beside a silence table, case by case: made or refused (`table-made`, `table-refused` in Answered.antt).
 use borrow.Author.Needs.{needs}
 use Rattle.exports.proofs.Answered.{table-made, table-refused}
 use Rattle.exports.proofs.table_answer.Statement.{statement}
