@@ -34,6 +34,11 @@ Past (suc k) (t ∷ ts) P = (t .0 ≡ false) × Past k ts P
 
 -- ---- a fresh stream
 
+-- the tests of `newRefusal`
+abbrev pub new-tests : IvectorInfo → TableLengths → RoomLengths → List (Bool × ℕ)
+new-tests i t z =
+    (not (sameTables t (i .tables)), 10) ∷ (not (recordSound i), 10) ∷ (not (tablesFit (i .opts) (i .dims) (i .tables)), 8) ∷ (not (roomsFit (i .dims) z), 8) ∷ []
+
 pub record NewTaken (i : IvectorInfo) (z : RoomLengths) : Type 0 where
   pub dims-are : DimRanges (i .dims)
   pub rooms-are : Fitting (i .dims) z
@@ -42,8 +47,7 @@ pub record NewTaken (i : IvectorInfo) (z : RoomLengths) : Type 0 where
 pub new-taken : (i : IvectorInfo) (t : TableLengths) (z : RoomLengths) {r : ℕ} → r ≡ newRefusal i t z → r ≡ 0 → NewTaken i z
 unfolding newRefusal
 new-taken i t z e g =
-    let fits = tablesFit (i .opts) (i .dims) (i .tables) in
-    let h = none-first ((not (sameTables t (i .tables)), 10) ∷ (not (recordSound i), 10) ∷ (not fits, 8) ∷ (not (roomsFit (i .dims) z), 8) ∷ []) tt (sym e ∙ g) in
+    let h = none-first (new-tests i t z) tt (sym e ∙ g) in
     let f = fitting _ _ (not-false _ (h .1 .1 .1 .0)) in
     record {
       dims-are = dim-ranges _ (record-sound i (not-false _ (h .1 .0)) .dims-are);

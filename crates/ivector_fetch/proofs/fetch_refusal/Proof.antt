@@ -36,8 +36,11 @@ none b h =
     refused-none (a .s) (a .tables) (a .lengths) (a .waiting-frames .now) (a .frame) (a .n) h
 
 -- where the function starts, from behind each test
+abbrev begun : tie.After-same-tables → tie.Start
+begun c = c .before .before .before .before .before .before .before
+
 abbrev begun-1 : tie.Else1 → tie.Start
-begun-1 c = c .before .before .before .before .before .before .before .before
+begun-1 c = begun (c .before)
 
 abbrev begun-2 : tie.Else2 → tie.Start
 begun-2 c = begun-1 (c .before .before)
@@ -73,7 +76,7 @@ same-tables-requires : tie.Need-same-tables-requires
 same-tables-requires c κs = search needs
 
 returns : tie.Need-returns
-returns c = at (c .before .before .before .before .before .before .before .before) 0 (ap not (fails (c .before .same-tables .ensures) (c .if1 .taken)))
+returns c = at (begun (c .before)) 0 (ap not (fails (c .before .same-tables .ensures) (c .if1 .taken)))
 
 same-rooms-requires : tie.Need-same-rooms-requires
 same-rooms-requires c κs = search needs

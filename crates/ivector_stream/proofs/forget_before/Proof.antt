@@ -25,7 +25,7 @@ begun c = c .before .before .before .before .before
 
 -- once it is taken
 known : (c : tie.Else1) → Passed (begun (c .before) .args .s) (lent (begun (c .before)))
-known c = plain-passed _ (lent (begun (c .before))) (c .before .plain-refusal .ensures) (c .if1 .left)
+known c = plain-passed _ _ (c .before .plain-refusal .ensures) (c .if1 .left)
 
 -- places: one that comes before another
 abbrev to-if1 : tie.After-smaller → tie.Else1

@@ -72,6 +72,13 @@ loop-from c = c .before .before .before .before .before .before .before .before 
 abbrev turn-from : tie.After-put-answer-arg Inv-loop μ-loop → tie.After-turn Inv-loop μ-loop
 turn-from c = c .before .before .before .before .before .before .before .before .before .before .before .before .before .before .before .before .before .before .before .before .before
 
+-- the test of the loop, from there; and where an answer is written, from the end of a turn
+abbrev test-from : tie.After-put-answer-arg Inv-loop μ-loop → tie.In-loop Inv-loop μ-loop
+test-from c = loop-from (turn-from c) .before
+
+abbrev answer-from : tie.After-slice-known27 Inv-loop μ-loop → tie.After-put-answer-arg Inv-loop μ-loop
+answer-from c = c .before .before .before
+
 -- ---- the list
 
 list-refusal-requires : tie.Need-list-refusal-requires Inv-loop μ-loop
@@ -116,27 +123,27 @@ turn-requires c κs = search needs
 
 mul-put-answer : tie.Need-mul-put-answer Inv-loop μ-loop
 mul-put-answer c =
-    let at-loop-test = loop-from (turn-from c) .before in
+    let at-loop-test = test-from c in
     let at-loop = at-loop-test .before in
     let at-if1 = taken-at (made-from (at-loop .before)) in
     omega (arith, at-loop-test .loop-test .taken, at-loop .loop .inv .0, enough at-if1 .0, begun (at-if1 .before) .good .1 .1 .1 .1 .1 .1 .1 .1 .1 .1 .1 .1 .1 .1 .1 .1 .1 .1 .1 .0)
 
 put-answer-requires : tie.Need-put-answer-requires Inv-loop μ-loop
 put-answer-requires c κs =
-    let at-loop-test = loop-from (turn-from c) .before in
+    let at-loop-test = test-from c in
     let at-loop = at-loop-test .before in
     let long = enough (taken-at (made-from (at-loop .before))) in
     omega (arith, at-loop-test .loop-test .taken, at-loop .loop .inv .0, at-loop .loop .inv .1 .kept .answers-kept, long .1)
 
 add-i : tie.Need-add-i Inv-loop μ-loop
 add-i c =
-    let at-loop-test = loop-from (turn-from (c .before .before .before)) .before in
+    let at-loop-test = test-from (answer-from c) in
     let at-loop = at-loop-test .before in
     let start = begun (taken-at (made-from (at-loop .before)) .before) in
     omega (arith, at-loop-test .loop-test .taken, at-loop .loop .inv .0, start .good .1 .1 .1 .1 .1 .1 .1 .1 .1 .1 .1 .1 .1 .1 .1 .1 .1 .1 .0)
 
 loop-less : tie.Need-loop-less Inv-loop μ-loop
-loop-less c = omega (arith, loop-from (turn-from (c .before .before .before)) .before .loop-test .taken)
+loop-less c = omega (arith, test-from (answer-from c) .loop-test .taken)
 
 loop-again : tie.Need-loop-again Inv-loop μ-loop
 loop-again c =

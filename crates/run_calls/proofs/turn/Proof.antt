@@ -33,6 +33,10 @@ begun c = c .before .before .before .before .before .before .before .before .bef
 abbrev at-ring-call : tie.After-slice-known14 → tie.After-ring-call
 at-ring-call c = c .before .before .before .before .before .before .before .before
 
+-- where its weights are known, from there
+abbrev parts-from : tie.After-ring-call-arg4 → tie.After-sample-part2
+parts-from c = c .before .before .before .before
+
 -- where the part of the outputs ends, from where they are lent
 abbrev at-larger : tie.After-get-frame-arg9 → tie.After-larger
 at-larger c = c .before .before .before .before .before .before .before .before .before
@@ -57,7 +61,7 @@ sample-part-requires-2 : tie.Need-sample-part-requires-2
 sample-part-requires-2 c κs = search needs
 
 ring-call-requires : tie.Need-ring-call-requires
-ring-call-requires c κs = c .before .before .before .before .before .before .before .if1 .taken
+ring-call-requires c κs = parts-from c .before .before .before .if1 .taken
 
 same-length : tie.Need-same-length
 same-length c = at-ring-call c .ring-call .kept .1 .1 .1 .1 .1 .1 .0
@@ -74,7 +78,7 @@ same-length-4 c = at-ring-call c .ring-call .kept .1 .1 .1 .1 .1 .1 .1 .1 .1 .0
 returns : tie.Need-returns
 returns c =
     let called = at-ring-call c in
-    let at-sample-part2 = called .before .before .before .before .before in
+    let at-sample-part2 = parts-from (called .before) in
     let at-frame-part = at-sample-part2 .before in
     let at-sample-part = at-frame-part .before in
     let at-if1 = at-sample-part .before in
