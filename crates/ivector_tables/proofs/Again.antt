@@ -69,10 +69,10 @@ module _ {d : ℕ} {s : List ℕ} {q : ℕ} (o : SigmaAt d s q) where
 
 -- ---- both runs, one Gaussian after the other
 
-abbrev pub noMatrix : Matrix
+abbrev noMatrix : Matrix
 noMatrix = record { rows = 0; cols = 0; nums = [] }
 
-abbrev pub noPacked : Packed
+abbrev noPacked : Packed
 noPacked = record { rows = 0; nums = [] }
 
 -- the M's from p on, and the Σ⁻¹'s from q on, are those from Gaussian i on

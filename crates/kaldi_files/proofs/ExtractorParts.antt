@@ -20,7 +20,7 @@ use Rattle.kaldi_files.specs.declared.Extractor.the-variants as E
 -- ---- parts that have a function of their own
 
 module _ {B : Type 0} {x : Got B} (s : List ℕ) (at : ℕ) where
-  pub past-counted : (k : ℕ → List Matrix → Parser B) → x ≡ after (counted s at) (λ m. k (m .count) (m .list)) s
+  past-counted : (k : ℕ → List Matrix → Parser B) → x ≡ after (counted s at) (λ m. k (m .count) (m .list)) s
       → x ≡ after (dim 1 maxGauss s at) (λ n t p. after (times n (matrix binary64 false maxFeat maxIvector) t p) (k n) t) s
   unfolding counted
   past-counted k e = e ∙ count (dim 1 maxGauss s at)
@@ -35,7 +35,7 @@ module _ {B : Type 0} {x : Got B} (s : List ℕ) (at : ℕ) where
       count (refused r) = refl
       count (read n p) = list n (times n (matrix binary64 false maxFeat maxIvector) s p)
 
-  pub past-closing : (k : Float → Parser B) → x ≡ after (closing s at) k s
+  past-closing : (k : Float → Parser B) → x ≡ after (closing s at) k s
       → x ≡ after (token (text "<IvectorOffset>") s at) (λ _ t p. after (single t p) (λ y u q. after (token (text "</IvectorExtractor>") u q) (λ _. k y) u) t) s
   unfolding closing
   past-closing k e = e ∙ first (token (text "<IvectorOffset>") s at)

@@ -192,7 +192,7 @@ module _ {A : Type 0} (k : ℕ) (test : ℕ → Bool) (r : ℕ) (value : ℕ →
         sized-yes z q t = rw q (simp (bytes-ok 1 s at h, one, eq-eqb _ _ e, bytes-ok k s (at + 1) l, ← is, t))
 
   -- what was read passed the test
-  pub sized-in : {a : A} {z : ℕ} → sized k test r value s at ≡ read a z
+  sized-in : {a : A} {z : ℕ} → sized k test r value s at ≡ read a z
       → (test (littleEndian (take k (drop (at + 1) s))) ≡ true) × (value (littleEndian (take k (drop (at + 1) s))) ≡ a)
   unfolding bytes
   sized-in e =

@@ -116,7 +116,7 @@ numbers-take f (suc n) l =
     rw (p, q, numbers-take f n (drop (byteWidth f) l))
 
 -- number i stands i sizes further
-pub numbers-at : (f : Format) (n : ℕ) (s : List ℕ) (p i : ℕ) → i < n → at (numbers f n (drop p s)) i ≡ ofBits f (littleEndian (take (byteWidth f) (drop (p + byteWidth f * i) s)))
+numbers-at : (f : Format) (n : ℕ) (s : List ℕ) (p i : ℕ) → i < n → at (numbers f n (drop p s)) i ≡ ofBits f (littleEndian (take (byteWidth f) (drop (p + byteWidth f * i) s)))
 numbers-at f zero s p i h = absurd (not-suc-le-zero h)
 numbers-at f (suc n) s p zero h =
     let e : p ≡ p + byteWidth f * 0 = sym (rw mul-zero (add-zero p)) in

@@ -1,5 +1,6 @@
--- What the walks over `KaldiReader` share: a reader is taken apart, which gives what its slice owns; and one is made of a slice, and moved to a place.
--- Of `new` and of `moved` there is what each call asks, and what is known of its result, by their contracts alone. A goal that ends in two `ensures` clauses is shown in one step.
+-- What the walks over `KaldiReader` share: a reader is taken apart, which gives what its slice owns; and one is made of a slice, and moved to a
+-- place. Of `new` and of `moved` there is what each call asks, and what is known of its result, by their contracts alone. A goal that ends in two
+-- `ensures` clauses is shown in one step.
 use mathlib.Core.Path.{_≡_, refl}
 use Prim.Native.Nat.{ℕ, _<_, _^_}
 use mathlib.Core.List.{List, [], _∷_}

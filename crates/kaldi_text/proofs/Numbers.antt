@@ -119,7 +119,7 @@ module _ (minus : Bool) (m u d : ℕ) (s : List ℕ) (next : ℕ) where
       go (no k) = sym (finished-big (omega arith))
 
   -- the bytes play no part
-  pub finished-any : (t : List ℕ) → toNearest minus m u d s next ≡ toNearest minus m u d t next
+  finished-any : (t : List ℕ) → toNearest minus m u d s next ≡ toNearest minus m u d t next
   unfolding toNearest
   finished-any t = by-test (ltb m (2 ^ 53) && (leb u (d + 22) && leb d (u + 22))) (λ e. rw e) (λ e. rw e)
 

@@ -15,7 +15,7 @@ use Rattle.loops.proofs.Choose.{by-test}
 use Rattle.loops.proofs.Fill.{fill-list}
 use Rattle.floats.specs.Operators.{zero₆₄, at}
 use Rattle.definition.specs.Reader.{Got, _>>_, after, give, need, run, here, refused, read}
-use Rattle.definition.specs.Text.{number, space, stop, skip, row, line, byte, bracket, ending, rows, last}
+use Rattle.definition.specs.Text.{number, space, stop, skip, row, line, byte, bracket, ending, cmvnRows, last}
 use Rattle.kaldi_io.specs.Answers.{placeOf}
 use Rattle.kaldi_io.proofs.Chain.{goes, stops, met, unmet, not-read, same-value, same-place, same-refusal}
 use Rattle.kaldi_text.specs.Answers.{cells, RowIn}
@@ -148,7 +148,7 @@ module _ {s : List ℕ} {at n : ℕ} {y : Float} {p q : ℕ} (o : Turning s at n
 -- ---- what it tells of the row
 
 module _ (y : Float) where
-  pub outline-refused : (g : Got (List Float)) {n : ℕ} → outline 0 y g ≡ refused n → g ≡ refused n
+  outline-refused : (g : Got (List Float)) {n : ℕ} → outline 0 y g ≡ refused n → g ≡ refused n
   outline-refused (refused m) e = ap (λ (k : ℕ). refused k) (same-refusal e)
   outline-refused (read xs next) e = absurd (not-read (sym e))
 
@@ -173,7 +173,7 @@ abbrev pub equalRows : List Float → List Float → Bool
 equalRows a b = leb 2 (length a) && (eqb (length a) (length b) && lt zero₆₄ (last zero₆₄ a))
 
 module _ (s : List ℕ) (a : ℕ) {n : ℕ} {l : Float} {b : ℕ} (first : outline 0 zero₆₄ (line s a) ≡ read (record { count = n; final = l }) b) where
-  pub row-stands : line s a ≡ read (cells (line s a)) b
+  row-stands : line s a ≡ read (cells (line s a)) b
   row-stands = known zero₆₄ (line s a) first .0
 
   pub row-is : 2 ≤ n → n ≤ 65 → a ≤ length s → length s ≤ 65536 → RowIn s n a
@@ -198,39 +198,39 @@ module _ (s : List ℕ) (a : ℕ) {n : ℕ} {l : Float} {b : ℕ} (first : outli
 -- ---- each way out of the text, by what the items before it said
 
 module _ (s : List ℕ) where
-  pub no-bracket : {r : ℕ} → bracket 91 s 0 ≡ refused r → refused r ≡ rows s 0
-  unfolding rows
+  pub no-bracket : {r : ℕ} → bracket 91 s 0 ≡ refused r → refused r ≡ cmvnRows s 0
+  unfolding cmvnRows
   no-bracket e = stops _ s e refl
 
   module _ {a : ℕ} (o : bracket 91 s 0 ≡ read tt a) where
-    pub no-first : {r : ℕ} → outline 0 zero₆₄ (line s a) ≡ refused r → refused r ≡ rows s 0
-    unfolding rows
+    pub no-first : {r : ℕ} → outline 0 zero₆₄ (line s a) ≡ refused r → refused r ≡ cmvnRows s 0
+    unfolding cmvnRows
     no-first e = goes _ s o (stops _ s (outline-refused zero₆₄ (line s a) e) refl)
 
     module _ {n : ℕ} {l : Float} {b : ℕ} (f : outline 0 zero₆₄ (line s a) ≡ read (record { count = n; final = l }) b) where
-      pub no-second : {r : ℕ} → outline 0 zero₆₄ (line s b) ≡ refused r → refused r ≡ rows s 0
-      unfolding rows
+      pub no-second : {r : ℕ} → outline 0 zero₆₄ (line s b) ≡ refused r → refused r ≡ cmvnRows s 0
+      unfolding cmvnRows
       no-second e = goes _ s o (goes _ s (row-stands s a f) (stops _ s (outline-refused zero₆₄ (line s b) e) refl))
 
       module _ {m : ℕ} {w : Float} {d : ℕ} (g : outline 0 zero₆₄ (line s b) ≡ read (record { count = m; final = w }) d) where
         past-both : {x : Got (List Float)}
             → x ≡ after (bracket 93 s d) (λ _ t q. after (ending t q) (λ _. need (equalRows (cells (line s a)) (cells (line s b))) 7 >> give (cells (line s a))) t) s
-            → x ≡ rows s 0
-        unfolding rows
+            → x ≡ cmvnRows s 0
+        unfolding cmvnRows
         past-both h = goes _ s o (goes _ s (row-stands s a f) (goes _ s (row-stands s b g) h))
 
-        pub no-closing : {r : ℕ} → bracket 93 s d ≡ refused r → refused r ≡ rows s 0
+        pub no-closing : {r : ℕ} → bracket 93 s d ≡ refused r → refused r ≡ cmvnRows s 0
         no-closing e = past-both (stops _ s e refl)
 
         module _ {q : ℕ} (h : bracket 93 s d ≡ read tt q) where
-          pub no-ending : {r : ℕ} → ending s q ≡ refused r → refused r ≡ rows s 0
+          pub no-ending : {r : ℕ} → ending s q ≡ refused r → refused r ≡ cmvnRows s 0
           no-ending e = past-both (goes _ s h (stops _ s e refl))
 
           module _ {z : ℕ} (i : ending s q ≡ read tt z) where
-            pub rows-uneven : equalRows (cells (line s a)) (cells (line s b)) ≡ false → refused 7 ≡ rows s 0
+            pub rows-uneven : equalRows (cells (line s a)) (cells (line s b)) ≡ false → refused 7 ≡ cmvnRows s 0
             rows-uneven t = past-both (goes _ s h (goes _ s i (stops _ s (sym (unmet 7 s z t)) refl)))
 
-            pub rows-even : equalRows (cells (line s a)) (cells (line s b)) ≡ true → read (cells (line s a)) z ≡ rows s 0
+            pub rows-even : equalRows (cells (line s a)) (cells (line s b)) ≡ true → read (cells (line s a)) z ≡ cmvnRows s 0
             rows-even t = past-both (goes _ s h (goes _ s i (goes _ s (sym (met 7 s z t)) refl)))
 
 -- ---- the row read again

@@ -1,5 +1,5 @@
 -- Kinds of bytes against the definition's tests, and the byte at a place.
-use mathlib.Core.Path.{_≡_, refl, sym, _∙_, subst}
+use mathlib.Core.Path.{_≡_, refl, sym, ap, _∙_, subst}
 use mathlib.Core.Bool.{Bool, true, false, _||_, true≢false}
 use mathlib.Core.List.{List}
 use mathlib.Core.Logic.{_⊎_, ⊎-elim}
@@ -124,13 +124,24 @@ tag-is K.Exponent = refl
 tag-is K.Blank = refl
 tag-is K.Other = refl
 
-pub other-tag : (ks : List ℕ) (j : ℕ) (k : Kind) → (OneOf ks j → ⊥) → OneOf ks (tagOf Declared.the-type k) → eqb (tag k) j ≡ false
+other-tag : (ks : List ℕ) (j : ℕ) (k : Kind) → (OneOf ks j → ⊥) → OneOf ks (tagOf Declared.the-type k) → eqb (tag k) j ≡ false
 other-tag ks j k out h = ne-eqb (tag k) j (λ e. out (subst (OneOf ks) (tag-is k ∙ e) h))
 
-pub not-minus : (k : Kind) → eqb (tag k) 1 ≡ false → isMinus k ≡ false
+-- so the definition's test j, which came out as b, holds in its own arm, and in no other
+pub is-kind : (j : ℕ) {k l : Kind} {b : Bool} → eqb (tag k) j ≡ b → k ≡ l → b ≡ eqb (tag l) j
+is-kind j e h = sym e ∙ ap (λ (k : Kind). eqb (tag k) j) h
+
+pub not-kind : (ks : List ℕ) (j : ℕ) (k : Kind) {b : Bool} → eqb (tag k) j ≡ b → (OneOf ks j → ⊥) → OneOf ks (tagOf Declared.the-type k) → b ≡ false
+not-kind ks j k e out h = sym e ∙ other-tag ks j k out h
+
+not-minus : (k : Kind) → eqb (tag k) 1 ≡ false → isMinus k ≡ false
 not-minus K.Digit e = refl
 not-minus (K.Sign m) e = absurd (true≢false e)
 not-minus K.Point e = refl
 not-minus K.Exponent e = refl
 not-minus K.Blank e = refl
 not-minus K.Other e = refl
+
+-- and a byte that is no sign is no minus
+pub no-minus : (ks : List ℕ) (k : Kind) {b : Bool} → isMinus k ≡ b → (OneOf ks 1 → ⊥) → OneOf ks (tagOf Declared.the-type k) → false ≡ b
+no-minus ks k e out h = sym (not-minus k (other-tag ks 1 k out h)) ∙ e

@@ -5,6 +5,16 @@ use Rattle.definition.proofs.Ranges.{option-ranges}
 use Rattle.ivector_info.proofs.fill_lda.Statement.{statement}
 use Rattle.ivector_info.proofs.fill_lda.Tie as tie
 
+-- the start, from where the first fill is called; and back there from the second and the third
+abbrev start-of : tie.After-struct-known3 → tie.Start
+start-of c = c .before .before .before .before .before .before .before .before
+
+abbrev first-of : tie.After-fill-offset-arg → tie.After-struct-known3
+first-of c = c .before .before .before .before .before
+
+abbrev second-of : tie.After-struct-known4 → tie.After-fill-offset-arg
+second-of c = c .before .before .before .before
+
 add-spliced : tie.Need-add-spliced
 add-spliced c =
     let start = c .before .before .before .before .before .before in
@@ -18,29 +28,29 @@ add-spliced-2 c =
 
 mul-spliced : tie.Need-mul-spliced
 mul-spliced c =
-    let start = c .before .before .before .before .before .before .before .before in
+    let start = start-of c in
     omega (arith, start .pre .spliced-in, start .pre .lda-in .cols-high)
 
 fill-transposed-requires : tie.Need-fill-transposed-requires
 fill-transposed-requires c κs =
-    let start = c .before .before .before .before .before .before .before .before .before in
+    let start = start-of (c .before) in
     let l = start .pre .lda-in in
     (l .ready, (omega (arith, l .rows-high), l .cols-high, start .pre .spliced-in, start .pre .turned-fits))
 
 fill-offset-requires : tie.Need-fill-offset-requires
 fill-offset-requires c κs =
-    let start = c .before .before .before .before .before .before .before .before .before .before .before .before .before in
+    let start = start-of (first-of c) in
     let l = start .pre .lda-in in
     (l .ready, (omega (arith, l .rows-high), l .cols-high, start .pre .offset-fits))
 
 add-fill-global : tie.Need-add-fill-global
 add-fill-global c =
-    let start = c .before .before .before .before .before .before .before .before .before .before .before .before .before .before .before .before .before in
+    let start = start-of (first-of (second-of c)) in
     omega (arith, start .pre .row-in .high)
 
 fill-global-requires : tie.Need-fill-global-requires
 fill-global-requires c κs =
-    let start = c .before .before .before .before .before .before .before .before .before .before .before .before .before .before .before .before .before .before in
+    let start = start-of (first-of (second-of (c .before))) in
     (start .pre .row-in, start .pre .row-fits)
 
 returns : tie.Need-returns

@@ -20,12 +20,22 @@ tables c =
     let a = c .args in
     tablesFrom (a .gconsts .now) (a .means-invvars-t .now) (a .inv-vars-t .now) (a .sigma-inv-m .now) (a .u .now) (a .lda-t .now) (a .lda-offset .now) (a .global-mean-stats .now)
 
+-- the start, from where the files are judged; and back there from what the second and the third fill are lent
+abbrev start-of : tie.After-dims → tie.Start
+start-of c = c .before .before .before .before .before .before .before .before .before .before .before .before .before .before .before .before
+
+abbrev gmm-lent : tie.After-fill-gaussians-arg3 → tie.After-fill-gmm-arg3
+gmm-lent c = c .before .before .before .before .before .before .before .before .before .before
+
+abbrev gaussians-lent : tie.After-fill-lda-arg3 → tie.After-fill-gaussians-arg3
+gaussians-lent c = c .before .before .before .before .before .before .before .before .before .before
+
 judged : (c : tie.After-dims) →
-    let start = c .before .before .before .before .before .before .before .before .before .before .before .before .before .before .before .before in
+    let start = start-of c in
     JudgedIn (start .args .opts) (tableLengthsOf (tables start)) (length (start .args .scratch .now)) (files start) (c .dims .given .0 .0) (c .dims .given .0 .1 .1 .0)
 judged c =
     let at-judge = c .before .before in
-    let start = at-judge .before .before .before .before .before .before .before .before .before .before .before .before .before .before in
+    let start = start-of c in
     subst (judgedIn (start .args .opts) (tableLengthsOf (tables start)) (length (start .args .scratch .now)) (files start)) (c .dims .given .1) (at-judge .judge .ensures .1)
 
 fill-gmm-requires : tie.Need-fill-gmm-requires
@@ -35,13 +45,13 @@ fill-gmm-requires c κs =
 
 fill-gaussians-requires : tie.Need-fill-gaussians-requires
 fill-gaussians-requires c κs =
-    let at-dims = c .before .before .before .before .before .before .before .before .before .before .before .before .before .before in
+    let at-dims = gmm-lent c .before .before .before .before in
     let j = judged at-dims in
     (j .files-in .extractor-in, (sims-fit j, tables-fitting _ _ _ (j .tables-fit) .u-fits, j .scratch-fits))
 
 fill-lda-requires : tie.Need-fill-lda-requires
 fill-lda-requires c κs =
-    let at-dims = c .before .before .before .before .before .before .before .before .before .before .before .before .before .before .before .before .before .before .before .before .before .before .before .before in
+    let at-dims = gmm-lent (gaussians-lent c) .before .before .before .before in
     lda-fits (judged at-dims)
 
 returns : tie.Need-returns
@@ -59,7 +69,7 @@ returns-2 c =
     let at-fill-gmm = at-fill-gaussians .before .before .before .before .before .before .before .before .before .before in
     let at-dims = at-fill-gmm .before .before .before .before .before in
     let at-judge = at-dims .before .before in
-    let start = at-judge .before .before .before .before .before .before .before .before .before .before .before .before .before .before in
+    let start = start-of at-dims in
     let o = start .args .opts in
     let z = tableLengthsOf (tables start) in
     let prior = at-dims .dims .given .0 .1 .0 in

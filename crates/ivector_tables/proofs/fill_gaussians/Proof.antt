@@ -13,7 +13,7 @@ use Rattle.loops.proofs.Flat.{rows-none, rows-turn, rows-end, length-flat}
 use Rattle.loops.proofs.Cells.{row-in}
 use Rattle.loops.proofs.Parts.{length-lent}
 use Rattle.floats.specs.Operators.{at}
-use Rattle.definition.specs.Model.{packed, quadraticTerm}
+use Rattle.definition.specs.Model.{quadraticTerm}
 use Rattle.ivector_tables.specs.Steps.{mAt, sigmaInvMAt}
 use Rattle.ivector_tables.proofs.Gmm.{few}
 use Rattle.definition.proofs.Lengths.{length-sigma, length-quadratic}

@@ -2,7 +2,6 @@
 use mathlib.Core.Path.{sym, _∙_, subst}
 use Prim.Native.Nat.{ℕ}
 use lib.Seq.{length-take-le}
-use Rattle.loops.specs.Lists.{over}
 use Rattle.loops.proofs.Fill.{lent-over, lent-length}
 use Rattle.kaldi_text.specs.Answers.{RowIn}
 use Rattle.ivector_tables.proofs.fill_global.Statement.{statement}

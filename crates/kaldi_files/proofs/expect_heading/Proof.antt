@@ -9,7 +9,6 @@ use Rattle.definition.specs.Reader.{Got, after, text}
 use Rattle.definition.specs.Kaldi.{binary, token, rowless, skipped, extractorHeading}
 use Rattle.kaldi_io.specs.Answers.{nextOf}
 use Rattle.kaldi_io.proofs.Chain.{both-step}
-use Rattle.kaldi_files.specs.Steps.{skippedW}
 use Rattle.kaldi_files.proofs.expect_heading.Statement.{statement}
 use Rattle.kaldi_files.proofs.expect_heading.Tie as tie
 

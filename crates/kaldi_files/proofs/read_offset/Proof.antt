@@ -1,8 +1,6 @@
 -- `read_offset` meets its contract: a token, a number, the last token, one parser after the other as in `closing` (specs/Steps.antt). Each
 -- way out is a chain of `step` (Chain.antt of kaldi_io).
 use mathlib.Core.Path.{_≡_, refl}
-use mathlib.Core.List.{List}
-use Prim.Native.Nat.{ℕ}
 use borrow.Author.Needs.{needs}
 use lib.Ieee.{Float}
 use Rattle.definition.specs.Reader.{Got, after, give, text}

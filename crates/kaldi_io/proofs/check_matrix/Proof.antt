@@ -5,10 +5,9 @@ use mathlib.Core.List.{List}
 use Prim.Native.Nat.{ℕ, _*_, _≤_}
 use native.Mathlib.Omega.{arith}
 use borrow.Author.Needs.{needs}
-use lib.Ieee.{Float, Format}
+use lib.Ieee.{Format}
 use Rattle.definition.specs.Reader.{Got, after, floats, give}
 use Rattle.definition.specs.Kaldi.{Matrix, matrixTag, dim, matrix}
-use Rattle.kaldi_io.specs.declared.Next.{Next}
 use Rattle.kaldi_io.specs.Answers.{width, dimOf, tagged, floatsOf, floatsIn}
 use Rattle.kaldi_io.proofs.Chain.{told, step, tag-step}
 use Rattle.kaldi_io.proofs.Bytes.{dim-in, tagged-in, product-fits}

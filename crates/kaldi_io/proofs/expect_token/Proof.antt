@@ -1,5 +1,7 @@
--- `kaldi_io::expect_token` meets its contract: a walk of its MIR, by hand. A `KaldiReader` is made, moved to the place, and expects the token there. All that the proof knows of the three calls is that each meets its contract.
--- The struct that a call returns is held in a local, where MIR erases the lifetime of its type, and is passed on as it is; what the two slices own is had twice, and one copy is kept for the exit. The second lifetime's token waits for the last call.
+-- `kaldi_io::expect_token` meets its contract: a walk of its MIR, by hand. A `KaldiReader` is made, moved to the place, and expects the token there.
+-- All that the proof knows of the three calls is that each meets its contract. The struct that a call returns is held in a local, where MIR erases
+-- the lifetime of its type, and is passed on as it is; what the two slices own is had twice, and one copy is kept for the exit. The second lifetime's
+-- token waits for the last call.
 use mathlib.Core.Path.{_≡_, refl, ap, _∙_}
 use Prim.Native.Nat.{ℕ, _<_, _^_}
 use mathlib.Core.List.{List, [], _∷_}

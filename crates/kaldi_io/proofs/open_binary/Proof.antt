@@ -1,5 +1,7 @@
--- `kaldi_io::open_binary` meets its contract: a walk of its MIR, by hand. A `KaldiReader` that one call returns is held in a local and passed on. All that the proof knows of `new` and of `expect_binary` is that each meets its contract.
--- The machine value that `new` returns is stored and passed on as it is. In a local of a body MIR erases the lifetime of the struct's type, so the value is shown to have the type at `erased`: what the struct owns does not say the lifetime's name.
+-- `kaldi_io::open_binary` meets its contract: a walk of its MIR, by hand. A `KaldiReader` that one call returns is held in a local and passed on. All
+-- that the proof knows of `new` and of `expect_binary` is that each meets its contract. The machine value that `new` returns is stored and passed on
+-- as it is. In a local of a body MIR erases the lifetime of the struct's type, so the value is shown to have the type at `erased`: what the struct
+-- owns does not say the lifetime's name.
 use mathlib.Core.Path.{_≡_, refl, ap, _∙_}
 use Prim.Native.Nat.{ℕ}
 use mathlib.Core.List.{List, [], _∷_}

@@ -1,5 +1,6 @@
--- `kaldi_io::read_token` meets its contract: a walk of its MIR, by hand. A `KaldiReader` is made, moved to the place, and asked for its word. All that the proof knows of the three calls is that each meets its contract.
--- The struct that a call returns is held in a local, where MIR erases the lifetime of its type, and is passed on as it is; what the slice owns is had twice, and one copy is kept for the exit.
+-- `kaldi_io::read_token` meets its contract: a walk of its MIR, by hand. A `KaldiReader` is made, moved to the place, and asked for its word. All
+-- that the proof knows of the three calls is that each meets its contract. The struct that a call returns is held in a local, where MIR erases the
+-- lifetime of its type, and is passed on as it is; what the slice owns is had twice, and one copy is kept for the exit.
 use mathlib.Core.Path.{_≡_, refl, _∙_, subst}
 use Prim.Native.Nat.{ℕ, _<_, _^_}
 use mathlib.Core.List.{List, [], _∷_}

@@ -1,7 +1,7 @@
 -- `check_rows` meets its contract: each item says what the text holds at its place, and each way out is a case of the definition's `rows` by
 -- what the items before it said (Rows.antt, which also has what a check keeps of a row, and the test of both rows by it).
 use mathlib.Core.Path.{_≡_, subst}
-use mathlib.Core.Bool.{Bool, true, false}
+use mathlib.Core.Bool.{Bool, false}
 use mathlib.Core.List.{List}
 use Prim.Native.Nat.{ℕ, _≤_}
 use borrow.Author.Needs.{needs}

@@ -1,64 +1,71 @@
 -- `read_exponent` meets its contract: no exponent, one without digits, one with digits are the three cases of the definition's `exponent`,
 -- the size at most 100,000 (`exponent-none`, `power-none`, `power-some` in Numbers.antt).
-use mathlib.Core.Path.{sym, ap, _∙_}
-use mathlib.Core.List.{[], _∷_}
-use Prim.Native.Nat.{_+_}
+use mathlib.Core.Path.{_≡_, ap, _∙_}
+use mathlib.Core.Bool.{true, _||_}
+use mathlib.Core.List.{List, [], _∷_}
+use Prim.Native.Nat.{ℕ, _+_, _≤_, _<_}
 use native.Mathlib.Omega.{arith}
 use types.Run.{miss}
 use borrow.Author.Needs.{needs}
 use lib.Dec.{eqb}
+use lib.ListN.{length}
 use Rattle.definition.specs.Options.{within}
-use Rattle.kaldi_text.specs.Steps.{tag, capped}
-use Rattle.kaldi_text.proofs.Sorting.{here-inside, other-tag}
+use Rattle.definition.specs.Reader.{here}
+use Rattle.kaldi_text.specs.Steps.{capped}
+use Rattle.kaldi_text.proofs.Sorting.{here-inside, is-kind, not-kind}
 use Rattle.kaldi_text.proofs.Numbers.{run-within, exponent-some, exponent-none, power-none, power-some}
-use Rattle.kaldi_text.specs.declared.Kind.{Kind}
 use Rattle.kaldi_text.proofs.read_exponent.Statement.{statement}
 use Rattle.kaldi_text.proofs.read_exponent.Tie as tie
 
+-- an `e` stands there, inside the bytes
+abbrev start-of : tie.After-enum-told → tie.Start
+start-of c = c .before .before .before .before
+
+there : (c : tie.After-enum-told) → here (λ b. eqb b 69 || eqb b 101) (start-of c .args .s .now) (start-of c .args .at) ≡ true
+there c = is-kind 3 (c .before .before .kind-at .ensures .exponent) (c .enum-told .given .1)
+
+inside : (c : tie.After-enum-told) → start-of c .args .at < length (start-of c .args .s .now)
+inside c = here-inside _ _ _ (there c)
+
+-- the digits behind the sign end inside them too
+digits-inside : (c : tie.After-skip-digits) → c .skip-digits .result ≤ length (start-of (c .before .before) .args .s .now)
+digits-inside c =
+    let sign = c .before .read-sign in
+    omega (arith, run-within (within 48 57) (start-of (c .before .before) .args .s .now) (sign .result .next) (sign .ensures .0))
+
 add-read-sign : tie.Need-add-read-sign
-add-read-sign c =
-    let start = c .before .before .before .before in
-    let a = start .args in
-    omega (arith, here-inside _ (a .s .now) (a .at) (sym (c .before .before .kind-at .ensures .exponent) ∙ ap (λ (k : Kind). eqb (tag k) 3) (c .enum-told .given .1)))
+add-read-sign c = omega (arith, inside c)
 
 read-sign-requires : tie.Need-read-sign-requires
-read-sign-requires c κs =
-    let start = c .before .before .before .before in
-    let a = start .args in
-    omega (arith, here-inside _ (a .s .now) (a .at) (sym (c .before .before .kind-at .ensures .exponent) ∙ ap (λ (k : Kind). eqb (tag k) 3) (c .enum-told .given .1)))
+read-sign-requires c κs = omega (arith, inside c)
 
 returns : tie.Need-returns
 returns c =
-    let at-kind-at = c .before .before .before .before .before in
-    let start = at-kind-at .before .before in
-    let a = start .args in
-    let read-sign = c .before .before .read-sign in
-    let kind-at = at-kind-at .kind-at in
-    let enum-told = c .before .before .before .enum-told in
-    (ap capped (power-none (a .s .now) (a .at + 1) (read-sign .ensures .1) (c .before .skip-digits .ensures) (omega (arith, run-within (within 48 57) (a .s .now) (read-sign .result .next) (read-sign .ensures .0))) (c .if1 .taken) ∙ exponent-some _ _ (sym (kind-at .ensures .exponent) ∙ ap (λ (k : Kind). eqb (tag k) 3) (enum-told .given .1))), tt)
+    let at = c .before in
+    let sign = at .before in
+    let e = sign .before in
+    let a = start-of e .args in
+    (ap capped (power-none (a .s .now) (a .at + 1) (sign .read-sign .ensures .1) (at .skip-digits .ensures) (digits-inside at) (c .if1 .taken) ∙ exponent-some _ _ (there e)), tt)
 
 decimal-of-requires : tie.Need-decimal-of-requires
-decimal-of-requires c κs =
-    let start = c .before .before .before .before .before .before .before in
-    let a = start .args in
-    let read-sign = c .before .before .read-sign in
-    ((omega (arith, run-within (within 48 57) (a .s .now) (read-sign .result .next) (read-sign .ensures .0))), omega arith)
+decimal-of-requires c κs = (digits-inside (c .before), omega arith)
 
 returns-2 : tie.Need-returns-2
 returns-2 c =
-    let at-enum-told = c .before .before .before .before in
-    let at-kind-at = at-enum-told .before .before in
-    let start = at-kind-at .before .before in
-    let a = start .args in
-    let read-sign = c .before .before .before .read-sign in
-    let kind-at = at-kind-at .kind-at in
-    let enum-told = at-enum-told .enum-told in
-    (power-some (a .s .now) (a .at + 1) (read-sign .ensures .1) (c .before .before .skip-digits .ensures) (omega (arith, run-within (within 48 57) (a .s .now) (read-sign .result .next) (read-sign .ensures .0))) (c .before .if1 .left) (c .decimal-of .ensures) ∙ ap capped (exponent-some _ _ (sym (kind-at .ensures .exponent) ∙ ap (λ (k : Kind). eqb (tag k) 3) (enum-told .given .1))), omega arith)
+    let at = c .before .before in
+    let sign = at .before in
+    let e = sign .before in
+    let a = start-of e .args in (
+      power-some (a .s .now) (a .at + 1) (sign .read-sign .ensures .1) (at .skip-digits .ensures) (digits-inside at) (c .before .if1 .left) (c .decimal-of .ensures)
+          ∙ ap capped (exponent-some _ _ (there e)),
+      omega arith,
+    )
 
 returns-3 : tie.Need-returns-3
 returns-3 c =
     let kind-at = c .before .kind-at in
-    (ap capped (exponent-none _ _ (sym (kind-at .ensures .exponent) ∙ other-tag (0 ∷ 1 ∷ 2 ∷ 4 ∷ 5 ∷ []) 3 (kind-at .result) (miss (0 ∷ 1 ∷ 2 ∷ 4 ∷ 5 ∷ []) 3 tt) (c .match .keys2))), omega arith)
+    let others : List ℕ = 0 ∷ 1 ∷ 2 ∷ 4 ∷ 5 ∷ [] in
+    (ap capped (exponent-none _ _ (not-kind others 3 (kind-at .result) (kind-at .ensures .exponent) (miss others 3 tt) (c .match .keys2))), omega arith)
 
 pub read-exponent-spec : {M : Type 1} → statement M
 read-exponent-spec =

@@ -1,5 +1,6 @@
--- `kaldi_io::KaldiReader::expect_binary` meets its contract: a walk of its MIR, by hand. The struct is taken apart, and `expect_binary` is called on the slice and the number. All that the proof knows of `expect_binary` is that it meets its contract.
--- What the struct owns gives what src owns, which goes to the callee beside the lifetime's token, which comes back; the struct's own is kept whole for the exit.
+-- `kaldi_io::KaldiReader::expect_binary` meets its contract: a walk of its MIR, by hand. The struct is taken apart, and `expect_binary` is called on
+-- the slice and the number. All that the proof knows of `expect_binary` is that it meets its contract. What the struct owns gives what src owns,
+-- which goes to the callee beside the lifetime's token, which comes back; the struct's own is kept whole for the exit.
 use mathlib.Core.Path.{_≡_, refl}
 use Prim.Native.Nat.{_<_, _^_}
 use mathlib.Core.List.{[], _∷_}

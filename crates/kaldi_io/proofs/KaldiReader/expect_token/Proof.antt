@@ -1,5 +1,7 @@
--- `kaldi_io::KaldiReader::expect_token` meets its contract: a walk of its MIR, by hand. The struct is taken apart, and `token_at` is called on the slice, the number and the bytes wanted. All that the proof knows of `token_at` is that it meets its contract.
--- What the struct owns gives what src owns, and a slice is Copy: that and what the slice wanted owns go to the callee, beside the two lifetimes' tokens, which come back; what both parameters own is kept for the exit.
+-- `kaldi_io::KaldiReader::expect_token` meets its contract: a walk of its MIR, by hand. The struct is taken apart, and `token_at` is called on the
+-- slice, the number and the bytes wanted. All that the proof knows of `token_at` is that it meets its contract. What the struct owns gives what src
+-- owns, and a slice is Copy: that and what the slice wanted owns go to the callee, beside the two lifetimes' tokens, which come back; what both
+-- parameters own is kept for the exit.
 use mathlib.Core.Path.{_≡_, refl}
 use Prim.Native.Nat.{ℕ, _<_, _^_}
 use mathlib.Core.List.{List, [], _∷_}
