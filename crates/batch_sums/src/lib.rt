@@ -141,7 +141,8 @@ fn acc_weighed(
     requires { ⌜ (length (now ll) ≡ «num_gauss») × (length (now b) ≡ «num_gauss») × («num_gselect» ≤ length (now chosen)) × («num_gselect» ≤ length (now posts)) × Slots «num_gauss» d m (now seen) (now tot) (now sum) ⌝ }
     ensures { λ r. ⌜ Slots «num_gauss» d r (now (seen .exit)) (now (tot .exit)) (now (sum .exit))
         × ((es : List Entry) → Sums d es m (now (seen .entry)) (now (tot .entry)) (now (sum .entry))
-        → Sums d (es ++ map (scaledEntry scale (now (raw .entry))) (selectPosteriors (loglikes «num_gauss» d (now (gconsts .entry)) (now («means_invvars_t» .entry)) (now («inv_vars_t» .entry)) (now (normalized .entry))) «num_gselect» floor)) r (now (seen .exit)) (now (tot .exit)) (now (sum .exit))) ⌝ }
+        → Sums d (es ++ map (scaledEntry scale (now (raw .entry)))
+        (selectPosteriors (loglikes «num_gauss» d (now (gconsts .entry)) (now («means_invvars_t» .entry)) (now («inv_vars_t» .entry)) (now (normalized .entry))) «num_gselect» floor)) r (now (seen .exit)) (now (tot .exit)) (now (sum .exit))) ⌝ }
 {
     diag_gmm::loglikes(
         num_gauss,
@@ -169,105 +170,8 @@ fn acc_weighed(
     )
 }
 
-// A frame that is weighed, in rooms for as many Gaussians as there can be.
-fn acc_many(
-    num_gselect: usize,
-    floor: f32,
-    scale: f32,
-    num_gauss: usize,
-    d: usize,
-    gconsts: &[f32],
-    means_invvars_t: &[f32],
-    inv_vars_t: &[f32],
-    normalized: &[f32],
-    raw: &[f32],
-    m: usize,
-    seen: &mut [usize],
-    tot: &mut [f64],
-    sum: &mut [f64],
-) -> usize
-    requires { ⌜ («num_gauss» * d ≤ length (now «means_invvars_t»)) × («num_gauss» * d ≤ length (now «inv_vars_t»)) × («num_gauss» ≤ length (now gconsts)) × (d ≤ length (now normalized)) × (d ≤ length (now raw)) ⌝ }
-    requires { ⌜ («num_gselect» ≤ 32) × («num_gauss» ≤ 1024) × Slots «num_gauss» d m (now seen) (now tot) (now sum) ⌝ }
-    ensures { λ r. ⌜ Slots «num_gauss» d r (now (seen .exit)) (now (tot .exit)) (now (sum .exit))
-        × ((es : List Entry) → Sums d es m (now (seen .entry)) (now (tot .entry)) (now (sum .entry))
-        → Sums d (es ++ map (scaledEntry scale (now (raw .entry))) (selectPosteriors (loglikes «num_gauss» d (now (gconsts .entry)) (now («means_invvars_t» .entry)) (now («inv_vars_t» .entry)) (now (normalized .entry))) «num_gselect» floor)) r (now (seen .exit)) (now (tot .exit)) (now (sum .exit))) ⌝ }
-{
-    let mut ll = [0.0f32; 1024];
-    let mut b = [0.0f32; 1024];
-    let mut chosen = [0usize; 32];
-    let mut posts = [0.0f32; 32];
-    acc_weighed(
-        num_gselect,
-        floor,
-        scale,
-        num_gauss,
-        d,
-        gconsts,
-        means_invvars_t,
-        inv_vars_t,
-        normalized,
-        raw,
-        &mut ll[..num_gauss],
-        &mut b[..num_gauss],
-        &mut chosen,
-        &mut posts,
-        m,
-        seen,
-        tot,
-        sum,
-    )
-}
-
-// The same in rooms for 64 Gaussians: with few, clearing the larger rooms would cost more than the work.
-fn acc_few(
-    num_gselect: usize,
-    floor: f32,
-    scale: f32,
-    num_gauss: usize,
-    d: usize,
-    gconsts: &[f32],
-    means_invvars_t: &[f32],
-    inv_vars_t: &[f32],
-    normalized: &[f32],
-    raw: &[f32],
-    m: usize,
-    seen: &mut [usize],
-    tot: &mut [f64],
-    sum: &mut [f64],
-) -> usize
-    requires { ⌜ («num_gauss» * d ≤ length (now «means_invvars_t»)) × («num_gauss» * d ≤ length (now «inv_vars_t»)) × («num_gauss» ≤ length (now gconsts)) × (d ≤ length (now normalized)) × (d ≤ length (now raw)) ⌝ }
-    requires { ⌜ («num_gselect» ≤ 32) × («num_gauss» ≤ 64) × Slots «num_gauss» d m (now seen) (now tot) (now sum) ⌝ }
-    ensures { λ r. ⌜ Slots «num_gauss» d r (now (seen .exit)) (now (tot .exit)) (now (sum .exit))
-        × ((es : List Entry) → Sums d es m (now (seen .entry)) (now (tot .entry)) (now (sum .entry))
-        → Sums d (es ++ map (scaledEntry scale (now (raw .entry))) (selectPosteriors (loglikes «num_gauss» d (now (gconsts .entry)) (now («means_invvars_t» .entry)) (now («inv_vars_t» .entry)) (now (normalized .entry))) «num_gselect» floor)) r (now (seen .exit)) (now (tot .exit)) (now (sum .exit))) ⌝ }
-{
-    let mut ll = [0.0f32; 64];
-    let mut b = [0.0f32; 64];
-    let mut chosen = [0usize; 32];
-    let mut posts = [0.0f32; 32];
-    acc_weighed(
-        num_gselect,
-        floor,
-        scale,
-        num_gauss,
-        d,
-        gconsts,
-        means_invvars_t,
-        inv_vars_t,
-        normalized,
-        raw,
-        &mut ll[..num_gauss],
-        &mut b[..num_gauss],
-        &mut chosen,
-        &mut posts,
-        m,
-        seen,
-        tot,
-        sum,
-    )
-}
-
-// A frame of the batch goes into the running sums; m and the answer: how many Gaussians were seen. A skipped one adds nothing.
+// A frame of the batch goes into the running sums; m and the answer: how many Gaussians were seen. A skipped one adds nothing. With few Gaussians,
+// clearing rooms for as many as there can be would cost more than the work: they have rooms for 64.
 pub fn acc_frame(
     o: IvectorOptions,
     weight: FrameWeight,
@@ -287,13 +191,18 @@ pub fn acc_frame(
     requires { ⌜ (o .«num_gselect» ≤ 32) × («num_gauss» ≤ 1024) × Slots «num_gauss» d m (now seen) (now tot) (now sum) ⌝ }
     ensures { λ r. ⌜ Slots «num_gauss» d r (now (seen .exit)) (now (tot .exit)) (now (sum .exit))
         × ((es : List Entry) → Sums d es m (now (seen .entry)) (now (tot .entry)) (now (sum .entry))
-        → Sums d (es ++ map (entryOf (now (raw .entry))) (posteriors (o .«num_gselect») weight (loglikes «num_gauss» d (now (gconsts .entry)) (now («means_invvars_t» .entry)) (now («inv_vars_t» .entry)) (now (normalized .entry))))) r (now (seen .exit)) (now (tot .exit)) (now (sum .exit))) ⌝ }
+        → Sums d (es ++ map (entryOf (now (raw .entry)))
+        (posteriors (o .«num_gselect») weight (loglikes «num_gauss» d (now (gconsts .entry)) (now («means_invvars_t» .entry)) (now («inv_vars_t» .entry)) (now (normalized .entry))))) r (now (seen .exit)) (now (tot .exit)) (now (sum .exit))) ⌝ }
 {
     match weight {
         FrameWeight::Skipped => m,
         FrameWeight::Weighed(floor, scale) => {
+            let mut chosen = [0usize; 32];
+            let mut posts = [0.0f32; 32];
             if num_gauss <= 64 {
-                return acc_few(
+                let mut ll = [0.0f32; 64];
+                let mut b = [0.0f32; 64];
+                return acc_weighed(
                     o.num_gselect,
                     floor,
                     scale,
@@ -304,13 +213,19 @@ pub fn acc_frame(
                     inv_vars_t,
                     normalized,
                     raw,
+                    &mut ll[..num_gauss],
+                    &mut b[..num_gauss],
+                    &mut chosen,
+                    &mut posts,
                     m,
                     seen,
                     tot,
                     sum,
                 );
             }
-            acc_many(
+            let mut ll = [0.0f32; 1024];
+            let mut b = [0.0f32; 1024];
+            acc_weighed(
                 o.num_gselect,
                 floor,
                 scale,
@@ -321,6 +236,10 @@ pub fn acc_frame(
                 inv_vars_t,
                 normalized,
                 raw,
+                &mut ll[..num_gauss],
+                &mut b[..num_gauss],
+                &mut chosen,
+                &mut posts,
                 m,
                 seen,
                 tot,

@@ -312,100 +312,8 @@ fn lda_frame_in(
     transform(lda_t, lda_offset, spliced, d, out);
 }
 
-// `lda_frame` with room for the longest spliced row: 17 frames, each of 64 numbers.
-fn lda_long(
-    o: IvectorOptions,
-    dim: usize,
-    d: usize,
-    accepted: usize,
-    t: usize,
-    normalized: bool,
-    width: usize,
-    n: usize,
-    global: &[f64],
-    frames: &[f32],
-    rows: &[f64],
-    lda_t: &[f32],
-    lda_offset: &[f32],
-    cmvn: &mut [f64],
-    out: &mut [f32],
-)
-    requires { ⌜ Lent dim accepted (now global) (now frames) (now rows) (now cmvn) ⌝ }
-    requires { ⌜ (t < accepted) × (width < 1000000000) × (dim ≤ 64) × (n ≡ width * dim) × (n ≤ 1088)
-        × (width * dim * d ≤ length (now «lda_t»)) × (d ≤ length (now «lda_offset»)) × (length (now out) ≡ d) ⌝ }
-    ensures { λ _. ⌜ (now (cmvn .exit) ≡ splicedTo o dim (now (global .entry)) (ringFrames dim accepted (now (frames .entry)) (now (rows .entry))) normalized t width (now (cmvn .entry)) .0)
-        × (now (out .exit) ≡ ldaFrame d (now («lda_t» .entry)) (now («lda_offset» .entry)) (splicedTo o dim (now (global .entry)) (ringFrames dim accepted (now (frames .entry)) (now (rows .entry))) normalized t width (now (cmvn .entry)) .1)) ⌝ }
-{
-    let mut view = [0.0f32; 64];
-    let mut spliced = [0.0f32; 1088];
-    lda_frame_in(
-        o,
-        dim,
-        d,
-        accepted,
-        t,
-        normalized,
-        width,
-        global,
-        frames,
-        rows,
-        lda_t,
-        lda_offset,
-        cmvn,
-        &mut view[..dim],
-        &mut spliced[..n],
-        out,
-    );
-}
-
-// The same with room for 128 numbers: for a short row, clearing the larger room would cost more than the work.
-fn lda_short(
-    o: IvectorOptions,
-    dim: usize,
-    d: usize,
-    accepted: usize,
-    t: usize,
-    normalized: bool,
-    width: usize,
-    n: usize,
-    global: &[f64],
-    frames: &[f32],
-    rows: &[f64],
-    lda_t: &[f32],
-    lda_offset: &[f32],
-    cmvn: &mut [f64],
-    out: &mut [f32],
-)
-    requires { ⌜ Lent dim accepted (now global) (now frames) (now rows) (now cmvn) ⌝ }
-    requires { ⌜ (t < accepted) × (width < 1000000000) × (dim ≤ 64) × (n ≡ width * dim) × (n ≤ 128)
-        × (width * dim * d ≤ length (now «lda_t»)) × (d ≤ length (now «lda_offset»)) × (length (now out) ≡ d) ⌝ }
-    ensures { λ _. ⌜ (now (cmvn .exit) ≡ splicedTo o dim (now (global .entry)) (ringFrames dim accepted (now (frames .entry)) (now (rows .entry))) normalized t width (now (cmvn .entry)) .0)
-        × (now (out .exit) ≡ ldaFrame d (now («lda_t» .entry)) (now («lda_offset» .entry)) (splicedTo o dim (now (global .entry)) (ringFrames dim accepted (now (frames .entry)) (now (rows .entry))) normalized t width (now (cmvn .entry)) .1)) ⌝ }
-{
-    let mut view = [0.0f32; 64];
-    let mut spliced = [0.0f32; 128];
-    lda_frame_in(
-        o,
-        dim,
-        d,
-        accepted,
-        t,
-        normalized,
-        width,
-        global,
-        frames,
-        rows,
-        lda_t,
-        lda_offset,
-        cmvn,
-        &mut view[..dim],
-        &mut spliced[..n],
-        out,
-    );
-}
-
 // The spliced and LDA-transformed frame t, from raw frames or from normalised ones. Its rows are of 17 frames at most,
-// each of 64 numbers.
+// each of 64 numbers. For a short row, clearing the larger room would cost more than the work: it has room for 128.
 pub fn lda_frame(
     o: IvectorOptions,
     dim: usize,
@@ -429,8 +337,10 @@ pub fn lda_frame(
 {
     let width = o.left_context + 1 + o.right_context;
     let n = width * dim;
+    let mut view = [0.0f32; 64];
     if n <= 128 {
-        lda_short(
+        let mut spliced = [0.0f32; 128];
+        lda_frame_in(
             o,
             dim,
             d,
@@ -438,18 +348,20 @@ pub fn lda_frame(
             t,
             normalized,
             width,
-            n,
             global,
             frames,
             rows,
             lda_t,
             lda_offset,
             cmvn,
+            &mut view[..dim],
+            &mut spliced[..n],
             out,
         );
         return;
     }
-    lda_long(
+    let mut spliced = [0.0f32; 1088];
+    lda_frame_in(
         o,
         dim,
         d,
@@ -457,13 +369,14 @@ pub fn lda_frame(
         t,
         normalized,
         width,
-        n,
         global,
         frames,
         rows,
         lda_t,
         lda_offset,
         cmvn,
+        &mut view[..dim],
+        &mut spliced[..n],
         out,
     );
 }

@@ -1,3 +1,5 @@
+-- `delta_weights::past_highest_of` meets its contract. The loop's invariant: the highest so far, folded over what is left, is the fold over all frames
+-- (`fold-turn` in loops/proofs/Folds.antt).
 use borrow.Author.Needs.{needs}
 use mathlib.Core.Path.{_≡_}
 use mathlib.Core.List.{foldl}
@@ -18,29 +20,12 @@ Inv-loop past₀ fs past₁ m i₀ past i =
 abbrev μ-loop : tie.MeasureT-loop
 μ-loop past₀ fs past₁ m i₀ past i = m - i
 
-loop-holds : tie.Need-loop-holds Inv-loop μ-loop
-loop-holds c = search needs
-
-mul-larger : tie.Need-mul-larger Inv-loop μ-loop
-mul-larger c = search needs
-
-shared-slice-read-larger : tie.Need-shared-slice-read-larger Inv-loop μ-loop
-shared-slice-read-larger c = search needs
-
 add-larger : tie.Need-add-larger Inv-loop μ-loop
 add-larger c =
-    let args = c .before .before .before .before .args in
+    let start = c .before .before .before .before in
+    let args = start .args in
     let loop = c .before .before .loop in
-    omega (arith, leb-false 1000000000 (getD (args .delta-frames .now) (loop .i) 0) (none-at (leb 1000000000) 0 (args .delta-frames .now) (loop .i) (c .before .before .before .before .pre) (c .before .loop-test .taken)))
-
-larger-requires : tie.Need-larger-requires Inv-loop μ-loop
-larger-requires c κs = search needs
-
-add-i : tie.Need-add-i Inv-loop μ-loop
-add-i c = search needs
-
-loop-less : tie.Need-loop-less Inv-loop μ-loop
-loop-less c = search needs
+    omega (arith, leb-false 1000000000 (getD (args .delta-frames .now) (loop .i) 0) (none-at (leb 1000000000) 0 (args .delta-frames .now) (loop .i) (start .pre) (c .before .loop-test .taken)))
 
 loop-again : tie.Need-loop-again Inv-loop μ-loop
 loop-again c = (omega arith, fold-turn _ 0 _ _ (c .before .before .loop-test .taken) (c .larger .ensures) (c .before .before .before .loop .inv .1))
@@ -51,15 +36,5 @@ returns c = fold-end _ _ _ (c .loop-test .left) (c .before .loop .inv .1)
 pub past-highest-of-spec : {M : Type 1} → statement M
 past-highest-of-spec =
     tie.close
-    (tie.spec
-    Inv-loop
-    μ-loop
-    loop-holds
-    mul-larger
-    shared-slice-read-larger
-    add-larger
-    larger-requires
-    add-i
-    loop-less
-    loop-again
-    returns)
+    (tie.spec Inv-loop μ-loop (λ c. search needs) (λ c. search needs) (λ c. search needs) add-larger (λ c κs. search needs) (λ c. search needs)
+    (λ c. search needs) loop-again returns)

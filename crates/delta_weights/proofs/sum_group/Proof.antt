@@ -1,3 +1,5 @@
+-- `delta_weights::sum_group` meets its contract. The loop's invariant: the places from j up to `end` are of one frame, and their weights are summed
+-- (`Sums`, `sums-more`, `sums-end` in Groups.antt).
 use borrow.Author.Needs.{needs}
 use Prim.Native.Nat.{_-_, _≤_, _<_}
 use native.Mathlib.Omega.{arith}
@@ -12,81 +14,41 @@ Inv-loop frames weights n j frame weight₀ end₀ weight end =
 abbrev μ-loop : tie.MeasureT-loop
 μ-loop frames weights n j frame weight₀ end₀ weight end = n - end
 
-mul-frame : tie.Need-mul-frame Inv-loop μ-loop
-mul-frame c = search needs
-
-shared-slice-read-frame : tie.Need-shared-slice-read-frame Inv-loop μ-loop
-shared-slice-read-frame c = search needs
-
-mul-weight : tie.Need-mul-weight Inv-loop μ-loop
-mul-weight c = search needs
-
-shared-slice-read-weight : tie.Need-shared-slice-read-weight Inv-loop μ-loop
-shared-slice-read-weight c = search needs
-
-add-end : tie.Need-add-end Inv-loop μ-loop
-add-end c = search needs
-
 loop-holds : tie.Need-loop-holds Inv-loop μ-loop
 loop-holds c = (omega arith, omega arith, sums-first _ _ _ _ (c .before .before .pre .0))
 
-mul-if1 : tie.Need-mul-if1 Inv-loop μ-loop
-mul-if1 c = search needs
+-- ---- places in the code, each from the next that is named
 
-shared-slice-read-if1 : tie.Need-shared-slice-read-if1 Inv-loop μ-loop
-shared-slice-read-if1 c = search needs
+abbrev before-loop : tie.At-loop Inv-loop μ-loop → tie.Start Inv-loop μ-loop
+before-loop c = c .before .before .before
 
 returns : tie.Need-returns Inv-loop μ-loop
 returns c =
+    let start = before-loop (c .before .before .before) in
     let loop = c .before .before .before .loop in
-    let args = c .before .before .before .before .before .before .args in
+    let args = start .args in
     let h = loop .inv in
     (h .0, h .1, sums-other (args .n) (args .frames .now) (args .weights .now) (args .j) (loop .end) (loop .weight) (c .before .before .loop-test .taken) (c .if1 .taken) (h .2))
 
-mul-weight-2 : tie.Need-mul-weight-2 Inv-loop μ-loop
-mul-weight-2 c = search needs
-
-shared-slice-read-weight-2 : tie.Need-shared-slice-read-weight-2 Inv-loop μ-loop
-shared-slice-read-weight-2 c = search needs
-
-add-end-2 : tie.Need-add-end-2 Inv-loop μ-loop
-add-end-2 c = search needs
-
-loop-less : tie.Need-loop-less Inv-loop μ-loop
-loop-less c = search needs
-
 loop-again : tie.Need-loop-again Inv-loop μ-loop
 loop-again c =
-    let loop = c .before .before .before .before .loop in
-    let args = c .before .before .before .before .before .before .before .args in
+    let at-loop = c .before .before .before .before in
+    let start = before-loop at-loop in
+    let loop = at-loop .loop in
+    let args = start .args in
     let h = loop .inv in
     (omega arith, omega arith, sums-more (args .n) (args .frames .now) (args .weights .now) (args .j) (loop .end) (loop .weight) (c .before .before .before .loop-test .taken) (omega arith) (h .2))
 
 returns-2 : tie.Need-returns-2 Inv-loop μ-loop
 returns-2 c =
+    let start = before-loop (c .before) in
     let loop = c .before .loop in
-    let args = c .before .before .before .before .args in
+    let args = start .args in
     let h = loop .inv in
     (h .0, h .1, sums-end (args .n) (args .frames .now) (args .weights .now) (args .j) (loop .end) (loop .weight) (c .loop-test .left) (h .2))
 
 pub sum-group-spec : {M : Type 1} → statement M
 sum-group-spec =
     tie.close
-    (tie.spec
-    Inv-loop
-    μ-loop
-    mul-frame
-    shared-slice-read-frame
-    mul-weight
-    shared-slice-read-weight
-    add-end
-    loop-holds
-    mul-if1
-    shared-slice-read-if1
-    returns
-    mul-weight-2
-    shared-slice-read-weight-2
-    add-end-2
-    loop-less
-    loop-again
-    returns-2)
+    (tie.spec Inv-loop μ-loop (λ c. search needs) (λ c. search needs) (λ c. search needs) (λ c. search needs) (λ c. search needs) loop-holds
+    (λ c. search needs) (λ c. search needs) returns (λ c. search needs) (λ c. search needs) (λ c. search needs) (λ c. search needs) loop-again returns-2)

@@ -1,3 +1,4 @@
+-- `delta_weights::up_to` meets its contract. The loop's invariant: the frames from place k on are above f.
 use borrow.Author.Needs.{needs}
 use Prim.Native.Nat.{_≤_}
 use native.Mathlib.Omega.{arith}
@@ -15,48 +16,29 @@ abbrev μ-loop : tie.MeasureT-loop
 loop-holds : tie.Need-loop-holds Inv-loop μ-loop
 loop-holds c = (omega arith, above-none (c .args .frames .now) (c .args .n) (c .args .f))
 
-sub-last : tie.Need-sub-last Inv-loop μ-loop
-sub-last c = search needs
-
-mul-if1 : tie.Need-mul-if1 Inv-loop μ-loop
-mul-if1 c = search needs
-
-shared-slice-read-if1 : tie.Need-shared-slice-read-if1 Inv-loop μ-loop
-shared-slice-read-if1 c = search needs
-
 returns : tie.Need-returns Inv-loop μ-loop
 returns c =
-    let args = c .before .before .before .before .args in
-    let pre = c .before .before .before .before .pre in
+    let start = c .before .before .before .before in
+    let args = start .args in
+    let pre = start .pre in
     let loop = c .before .before .before .loop in
     (found-last (args .frames .now) (args .n) (args .f) (pre .0) (loop .k) (pre .1) (c .before .before .loop-test .taken) (loop .inv .0) (c .if1 .taken) (loop .inv .1), loop .inv .0)
 
-loop-less : tie.Need-loop-less Inv-loop μ-loop
-loop-less c = search needs
-
 loop-again : tie.Need-loop-again Inv-loop μ-loop
 loop-again c =
-    let args = c .before .before .before .before .args in
+    let start = c .before .before .before .before in
+    let args = start .args in
     let loop = c .before .before .before .loop in
     (omega arith, above-turn (args .frames .now) (args .n) (args .f) (loop .k) (c .before .before .loop-test .taken) (c .if1 .left) (loop .inv .1))
 
 returns-2 : tie.Need-returns-2 Inv-loop μ-loop
 returns-2 c =
-    let args = c .before .before .args in
+    let start = c .before .before in
+    let args = start .args in
     let loop = c .before .loop in
-    (found-none (args .frames .now) (args .n) (args .f) (c .before .before .pre .0) (loop .k) (c .loop-test .left) (loop .inv .1), omega arith)
+    (found-none (args .frames .now) (args .n) (args .f) (start .pre .0) (loop .k) (c .loop-test .left) (loop .inv .1), omega arith)
 
 pub up-to-spec : {M : Type 1} → statement M
 up-to-spec =
     tie.close
-    (tie.spec
-    Inv-loop
-    μ-loop
-    loop-holds
-    sub-last
-    mul-if1
-    shared-slice-read-if1
-    returns
-    loop-less
-    loop-again
-    returns-2)
+    (tie.spec Inv-loop μ-loop loop-holds (λ c. search needs) (λ c. search needs) (λ c. search needs) returns (λ c. search needs) loop-again returns-2)

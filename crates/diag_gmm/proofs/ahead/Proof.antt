@@ -1,3 +1,4 @@
+-- `diag_gmm::ahead` meets its contract, by its tests: a number differs from itself where it is a NaN (`nan-is` in Comparing.antt).
 use Rattle.floats.proofs.Patterns.{no-nan}
 use Rattle.diag_gmm.proofs.Comparing.{nan-is}
 use Rattle.diag_gmm.proofs.ahead.Statement.{statement}

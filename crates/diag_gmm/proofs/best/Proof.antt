@@ -1,3 +1,4 @@
+-- `diag_gmm::best` meets its contract, by its tests: some above the cutoff (`best-some`), none (`best-none`), or no cutoff (`best-all`, in Choosing.antt).
 use mathlib.Core.Path.{ap}
 use mathlib.Core.Logic.{⊎-elim}
 use native.Mathlib.Omega.{arith}
@@ -7,50 +8,47 @@ use Rattle.diag_gmm.proofs.Choosing.{best-some, best-none, best-all}
 use Rattle.diag_gmm.proofs.best.Statement.{statement}
 use Rattle.diag_gmm.proofs.best.Tie as tie
 
-largest-requires : tie.Need-largest-requires
-largest-requires c κs = search needs
+-- ---- places in the code, each from the next that is named
 
-ln-f32-requires : tie.Need-ln-f32-requires
-ln-f32-requires c κs = search needs
+abbrev before-gather2 : tie.After-gather2 → tie.Joined1
+before-gather2 c = c .before .before .before
 
-gather-requires : tie.Need-gather-requires
-gather-requires c κs = search needs
-
-same-length : tie.Need-same-length
-same-length c = search needs
-
-same-length-2 : tie.Need-same-length-2
-same-length-2 c = search needs
+abbrev before-slice-known6 : tie.After-slice-known6 → tie.After-gather2
+before-slice-known6 c = c .before .before .before .before
 
 returns : tie.Need-returns
-returns c = let g = c .before .before .before .before .before .gather in
-    (best-some _ _ _ (c .before .before .before .before .before .before .before .before .before .before .largest .ensures) (c .before .before .before .before .before .before .before .before .before .if1 .taken) (c .before .before .before .before .before .before .before .before .ln-f32 .ensures) _ _ _ (g .ensures .0) (omega arith) (omega arith) (c .if2 .taken), g .ensures .1)
+returns c =
+    let at-gather = c .before .before .before .before .before in
+    let at-ln-f32 = at-gather .before .before .before in
+    let at-if1 = at-ln-f32 .before in
+    let at-largest = at-if1 .before in
+    let g = at-gather .gather in
+    (best-some _ _ _ (at-largest .largest .ensures) (at-if1 .if1 .taken) (at-ln-f32 .ln-f32 .ensures) _ _ _ (g .ensures .0) (omega arith) (omega arith) (c .if2 .taken), g .ensures .1)
 
 gather-requires-2 : tie.Need-gather-requires-2
 gather-requires-2 c κs = ⊎-elim (λ w. let e = ap length (w .10) in let f = ap length (w .11) in search needs) (λ w. let e = ap length (w .1) in let f = ap length (w .2) in search needs) (c .before .before .if1 .came)
 
 same-length-3 : tie.Need-same-length-3
-same-length-3 c = ⊎-elim (λ w. let e = ap length (w .10) in search needs) (λ w. let e = ap length (w .1) in search needs) (c .before .before .before .before .before .before .before .if1 .came)
+same-length-3 c =
+    let at-if1 = before-gather2 (before-slice-known6 c) in
+    ⊎-elim (λ w. let e = ap length (w .10) in search needs) (λ w. let e = ap length (w .1) in search needs) (at-if1 .if1 .came)
 
 same-length-4 : tie.Need-same-length-4
-same-length-4 c = ⊎-elim (λ w. let e = ap length (w .11) in search needs) (λ w. let e = ap length (w .2) in search needs) (c .before .before .before .before .before .before .before .if1 .came)
+same-length-4 c =
+    let at-if1 = before-gather2 (before-slice-known6 c) in
+    ⊎-elim (λ w. let e = ap length (w .11) in search needs) (λ w. let e = ap length (w .2) in search needs) (at-if1 .if1 .came)
 
 returns-2 : tie.Need-returns-2
-returns-2 c = let o = c .before .before .before .before .before .before .before .before .largest .ensures in
-    let d = c .before .before .before .before .gather2 .ensures in
-    (⊎-elim (λ w. best-none _ _ _ o (w .0 .taken) (w .1 .ensures) _ _ _ (w .4 .ensures .0) (omega arith) (omega arith) (w .9 .left) (d .0)) (λ w. best-all _ _ _ o (w .0 .left) (d .0)) (c .before .before .before .before .before .before .before .if1 .came), d .1)
+returns-2 c =
+    let at-gather2 = before-slice-known6 c in
+    let at-if1 = before-gather2 at-gather2 in
+    let at-largest = at-if1 .before in
+    let o = at-largest .largest .ensures in
+    let d = at-gather2 .gather2 .ensures in
+    (⊎-elim (λ w. best-none _ _ _ o (w .0 .taken) (w .1 .ensures) _ _ _ (w .4 .ensures .0) (omega arith) (omega arith) (w .9 .left) (d .0)) (λ w. best-all _ _ _ o (w .0 .left) (d .0)) (at-if1 .if1 .came), d .1)
 
 pub best-spec : {M : Type 1} → statement M
 best-spec =
     tie.close
-    (tie.spec
-    largest-requires
-    ln-f32-requires
-    gather-requires
-    same-length
-    same-length-2
-    returns
-    gather-requires-2
-    same-length-3
-    same-length-4
-    returns-2)
+    (tie.spec (λ c κs. search needs) (λ c κs. search needs) (λ c κs. search needs) (λ c. search needs) (λ c. search needs) returns gather-requires-2
+    same-length-3 same-length-4 returns-2)

@@ -1,3 +1,5 @@
+-- `diag_gmm::gather` meets its contract. The loop's invariant: what is held, with those from place g on still to be inserted, is the whole selection
+-- (`gather-turn`, `gather-end` in Gathering.antt).
 use mathlib.Core.Path.{_≡_}
 use mathlib.Core.Bool.{_||_}
 use Prim.Native.Nat.{_≤_, _-_}
@@ -22,52 +24,31 @@ abbrev μ-loop : tie.MeasureT-loop
 loop-holds : tie.Need-loop-holds Inv-loop μ-loop
 loop-holds c = (search needs, omega arith, search needs, search needs, gather-none _ _ _ _ (held-none _ _))
 
-mul-offer : tie.Need-mul-offer Inv-loop μ-loop
-mul-offer c = search needs
+-- ---- places in the code, each from the next that is named
 
-shared-slice-read-offer : tie.Need-shared-slice-read-offer Inv-loop μ-loop
-shared-slice-read-offer c = search needs
-
-offer-requires : tie.Need-offer-requires Inv-loop μ-loop
-offer-requires c κs = search needs
-
-add-g : tie.Need-add-g Inv-loop μ-loop
-add-g c = search needs
-
-loop-less : tie.Need-loop-less Inv-loop μ-loop
-loop-less c = search needs
+abbrev before-loop : tie.At-loop Inv-loop μ-loop → tie.Start Inv-loop μ-loop
+before-loop c = c .before .before .before .before
 
 loop-again : tie.Need-loop-again Inv-loop μ-loop
-loop-again c = let o = c .before .before .before .before .offer .ensures in
-    let l = c .before .before .before .before .before .before .before .before .before .loop in
-    let a = c .before .before .before .before .before .before .before .before .before .before .before .before .before .args in
+loop-again c =
+    let at-offer = c .before .before .before .before in
+    let at-loop = at-offer .before .before .before .before .before in
+    let start = before-loop at-loop in
+    let o = at-offer .offer .ensures in
+    let l = at-loop .loop in
+    let a = start .args in
     (search needs, o .1, search needs, search needs, gather-turn _ (λ p. a .all || lt (a .cutoff) (p .1)) _ (a .loglikes .now) (l .g) (held (l .n) (l .chosen) (l .posts)) (omega arith) (o .0) (l .inv .4))
 
-same-length : tie.Need-same-length Inv-loop μ-loop
-same-length c = search needs
-
-same-length-2 : tie.Need-same-length-2 Inv-loop μ-loop
-same-length-2 c = search needs
-
 returns : tie.Need-returns Inv-loop μ-loop
-returns c = let l = c .before .loop in
-    let a = c .before .before .before .before .before .args in
+returns c =
+    let start = before-loop (c .before) in
+    let l = c .before .loop in
+    let a = start .args in
     let e = length-held (l .n) (l .chosen) (l .posts) (omega arith) (omega arith) in
     (gather-end _ (λ p. a .all || lt (a .cutoff) (p .1)) _ (a .loglikes .now) (l .g) _ (omega arith) (omega arith) (l .inv .4), l .inv .1)
 
 pub gather-spec : {M : Type 1} → statement M
 gather-spec =
     tie.close
-    (tie.spec
-    Inv-loop
-    μ-loop
-    loop-holds
-    mul-offer
-    shared-slice-read-offer
-    offer-requires
-    add-g
-    loop-less
-    loop-again
-    same-length
-    same-length-2
-    returns)
+    (tie.spec Inv-loop μ-loop loop-holds (λ c. search needs) (λ c. search needs) (λ c κs. search needs) (λ c. search needs) (λ c. search needs) loop-again
+    (λ c. search needs) (λ c. search needs) returns)

@@ -1,3 +1,5 @@
+-- `diag_gmm::largest` meets its contract. The loop's invariant: the largest so far, folded over what is left, is the fold over all, and it is no NaN
+-- (`larger-first`, `larger-second` in Comparing.antt).
 use mathlib.Core.Path.{_≡_, refl}
 use mathlib.Core.Bool.{false}
 use mathlib.Core.List.{foldl}
@@ -24,18 +26,6 @@ loop-holds : tie.Need-loop-holds Inv-loop μ-loop
 unfolding div neg ofBits isNan
 loop-holds c = (search needs, refl, refl)
 
-mul-l : tie.Need-mul-l Inv-loop μ-loop
-mul-l c = search needs
-
-shared-slice-read-l : tie.Need-shared-slice-read-l Inv-loop μ-loop
-shared-slice-read-l c = search needs
-
-add-g : tie.Need-add-g Inv-loop μ-loop
-add-g c = search needs
-
-loop-less : tie.Need-loop-less Inv-loop μ-loop
-loop-less c = search needs
-
 loop-again : tie.Need-loop-again Inv-loop μ-loop
 loop-again c = let l = c .before .before .before .loop in
     let a = c .before .before .before .before .args in
@@ -48,13 +38,4 @@ returns c = fold-end larger (c .before .before .args .loglikes .now) (c .before 
 pub largest-spec : {M : Type 1} → statement M
 largest-spec =
     tie.close
-    (tie.spec
-    Inv-loop
-    μ-loop
-    loop-holds
-    mul-l
-    shared-slice-read-l
-    add-g
-    loop-less
-    loop-again
-    returns)
+    (tie.spec Inv-loop μ-loop loop-holds (λ c. search needs) (λ c. search needs) (λ c. search needs) (λ c. search needs) loop-again returns)

@@ -1,3 +1,4 @@
+-- `diag_gmm::min_post_for` meets its contract, by the test of the weight.
 use borrow.Author.Needs.{needs}
 use Rattle.definition.specs.Posteriors.{minPostFor}
 use Rattle.diag_gmm.proofs.min_post_for.Statement.{statement}

@@ -1,3 +1,4 @@
+-- `diag_gmm::place` meets its contract. The loop's invariant: p is ahead of none of the first j.
 use mathlib.Core.Path.{_≡_, sym, _∙_}
 use mathlib.Core.Bool.{false}
 use Prim.Native.Nat.{ℕ, _≤_, _<_, _-_}
@@ -19,24 +20,9 @@ abbrev μ-loop : tie.MeasureT-loop
 loop-holds : tie.Need-loop-holds Inv-loop μ-loop
 loop-holds c = (search needs, λ k h. absurd (not-suc-le-zero h))
 
-mul-ahead : tie.Need-mul-ahead Inv-loop μ-loop
-mul-ahead c = search needs
-
-shared-slice-read-ahead : tie.Need-shared-slice-read-ahead Inv-loop μ-loop
-shared-slice-read-ahead c = search needs
-
-ahead-requires : tie.Need-ahead-requires Inv-loop μ-loop
-ahead-requires c κs = search needs
-
 returns : tie.Need-returns Inv-loop μ-loop
 returns c = let l = c .before .before .before .before .loop in
     (omega arith, l .inv .1, λ h. sym (c .before .ahead .ensures) ∙ c .if1 .taken)
-
-add-j : tie.Need-add-j Inv-loop μ-loop
-add-j c = search needs
-
-loop-less : tie.Need-loop-less Inv-loop μ-loop
-loop-less c = search needs
 
 loop-again : tie.Need-loop-again Inv-loop μ-loop
 loop-again c = (search needs, below-more _ _ (c .before .before .before .before .loop .inv .1) (sym (c .before .ahead .ensures) ∙ c .if1 .left))
@@ -47,15 +33,5 @@ returns-2 c = (omega arith, c .before .loop .inv .1, λ h. absurd (omega arith))
 pub place-spec : {M : Type 1} → statement M
 place-spec =
     tie.close
-    (tie.spec
-    Inv-loop
-    μ-loop
-    loop-holds
-    mul-ahead
-    shared-slice-read-ahead
-    ahead-requires
-    returns
-    add-j
-    loop-less
-    loop-again
-    returns-2)
+    (tie.spec Inv-loop μ-loop loop-holds (λ c. search needs) (λ c. search needs) (λ c κs. search needs) returns (λ c. search needs) (λ c. search needs)
+    loop-again returns-2)

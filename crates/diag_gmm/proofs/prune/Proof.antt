@@ -1,3 +1,5 @@
+-- `diag_gmm::prune` meets its contract. The loop's invariant: pruning what is left gives what pruning all gives, whatever the Gaussians are (`prune-turn`,
+-- `prune-keep`, `prune-end` in Pruning.antt).
 use mathlib.Core.Path.{_≡_, refl, _∙_}
 use mathlib.Core.List.{List}
 use Prim.Native.Nat.{ℕ, _≤_}
@@ -19,21 +21,6 @@ abbrev μ-loop : tie.MeasureT-loop
 loop-holds : tie.Need-loop-holds Inv-loop μ-loop
 loop-holds c = (search needs, λ chosen h. refl)
 
-sub-last : tie.Need-sub-last Inv-loop μ-loop
-sub-last c = search needs
-
-mul-last : tie.Need-mul-last Inv-loop μ-loop
-mul-last c = search needs
-
-shared-slice-read-last : tie.Need-shared-slice-read-last Inv-loop μ-loop
-shared-slice-read-last c = search needs
-
-sub-count : tie.Need-sub-count Inv-loop μ-loop
-sub-count c = search needs
-
-loop-less : tie.Need-loop-less Inv-loop μ-loop
-loop-less c = search needs
-
 loop-again : tie.Need-loop-again Inv-loop μ-loop
 loop-again c = let l = c .before .before .before .loop in
     let p = c .before .before .before .before .pre in
@@ -50,15 +37,5 @@ returns-2 c = (λ chosen h. prune-end _ _ _ _ (c .loop-test .left) ∙ c .before
 pub prune-spec : {M : Type 1} → statement M
 prune-spec =
     tie.close
-    (tie.spec
-    Inv-loop
-    μ-loop
-    loop-holds
-    sub-last
-    mul-last
-    shared-slice-read-last
-    sub-count
-    loop-less
-    loop-again
-    returns
-    returns-2)
+    (tie.spec Inv-loop μ-loop loop-holds (λ c. search needs) (λ c. search needs) (λ c. search needs) (λ c. search needs) (λ c. search needs) loop-again
+    returns returns-2)

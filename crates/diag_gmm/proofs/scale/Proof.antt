@@ -1,3 +1,4 @@
+-- `diag_gmm::scale` meets its contract. The loop's invariant: a turn at each of the first i places; each place is made from its old value alone.
 use mathlib.Core.Path.{_≡_, _∙_}
 use Prim.Native.Nat.{_≤_, _-_}
 use native.Mathlib.Omega.{arith}
@@ -16,30 +17,6 @@ Inv-loop v n posts₀ i₀ posts i = (i ≤ n) × (length posts ≡ length posts
 abbrev μ-loop : tie.MeasureT-loop
 μ-loop v n posts₀ i₀ posts i = n - i
 
-loop-holds : tie.Need-loop-holds Inv-loop μ-loop
-loop-holds c = search loops
-
-mul-posts : tie.Need-mul-posts Inv-loop μ-loop
-mul-posts c = search loops
-
-slice-read-posts : tie.Need-slice-read-posts Inv-loop μ-loop
-slice-read-posts c = search loops
-
-slice-write-posts : tie.Need-slice-write-posts Inv-loop μ-loop
-slice-write-posts c = search loops
-
-add-i : tie.Need-add-i Inv-loop μ-loop
-add-i c = search loops
-
-loop-less : tie.Need-loop-less Inv-loop μ-loop
-loop-less c = search loops
-
-loop-again : tie.Need-loop-again Inv-loop μ-loop
-loop-again c = search loops
-
-same-length : tie.Need-same-length Inv-loop μ-loop
-same-length c = search loops
-
 returns : tie.Need-returns Inv-loop μ-loop
 returns c = let a = c .before .before .args in
     iter-end _ _ _ (a .n) (c .before .loop .inv .0) (c .loop-test .left) (c .before .loop .inv .2)
@@ -48,15 +25,5 @@ returns c = let a = c .before .before .args in
 pub scale-spec : {M : Type 1} → statement M
 scale-spec =
     tie.close
-    (tie.spec
-    Inv-loop
-    μ-loop
-    loop-holds
-    mul-posts
-    slice-read-posts
-    slice-write-posts
-    add-i
-    loop-less
-    loop-again
-    same-length
-    returns)
+    (tie.spec Inv-loop μ-loop (λ c. search loops) (λ c. search loops) (λ c. search loops) (λ c. search loops) (λ c. search loops) (λ c. search loops)
+    (λ c. search loops) (λ c. search loops) returns)

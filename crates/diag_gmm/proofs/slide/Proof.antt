@@ -1,3 +1,5 @@
+-- `diag_gmm::slide` meets its contract. The loop's invariant: sliding what is in hand from place j on gives what sliding from the first place gives
+-- (`slid-turn`, `slid-end` in Sliding.antt).
 use mathlib.Core.Path.{_≡_}
 use Prim.Native.Nat.{_-_}
 use native.Mathlib.Omega.{arith}
@@ -14,49 +16,10 @@ Inv-loop g p first n chosen₀ posts₀ gauss₀ post₀ j₀ chosen posts gauss
 abbrev μ-loop : tie.MeasureT-loop
 μ-loop g p first n chosen₀ posts₀ gauss₀ post₀ j₀ chosen posts gauss post j = n - j
 
-loop-holds : tie.Need-loop-holds Inv-loop μ-loop
-loop-holds c = search needs
-
-mul-next-gauss : tie.Need-mul-next-gauss Inv-loop μ-loop
-mul-next-gauss c = search needs
-
-slice-read-next-gauss : tie.Need-slice-read-next-gauss Inv-loop μ-loop
-slice-read-next-gauss c = search needs
-
-mul-next-post : tie.Need-mul-next-post Inv-loop μ-loop
-mul-next-post c = search needs
-
-slice-read-next-post : tie.Need-slice-read-next-post Inv-loop μ-loop
-slice-read-next-post c = search needs
-
-mul-chosen : tie.Need-mul-chosen Inv-loop μ-loop
-mul-chosen c = search needs
-
-slice-write-chosen : tie.Need-slice-write-chosen Inv-loop μ-loop
-slice-write-chosen c = search needs
-
-mul-posts : tie.Need-mul-posts Inv-loop μ-loop
-mul-posts c = search needs
-
-slice-write-posts : tie.Need-slice-write-posts Inv-loop μ-loop
-slice-write-posts c = search needs
-
-add-j : tie.Need-add-j Inv-loop μ-loop
-add-j c = search needs
-
-loop-less : tie.Need-loop-less Inv-loop μ-loop
-loop-less c = search needs
-
 loop-again : tie.Need-loop-again Inv-loop μ-loop
 loop-again c = let l = c .before .before .before .loop in
     let t = c .before .before .loop-test .taken in
     (search needs, search needs, slid-turn _ _ _ _ _ t (omega arith) (l .inv .2), slid-turn _ _ _ _ _ t (omega arith) (l .inv .3))
-
-same-length : tie.Need-same-length Inv-loop μ-loop
-same-length c = search needs
-
-same-length-2 : tie.Need-same-length-2 Inv-loop μ-loop
-same-length-2 c = search needs
 
 returns : tie.Need-returns Inv-loop μ-loop
 returns c = let l = c .before .loop in
@@ -65,21 +28,6 @@ returns c = let l = c .before .loop in
 pub slide-spec : {M : Type 1} → statement M
 slide-spec =
     tie.close
-    (tie.spec
-    Inv-loop
-    μ-loop
-    loop-holds
-    mul-next-gauss
-    slice-read-next-gauss
-    mul-next-post
-    slice-read-next-post
-    mul-chosen
-    slice-write-chosen
-    mul-posts
-    slice-write-posts
-    add-j
-    loop-less
-    loop-again
-    same-length
-    same-length-2
+    (tie.spec Inv-loop μ-loop (λ c. search needs) (λ c. search needs) (λ c. search needs) (λ c. search needs) (λ c. search needs) (λ c. search needs)
+    (λ c. search needs) (λ c. search needs) (λ c. search needs) (λ c. search needs) (λ c. search needs) loop-again (λ c. search needs) (λ c. search needs)
     returns)

@@ -1,3 +1,4 @@
+-- `diag_gmm::weighed` meets its contract, by the test of the weight.
 use borrow.Author.Needs.{needs}
 use Rattle.definition.specs.Posteriors.{weighed}
 use Rattle.diag_gmm.proofs.weighed.Statement.{statement}

@@ -1,39 +1,18 @@
+-- `frame_views::cmvn_smooth` meets its contract, by whether the count is below the window (`smooth-true`, `smooth-false` in Normalised.antt).
 use borrow.Author.Needs.{needs}
 use Rattle.frame_views.proofs.Normalised.{smooth-true, smooth-false}
 use Rattle.frame_views.proofs.cmvn_smooth.Statement.{statement}
 use Rattle.frame_views.proofs.cmvn_smooth.Tie as tie
 
-nearest-u64-to-f64-requires : tie.Need-nearest-u64-to-f64-requires
-nearest-u64-to-f64-requires c κs = search needs
-
-mul-cur-count : tie.Need-mul-cur-count
-mul-cur-count c = search needs
-
-slice-read-cur-count : tie.Need-slice-read-cur-count
-slice-read-cur-count c = search needs
-
-nearest-u64-to-f64-requires-2 : tie.Need-nearest-u64-to-f64-requires-2
-nearest-u64-to-f64-requires-2 c κs = search needs
-
-min-f64-requires : tie.Need-min-f64-requires
-min-f64-requires c κs = search needs
-
-mul-scale : tie.Need-mul-scale
-mul-scale c = search needs
-
-shared-slice-read-scale : tie.Need-shared-slice-read-scale
-shared-slice-read-scale c = search needs
-
-add-scaled-requires : tie.Need-add-scaled-requires
-add-scaled-requires c κs = search needs
-
-same-length : tie.Need-same-length
-same-length c = search needs
-
 returns : tie.Need-returns
 returns c =
-    smooth-true _ _ _ _ (c .before .before .before .before .before .before .before .before .before .nearest-u64-to-f64 .ensures) (c .before .before .before .before .before .before .before .before .before .before .before .before .pre .1)
-    (c .before .before .before .before .before .before .before .if1 .taken) (c .before .before .before .before .before .before .nearest-u64-to-f642 .ensures) (c .before .before .before .before .before .min-f64 .ensures) (c .before .before .add-scaled .ensures)
+    let at-min-f64 = c .before .before .before .before .before in
+    let at-nearest-u64-to-f642 = at-min-f64 .before in
+    let at-if1 = at-nearest-u64-to-f642 .before in
+    let at-nearest-u64-to-f64 = at-if1 .before .before in
+    let start = at-nearest-u64-to-f64 .before .before .before in
+    smooth-true _ _ _ _ (at-nearest-u64-to-f64 .nearest-u64-to-f64 .ensures) (start .pre .1)
+    (at-if1 .if1 .taken) (at-nearest-u64-to-f642 .nearest-u64-to-f642 .ensures) (at-min-f64 .min-f64 .ensures) (c .before .before .add-scaled .ensures)
 
 returns-2 : tie.Need-returns-2
 returns-2 c = smooth-false _ _ _ _ (c .before .before .nearest-u64-to-f64 .ensures) (c .if1 .left)
@@ -41,15 +20,5 @@ returns-2 c = smooth-false _ _ _ _ (c .before .before .nearest-u64-to-f64 .ensur
 pub cmvn-smooth-spec : {M : Type 1} → statement M
 cmvn-smooth-spec =
     tie.close
-    (tie.spec
-    nearest-u64-to-f64-requires
-    mul-cur-count
-    slice-read-cur-count
-    nearest-u64-to-f64-requires-2
-    min-f64-requires
-    mul-scale
-    shared-slice-read-scale
-    add-scaled-requires
-    same-length
-    returns
-    returns-2)
+    (tie.spec (λ c κs. search needs) (λ c. search needs) (λ c. search needs) (λ c κs. search needs) (λ c κs. search needs) (λ c. search needs)
+    (λ c. search needs) (λ c κs. search needs) (λ c. search needs) returns returns-2)

@@ -6,13 +6,19 @@ use Rattle.frame_views.proofs.prefix.Statement.{statement}
 use Rattle.frame_views.proofs.prefix.Tie as tie
 
 add-end : tie.Need-add-end
-add-end c = omega (arith, row-ends _ _ (c .before .before .args .rows .now) (c .row-place .ensures) (c .before .before .pre .1))
+add-end c =
+    let start = c .before .before in
+    omega (arith, row-ends _ _ (start .args .rows .now) (c .row-place .ensures) (start .pre .1))
 
 mul-result : tie.Need-mul-result
-mul-result c = omega (arith, row-ends _ _ (c .before .before .args .rows .now) (c .row-place .ensures) (c .before .before .pre .1))
+mul-result c =
+    let start = c .before .before in
+    omega (arith, row-ends _ _ (start .args .rows .now) (c .row-place .ensures) (start .pre .1))
 
 part-result-end : tie.Need-part-result-end
-part-result-end c = row-ends _ _ (c .before .before .args .rows .now) (c .row-place .ensures) (c .before .before .pre .1)
+part-result-end c =
+    let start = c .before .before in
+    row-ends _ _ (start .args .rows .now) (c .row-place .ensures) (start .pre .1)
 
 returns : tie.Need-returns
 returns c = row-lent _ _ _ (c .before .row-place .ensures) (c .before .before .before .pre .1)

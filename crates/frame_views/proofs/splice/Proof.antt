@@ -1,6 +1,9 @@
+-- `frame_views::splice` meets its contract. The loop's invariant: state and room are those after the first n frames of the row (`spliced-turn`, `room-turn`
+-- in SplicedRows.antt).
 use borrow.Author.Needs.{needs}
-use mathlib.Core.Path.{_≡_, refl, _∙_}
+use mathlib.Core.Path.{_≡_, refl, sym, _∙_}
 use Prim.Native.Nat.{_-_, _≤_}
+use native.Mathlib.Nat.{le-of-eq}
 use native.Mathlib.Omega.{arith}
 use lib.ListN.{length}
 use Rattle.loops.specs.Lists.{over}
@@ -23,82 +26,69 @@ Inv-loop o dim accepted t normalized width global frames rows cmvn₀ view₀ sp
 abbrev μ-loop : tie.MeasureT-loop
 μ-loop o dim accepted t normalized width global frames rows cmvn₀ view₀ spliced₀ n₀ cmvn view spliced n = width - n
 
-loop-holds : tie.Need-loop-holds Inv-loop μ-loop
-loop-holds c = (omega arith, refl, refl, refl, spliced-none _ _ _ _ _ _ _, room-none _ _ _ _ _ _ _ (c .before .before .before .before .before .before .args .spliced .now))
+-- ---- places in the code, each from the next that is named
 
-splice-at-requires : tie.Need-splice-at-requires Inv-loop μ-loop
-splice-at-requires c κs = search needs
+abbrev before-loop : tie.At-loop Inv-loop μ-loop → tie.Start Inv-loop μ-loop
+before-loop c = c .before .before .before .before .before .before .before
+
+loop-holds : tie.Need-loop-holds Inv-loop μ-loop
+loop-holds c =
+    let start = c .before .before .before .before .before .before in
+    (omega arith, refl, refl, refl, spliced-none _ _ _ _ _ _ _, room-none _ _ _ _ _ _ _ (start .args .spliced .now))
 
 mul-splice-one : tie.Need-mul-splice-one Inv-loop μ-loop
 mul-splice-one c =
-    let args = c .before .before .before .before .before .before .before .before .before .args in
-    let p = c .before .before .before .before .before .before .before .before .before .pre .1 .3 in
-    omega (arith, row-in (c .before .before .loop .n) (args .width) (args .dim) (length (args .spliced .now)) (omega arith) (c .before .loop-test .taken))
+    let start = before-loop (c .before .before) in
+    let args = start .args in
+    let p = start .pre .1 .3 in
+    omega (arith, start .good, row-in (c .before .before .loop .n) (args .width) (args .dim) (length (args .spliced .now)) (le-of-eq (sym p)) (c .before .loop-test .taken))
 
 splice-one-requires : tie.Need-splice-one-requires Inv-loop μ-loop
 splice-one-requires c κs =
-    let pre = c .before .before .before .before .before .before .before .before .before .before .before .before .pre in
-    let loop = c .before .before .before .before .before .loop in
-    let args = c .before .before .before .before .before .before .before .before .before .before .before .before .args in
+    let at-loop-test = c .before .before .before .before in
+    let at-loop = at-loop-test .before in
+    let start = before-loop at-loop in
+    let pre = start .pre in
+    let loop = at-loop .loop in
+    let args = start .args in
     let p = pre .0 in
     let q = pre .1 in
     let h = loop .inv in (
       record { some = p .some; frame-room = p .frame-room; row-room = p .row-room; global-long = p .global-long; state-long = h .1 ∙ p .state-long; few = p .few },
-      (c .before .before .before .splice-at .ensures .1, h .2 ∙ q .2, omega (arith, h .3, row-in (loop .n) (args .width) (args .dim) (length (args .spliced .now)) (omega (arith, q .3)) (c .before .before .before .before .loop-test .taken))),
+      (c .before .before .before .splice-at .ensures .1, h .2 ∙ q .2, omega (arith, h .3, row-in (loop .n) (args .width) (args .dim) (length (args .spliced .now)) (omega (arith, q .3)) (at-loop-test .loop-test .taken))),
     )
-
-add-n : tie.Need-add-n Inv-loop μ-loop
-add-n c = search needs
-
-loop-less : tie.Need-loop-less Inv-loop μ-loop
-loop-less c = search needs
 
 loop-again : tie.Need-loop-again Inv-loop μ-loop
 loop-again c =
-    let loop = c .before .before .before .before .before .before .before .before .before .before .before .before .loop in
+    let at-splice-one = c .before .before .before .before .before .before in
+    let at-splice-at = at-splice-one .before .before .before .before in
+    let at-loop-test = at-splice-at .before in
+    let at-loop = at-loop-test .before in
+    let start = before-loop at-loop in
+    let loop = at-loop .loop in
     let h = loop .inv in
-    let u = c .before .before .before .before .before .before .before .before .before .before .splice-at .ensures .0 in
-    let r = (c .before .before .before .before .before .before .splice-one) in (
-      omega (arith, c .before .before .before .before .before .before .before .before .before .before .before .loop-test .taken),
+    let u = at-splice-at .splice-at .ensures .0 in
+    let r = at-splice-one .splice-one in (
+      omega (arith, at-loop-test .loop-test .taken),
       omega (arith, h .1, r .kept .1 .1 .1 .1 .1 .1 .1 .1 .1 .0),
       omega (arith, h .2, r .kept .1 .1 .1 .1 .1 .1 .1 .1 .1 .1 .0),
       omega (arith, h .3, r .kept .1 .1 .1 .1 .1 .1 .1 .1 .1 .1 .1 .0),
       spliced-turn _ _ _ _ _ _ _ (loop .n) u (h .4) (r .ensures .0),
-      room-turn _ _ _ _ _ _ _ (loop .n) u (h .4) (r .ensures .0) (c .before .before .before .before .before .before .before .before .before .before .before .before .before .before .before .before .before .before .before .args .spliced .now) (h .5) (r .ensures .1),
+      room-turn _ _ _ _ _ _ _ (loop .n) u (h .4) (r .ensures .0) (start .args .spliced .now) (h .5) (r .ensures .1),
     )
-
-same-length : tie.Need-same-length Inv-loop μ-loop
-same-length c = search needs
-
-same-length-2 : tie.Need-same-length-2 Inv-loop μ-loop
-same-length-2 c = search needs
-
-same-length-3 : tie.Need-same-length-3 Inv-loop μ-loop
-same-length-3 c = search needs
 
 returns : tie.Need-returns Inv-loop μ-loop
 returns c =
+    let start = before-loop (c .before) in
     let loop = c .before .loop in
-    let args = c .before .before .before .before .before .before .before .before .args in
+    let args = start .args in
     let h = loop .inv in (
       spliced-end _ _ _ _ _ _ _ (loop .n) (args .width) (h .0) (c .loop-test .left) (h .4),
-      room-end _ _ _ _ _ _ _ (loop .n) (args .width) (args .spliced .now) (h .0) (c .loop-test .left) (c .before .before .before .before .before .before .before .before .pre .1 .3) (h .5),
+      room-end _ _ _ _ _ _ _ (loop .n) (args .width) (args .spliced .now) (h .0) (c .loop-test .left) (start .pre .1 .3) (h .5),
     )
 
 pub splice-spec : {M : Type 1} → statement M
 splice-spec =
     tie.close
-    (tie.spec
-    Inv-loop
-    μ-loop
-    loop-holds
-    splice-at-requires
-    mul-splice-one
-    splice-one-requires
-    add-n
-    loop-less
-    loop-again
-    same-length
-    same-length-2
-    same-length-3
-    returns)
+    (tie.spec Inv-loop μ-loop loop-holds (λ c κs. search needs) mul-splice-one splice-one-requires (λ c. search needs) (λ c. search needs) loop-again
+    (λ c. search needs) (λ c. search needs) (λ c. search needs) returns)

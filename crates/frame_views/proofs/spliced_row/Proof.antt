@@ -1,3 +1,4 @@
+-- `frame_views::spliced_row` meets its contract, by whether the frame is normalised.
 use borrow.Author.Needs.{needs}
 use mathlib.Core.Path.{refl, sym}
 use native.Mathlib.Omega.{arith}
@@ -12,17 +13,10 @@ slice-aggregate-result c = sym (length-take-le _ _ (omega arith))
 returns : tie.Need-returns
 returns c = (choose-true _ (c .before .if1 .taken) refl, length-take-le _ _ (omega arith))
 
-frame-requires : tie.Need-frame-requires
-frame-requires c κs = search needs
-
 returns-2 : tie.Need-returns-2
 returns-2 c = (choose-false _ (c .before .if1 .left) (c .frame .ensures .0), c .frame .ensures .1)
 
 pub spliced-row-spec : {M : Type 1} → statement M
 spliced-row-spec =
     tie.close
-    (tie.spec
-    slice-aggregate-result
-    returns
-    frame-requires
-    returns-2)
+    (tie.spec slice-aggregate-result returns (λ c κs. search needs) returns-2)

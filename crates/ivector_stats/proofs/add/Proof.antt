@@ -1,3 +1,5 @@
+-- `ivector_stats::add` meets its contract. The loop's invariant: a turn at each of the first c places; each place is made from its old value alone
+-- (`updated` in batch_sums/proofs/Rows.antt).
 use mathlib.Core.Path.{_≡_}
 use Prim.Native.Nat.{_≤_, _-_}
 use lib.ListN.{length, set}
@@ -16,36 +18,6 @@ Inv-loop row out₀ c₀ c-end out c =
 abbrev μ-loop : tie.MeasureT-loop
 μ-loop row out₀ c₀ c-end out c = c-end - c
 
-loop-holds : tie.Need-loop-holds Inv-loop μ-loop
-loop-holds c = search loops
-
-mul-out : tie.Need-mul-out Inv-loop μ-loop
-mul-out c = search loops
-
-shared-slice-read-out : tie.Need-shared-slice-read-out Inv-loop μ-loop
-shared-slice-read-out c = search loops
-
-mul-out-2 : tie.Need-mul-out-2 Inv-loop μ-loop
-mul-out-2 c = search loops
-
-slice-read-out : tie.Need-slice-read-out Inv-loop μ-loop
-slice-read-out c = search loops
-
-slice-write-out : tie.Need-slice-write-out Inv-loop μ-loop
-slice-write-out c = search loops
-
-add-c : tie.Need-add-c Inv-loop μ-loop
-add-c c = search loops
-
-loop-less : tie.Need-loop-less Inv-loop μ-loop
-loop-less c = search loops
-
-loop-again : tie.Need-loop-again Inv-loop μ-loop
-loop-again c = search loops
-
-same-length : tie.Need-same-length Inv-loop μ-loop
-same-length c = search loops
-
 returns : tie.Need-returns Inv-loop μ-loop
 returns c =
     let h = c .before .loop .inv in
@@ -54,17 +26,5 @@ returns c =
 pub add-spec : {M : Type 1} → statement M
 add-spec =
     tie.close
-    (tie.spec
-    Inv-loop
-    μ-loop
-    loop-holds
-    mul-out
-    shared-slice-read-out
-    mul-out-2
-    slice-read-out
-    slice-write-out
-    add-c
-    loop-less
-    loop-again
-    same-length
-    returns)
+    (tie.spec Inv-loop μ-loop (λ c. search loops) (λ c. search loops) (λ c. search loops) (λ c. search loops) (λ c. search loops) (λ c. search loops)
+    (λ c. search loops) (λ c. search loops) (λ c. search loops) (λ c. search loops) returns)

@@ -23,9 +23,17 @@ Inv-loop rows d s x out₀ a₀ out a =
 abbrev μ-loop : tie.MeasureT-loop
 μ-loop rows d s x out₀ a₀ out a = d - a
 
+-- ---- places in the code, each from the next that is named
+
+abbrev before-clear : tie.After-clear Inv-loop μ-loop → tie.Start Inv-loop μ-loop
+before-clear c = c .before .before .before .before .before
+
+abbrev before-loop : tie.At-loop Inv-loop μ-loop → tie.After-clear Inv-loop μ-loop
+before-loop c = c .before .before .before
+
 loop-holds : tie.Need-loop-holds Inv-loop μ-loop
 loop-holds c =
-    let start = c .before .before .before .before .before .before .before in
+    let start = before-clear (c .before .before) in
     (omega arith, refl, rows-none (start .args .d) (start .args .s) (start .args .rows .now) (at (start .args .x .now)) (c .before .before .clear .ensures))
 
 -- row a lies in the table
@@ -50,24 +58,25 @@ part-add-scaled-end c = ends (c .before)
 add-scaled-requires : tie.Need-add-scaled-requires Inv-loop μ-loop
 add-scaled-requires c κs =
     let at-loop = c .before .before .before .before in
-    let at-clear = at-loop .before .before .before in
-    let start = at-clear .before .before .before .before .before in
+    let at-clear = before-loop at-loop in
+    let start = before-clear at-clear in
     let part = length-lent (at-loop .loop .a * start .args .s) (start .args .s) _ (start .args .rows .now) refl (ends (c .before .before .before)) in
     le-of-eq (omega (arith, at-loop .loop .inv .1, at-clear .clear .kept .0, start .pre .2) ∙ sym part)
 
 loop-again : tie.Need-loop-again Inv-loop μ-loop
 loop-again c =
+    let at-loop-test = c .before .before .before .before .before .before in
+    let at-loop = at-loop-test .before in
+    let start = before-clear (before-loop at-loop) in
     let add-scaled = c .before .before .add-scaled in
-    let in-loop = c .before .before .before .before .before .before in
-    let loop = in-loop .before .loop in
-    let start = in-loop .before .before .before .before .before .before .before .before .before in
-    let turn = rows-turn (start .args .d) (start .args .s) (start .args .rows .now) (at (start .args .x .now)) (loop .a) (ends in-loop) (loop .inv .2) (add-scaled .ensures) in
-    (omega (arith, in-loop .loop-test .taken), add-scaled .kept .1 .1 .0 ∙ loop .inv .1, turn)
+    let loop = at-loop .loop in
+    let turn = rows-turn (start .args .d) (start .args .s) (start .args .rows .now) (at (start .args .x .now)) (loop .a) (ends at-loop-test) (loop .inv .2) (add-scaled .ensures) in
+    (omega (arith, at-loop-test .loop-test .taken), add-scaled .kept .1 .1 .0 ∙ loop .inv .1, turn)
 
 returns : tie.Need-returns Inv-loop μ-loop
 returns c =
+    let start = before-clear (before-loop (c .before)) in
     let loop = c .before .loop in
-    let start = c .before .before .before .before .before .before .before .before .before in
     let column : ℕ → ℕ → Float → Float = λ r a v. v +₆₄ at (start .args .rows .now) (a * start .args .s + r) *₆₄ at (start .args .x .now) a in
     columns-end nan (start .args .s) column (λ r. zero₆₄) (loop .a) _ (loop .inv .0) (c .loop-test .left) (loop .inv .2)
 

@@ -1,3 +1,5 @@
+-- `linear::backward` meets its contract. The outer invariant: t rows are solved from the back, as `backward` does it (`backwardStep`); the inner one: the
+-- products taken off so far (`lessens`, both in Cells.antt).
 use mathlib.Core.Path.{_≡_}
 use Prim.Native.Nat.{_≤_, _<_, _+_, _-_, _*_}
 use native.Mathlib.Omega.{arith}
@@ -31,24 +33,6 @@ Inv-loop l n y x₀ t₀ x t =
 abbrev μ-loop : tie.MeasureT-loop
 μ-loop l n y x₀ t₀ x t = n - t
 
-clear-requires : tie.Need-clear-requires Inv-loop2 μ-loop2 Inv-loop μ-loop
-clear-requires c κs = search (loops, lessens)
-
-loop-holds : tie.Need-loop-holds Inv-loop2 μ-loop2 Inv-loop μ-loop
-loop-holds c = search (loops, lessens)
-
-sub-i : tie.Need-sub-i Inv-loop2 μ-loop2 Inv-loop μ-loop
-sub-i c = omega arith
-
-sub-i-2 : tie.Need-sub-i-2 Inv-loop2 μ-loop2 Inv-loop μ-loop
-sub-i-2 c = omega arith
-
-mul-s : tie.Need-mul-s Inv-loop2 μ-loop2 Inv-loop μ-loop
-mul-s c = omega arith
-
-shared-slice-read-s : tie.Need-shared-slice-read-s Inv-loop2 μ-loop2 Inv-loop μ-loop
-shared-slice-read-s c = omega arith
-
 -- ---- places in the code, each from the next that is named
 
 abbrev before-clear : tie.After-clear Inv-loop2 μ-loop2 Inv-loop μ-loop → tie.Start Inv-loop2 μ-loop2 Inv-loop μ-loop
@@ -57,90 +41,45 @@ before-clear c = c .before .before .before .before .before
 abbrev before-loop : tie.At-loop Inv-loop2 μ-loop2 Inv-loop μ-loop → tie.After-clear Inv-loop2 μ-loop2 Inv-loop μ-loop
 before-loop c = c .before .before .before
 
+abbrev before-loop2 : tie.At-loop2 Inv-loop2 μ-loop2 Inv-loop μ-loop → tie.At-loop Inv-loop2 μ-loop2 Inv-loop μ-loop
+before-loop2 c = c .before .before .before
+
 loop2-holds : tie.Need-loop2-holds Inv-loop2 μ-loop2 Inv-loop μ-loop
 loop2-holds c =
     let start = before-clear (before-loop (c .before .before)) in
     (search loops, search loops, row-in _ _ _ _ (start .pre .0) (omega arith), less-none _ _ _)
 
-add-j : tie.Need-add-j Inv-loop2 μ-loop2 Inv-loop μ-loop
-add-j c = omega arith
-
-add-j-2 : tie.Need-add-j-2 Inv-loop2 μ-loop2 Inv-loop μ-loop
-add-j-2 c = omega arith
-
 mul-s-2 : tie.Need-mul-s-2 Inv-loop2 μ-loop2 Inv-loop μ-loop
 mul-s-2 c =
-    let at-loop = c .before .before .before .before in
+    let at-loop = before-loop2 (c .before) in
     let start = before-clear (before-loop at-loop) in
     omega (arith, row-in (start .args .n - 1 - (at-loop .loop) .t + 1 + (c .before .loop2) .k) _ _ _ (start .pre .0) (omega arith))
 
 add-s : tie.Need-add-s Inv-loop2 μ-loop2 Inv-loop μ-loop
 add-s c =
-    let at-loop = c .before .before .before .before in
+    let at-loop = before-loop2 (c .before) in
     let start = before-clear (before-loop at-loop) in
     omega (arith, row-in (start .args .n - 1 - (at-loop .loop) .t + 1 + (c .before .loop2) .k) _ _ _ (start .pre .0) (omega arith))
 
 mul-s-3 : tie.Need-mul-s-3 Inv-loop2 μ-loop2 Inv-loop μ-loop
 mul-s-3 c =
-    let at-loop = c .before .before .before .before in
+    let at-loop = before-loop2 (c .before) in
     let start = before-clear (before-loop at-loop) in
     omega (arith, row-in (start .args .n - 1 - (at-loop .loop) .t + 1 + (c .before .loop2) .k) _ _ _ (start .pre .0) (omega arith))
 
 shared-slice-read-s-2 : tie.Need-shared-slice-read-s-2 Inv-loop2 μ-loop2 Inv-loop μ-loop
 shared-slice-read-s-2 c =
-    let at-loop = c .before .before .before .before .before in
+    let at-loop = before-loop2 (c .before .before) in
     let start = before-clear (before-loop at-loop) in
     omega (arith, row-in (start .args .n - 1 - (at-loop .loop) .t + 1 + (c .before .before .loop2) .k) _ _ _ (start .pre .0) (omega arith))
 
-mul-s-4 : tie.Need-mul-s-4 Inv-loop2 μ-loop2 Inv-loop μ-loop
-mul-s-4 c = omega arith
-
-slice-read-s : tie.Need-slice-read-s Inv-loop2 μ-loop2 Inv-loop μ-loop
-slice-read-s c = omega arith
-
-add-k : tie.Need-add-k Inv-loop2 μ-loop2 Inv-loop μ-loop
-add-k c = omega arith
-
-loop2-less : tie.Need-loop2-less Inv-loop2 μ-loop2 Inv-loop μ-loop
-loop2-less c = omega arith
-
-loop2-again : tie.Need-loop2-again Inv-loop2 μ-loop2 Inv-loop μ-loop
-loop2-again c = search (loops, lessens)
-
-mul-x : tie.Need-mul-x Inv-loop2 μ-loop2 Inv-loop μ-loop
-mul-x c = omega arith
-
-add-x : tie.Need-add-x Inv-loop2 μ-loop2 Inv-loop μ-loop
-add-x c = omega arith
-
-mul-x-2 : tie.Need-mul-x-2 Inv-loop2 μ-loop2 Inv-loop μ-loop
-mul-x-2 c = omega arith
-
-shared-slice-read-x : tie.Need-shared-slice-read-x Inv-loop2 μ-loop2 Inv-loop μ-loop
-shared-slice-read-x c = omega arith
-
-mul-x-3 : tie.Need-mul-x-3 Inv-loop2 μ-loop2 Inv-loop μ-loop
-mul-x-3 c = omega arith
-
-slice-write-x : tie.Need-slice-write-x Inv-loop2 μ-loop2 Inv-loop μ-loop
-slice-write-x c = omega arith
-
-add-t : tie.Need-add-t Inv-loop2 μ-loop2 Inv-loop μ-loop
-add-t c = omega arith
-
-loop-less : tie.Need-loop-less Inv-loop2 μ-loop2 Inv-loop μ-loop
-loop-less c = omega arith
-
 loop-again : tie.Need-loop-again Inv-loop2 μ-loop2 Inv-loop μ-loop
 loop-again c =
-    let at-loop = c .before .before .before .before .before in
+    let at-loop = before-loop2 (c .before .before) in
     let start = before-clear (before-loop at-loop) in
     let g = c .before .before .loop2 in
     let i = (start .args) .n - 1 - (at-loop .loop) .t in
     (search loops, search loops, iter-step _ _ _ (at-loop .loop .inv .2) (ap (λ (s : Float). set (at-loop .loop .x) i (s /₆₄ at (start .args .l .now) (i * (start .args) .n + i))) (less-end _ _ _ _ _ (g .inv .0) (c .before .loop2-test .left) (g .inv .3))))
-
-same-length : tie.Need-same-length Inv-loop2 μ-loop2 Inv-loop μ-loop
-same-length c = search (loops, lessens)
 
 returns : tie.Need-returns Inv-loop2 μ-loop2 Inv-loop μ-loop
 unfolding backward
@@ -151,37 +90,7 @@ returns c =
 pub backward-spec : {M : Type 1} → statement M
 backward-spec =
     tie.close
-    (tie.spec
-    Inv-loop2
-    μ-loop2
-    Inv-loop
-    μ-loop
-    clear-requires
-    loop-holds
-    sub-i
-    sub-i-2
-    mul-s
-    shared-slice-read-s
-    loop2-holds
-    add-j
-    add-j-2
-    mul-s-2
-    add-s
-    mul-s-3
-    shared-slice-read-s-2
-    mul-s-4
-    slice-read-s
-    add-k
-    loop2-less
-    loop2-again
-    mul-x
-    add-x
-    mul-x-2
-    shared-slice-read-x
-    mul-x-3
-    slice-write-x
-    add-t
-    loop-less
-    loop-again
-    same-length
-    returns)
+    (tie.spec Inv-loop2 μ-loop2 Inv-loop μ-loop (λ c κs. search (loops, lessens)) (λ c. search (loops, lessens)) (λ c. omega arith) (λ c. omega arith)
+    (λ c. omega arith) (λ c. omega arith) loop2-holds (λ c. omega arith) (λ c. omega arith) mul-s-2 add-s mul-s-3 shared-slice-read-s-2 (λ c. omega arith)
+    (λ c. omega arith) (λ c. omega arith) (λ c. omega arith) (λ c. search (loops, lessens)) (λ c. omega arith) (λ c. omega arith) (λ c. omega arith)
+    (λ c. omega arith) (λ c. omega arith) (λ c. omega arith) (λ c. omega arith) (λ c. omega arith) loop-again (λ c. search (loops, lessens)) returns)

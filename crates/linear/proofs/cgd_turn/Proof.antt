@@ -1,3 +1,4 @@
+-- `linear::cgd_turn` meets its contract: what the steps leave is the definition's turn, the last (`turn-last`) or not (`turn-on`, both in Turns.antt).
 use borrow.Author.Needs.{needs}
 use mathlib.Core.Path.{_∙_}
 use native.Mathlib.Omega.{arith}
@@ -5,27 +6,6 @@ use Rattle.basics.proofs.Rows.{whole}
 use Rattle.linear.proofs.Turns.{turn-last, turn-on}
 use Rattle.linear.proofs.cgd_turn.Statement.{statement}
 use Rattle.linear.proofs.cgd_turn.Tie as tie
-
-sp-mat-vec-requires : tie.Need-sp-mat-vec-requires
-sp-mat-vec-requires c κs = search needs
-
-dot-requires : tie.Need-dot-requires
-dot-requires c κs = search needs
-
-dot-requires-2 : tie.Need-dot-requires-2
-dot-requires-2 c κs = search needs
-
-add-scaled-requires : tie.Need-add-scaled-requires
-add-scaled-requires c κs = search needs
-
-add-scaled-requires-2 : tie.Need-add-scaled-requires-2
-add-scaled-requires-2 c κs = search needs
-
-dot-requires-3 : tie.Need-dot-requires-3
-dot-requires-3 c κs = search needs
-
-stepped-requires : tie.Need-stepped-requires
-stepped-requires c κs = search needs
 
 -- ---- places in the code, each from the next that is named
 
@@ -53,6 +33,9 @@ before-recompute c = c .before .before .before .before
 abbrev before-is-last : tie.After-is-last → tie.After-recompute
 before-is-last c = c .before .before .before .before .before
 
+abbrev before-slice-known10 : tie.After-slice-known10 → tie.Else1
+before-slice-known10 c = c .before .before .before .before .before .before .before
+
 recompute-requires : tie.Need-recompute-requires
 recompute-requires c κs =
     let at-add-scaled2 = before-dot3 (c .before .before .before .before) in
@@ -60,18 +43,6 @@ recompute-requires c κs =
     let at-sp-mat-vec = before-dot (before-dot2 (before-add-scaled at-add-scaled)) in
     let start = before-sp-mat-vec at-sp-mat-vec in
     omega (arith, (start .pre), (at-add-scaled .add-scaled) .kept, (at-add-scaled2 .add-scaled2) .kept, (at-sp-mat-vec .sp-mat-vec) .kept)
-
-is-last-requires : tie.Need-is-last-requires
-is-last-requires c κs = search needs
-
-same-length : tie.Need-same-length
-same-length c = search needs
-
-same-length-2 : tie.Need-same-length-2
-same-length-2 c = search needs
-
-same-length-3 : tie.Need-same-length-3
-same-length-3 c = search needs
 
 same-length-4 : tie.Need-same-length-4
 same-length-4 c =
@@ -104,24 +75,18 @@ turned-requires c κs =
 
 same-length-5 : tie.Need-same-length-5
 same-length-5 c =
-    let at-add-scaled = before-add-scaled2 (before-dot3 ((before-recompute (before-is-last (c .before .before .before .before .before .before .before .before))) .before)) in
+    let at-add-scaled = before-add-scaled2 (before-dot3 ((before-recompute (before-is-last ((before-slice-known10 c) .before))) .before)) in
     (at-add-scaled .add-scaled) .kept .1 .1 .0
-
-same-length-6 : tie.Need-same-length-6
-same-length-6 c = search needs
-
-same-length-7 : tie.Need-same-length-7
-same-length-7 c = search needs
 
 same-length-8 : tie.Need-same-length-8
 same-length-8 c =
-    let at-recompute = before-is-last (c .before .before .before .before .before .before .before .before) in
+    let at-recompute = before-is-last ((before-slice-known10 c) .before) in
     let at-sp-mat-vec = before-dot (before-dot2 (before-add-scaled (before-add-scaled2 (before-dot3 ((before-recompute at-recompute) .before))))) in
     (at-recompute .recompute) .kept .1 .1 .1 .1 .1 .0 ∙ (at-sp-mat-vec .sp-mat-vec) .kept .1 .1 .1 .0
 
 returns-2 : tie.Need-returns-2
 returns-2 c =
-    let at-if1 = c .before .before .before .before .before .before .before in
+    let at-if1 = before-slice-known10 c in
     let at-is-last = at-if1 .before in
     let at-recompute = before-is-last at-is-last in
     let at-stepped = before-recompute at-recompute in
@@ -140,24 +105,6 @@ returns-2 c =
 pub cgd-turn-spec : {M : Type 1} → statement M
 cgd-turn-spec =
     tie.close
-    (tie.spec
-    sp-mat-vec-requires
-    dot-requires
-    dot-requires-2
-    add-scaled-requires
-    add-scaled-requires-2
-    dot-requires-3
-    stepped-requires
-    recompute-requires
-    is-last-requires
-    same-length
-    same-length-2
-    same-length-3
-    same-length-4
-    returns
-    turned-requires
-    same-length-5
-    same-length-6
-    same-length-7
-    same-length-8
-    returns-2)
+    (tie.spec (λ c κs. search needs) (λ c κs. search needs) (λ c κs. search needs) (λ c κs. search needs) (λ c κs. search needs) (λ c κs. search needs)
+    (λ c κs. search needs) recompute-requires (λ c κs. search needs) (λ c. search needs) (λ c. search needs) (λ c. search needs) same-length-4 returns
+    turned-requires same-length-5 (λ c. search needs) (λ c. search needs) same-length-8 returns-2)

@@ -1,3 +1,5 @@
+-- `linear::cgd_turns` meets its contract. The loop's invariant: the rooms are those after the turns taken, none of them the last (`next-turn`,
+-- `last-turn`, `turns-end` in Turns.antt).
 use borrow.Author.Needs.{needs}
 use mathlib.Core.Path.{_≡_, sym, _∙_}
 use Prim.Native.Nat.{_+_, _-_, _≤_, _<_, min}
@@ -26,8 +28,8 @@ before-loop c = c .before .before .before .before .before .before .before
 abbrev before-cgd-turn : tie.After-cgd-turn Inv-loop μ-loop → tie.Then1 Inv-loop μ-loop
 before-cgd-turn c = c .before .before .before .before .before
 
-abbrev before-if2 : tie.Else2 Inv-loop μ-loop → tie.After-cgd-turn Inv-loop μ-loop
-before-if2 c = c .before .before .before .before .before .before .before .before .before .before
+abbrev before-is-last : tie.After-is-last Inv-loop μ-loop → tie.After-cgd-turn Inv-loop μ-loop
+before-is-last c = c .before .before .before .before .before .before .before .before .before
 
 loop-holds : tie.Need-loop-holds Inv-loop μ-loop
 loop-holds c =
@@ -48,12 +50,9 @@ cgd-turn-requires c κs =
     let g : (at-loop .loop) .t .k < min (start .args .n + 5) (start .args .max-iters) = ltb-true _ _ (sym (at-goes-on .goes-on .ensures) ∙ (at-if1 .if1) .taken) in
     (omega (arith, min-le-left (start .args .n + 5) (start .args .max-iters), (start .pre) .1), (start .pre) .2, (start .pre) .3, (at-loop .loop) .inv .1, (at-loop .loop) .inv .2, (at-loop .loop) .inv .3, (at-loop .loop) .inv .4)
 
-is-last-requires : tie.Need-is-last-requires Inv-loop μ-loop
-is-last-requires c κs = search needs
-
 loop-less : tie.Need-loop-less Inv-loop μ-loop
 loop-less c =
-    let at-cgd-turn = before-if2 c in
+    let at-cgd-turn = before-is-last (c .before) in
     let at-if1 = before-cgd-turn at-cgd-turn in
     let at-goes-on = at-if1 .before in
     let at-loop = at-goes-on .before in
@@ -63,26 +62,16 @@ loop-less c =
 
 loop-again : tie.Need-loop-again Inv-loop μ-loop
 loop-again c =
-    let at-cgd-turn = before-if2 c in
+    let at-cgd-turn = before-is-last (c .before) in
     let at-if1 = before-cgd-turn at-cgd-turn in
     let at-goes-on = at-if1 .before in
     let at-loop = at-goes-on .before in
     let start = before-loop at-loop in
     let g : (at-loop .loop) .t .k < min (start .args .n + 5) (start .args .max-iters) = ltb-true _ _ (sym (at-goes-on .goes-on .ensures) ∙ (at-if1 .if1) .taken) in
     let i = at-loop .loop .inv in
-    (omega (arith, (at-cgd-turn .cgd-turn) .ensures .1), (at-cgd-turn .cgd-turn) .kept .1 .1 .1 .0 ∙ i .1, (at-cgd-turn .cgd-turn) .kept .1 .1 .1 .1 .0 ∙ i .2, (at-cgd-turn .cgd-turn) .kept .1 .1 .1 .1 .1 .0 ∙ i .3, (at-cgd-turn .cgd-turn) .kept .1 .1 .1 .1 .1 .1 .0 ∙ i .4, next-turn _ _ _ _ _ (i .5) _ (at-cgd-turn .cgd-turn .ensures .0) (c .before .is-last .ensures) (at-cgd-turn .cgd-turn .ensures .1) (c .if2 .left))
-
-same-length : tie.Need-same-length Inv-loop μ-loop
-same-length c = search needs
-
-same-length-2 : tie.Need-same-length-2 Inv-loop μ-loop
-same-length-2 c = search needs
-
-same-length-3 : tie.Need-same-length-3 Inv-loop μ-loop
-same-length-3 c = search needs
-
-same-length-4 : tie.Need-same-length-4 Inv-loop μ-loop
-same-length-4 c = search needs
+    let e = at-cgd-turn .cgd-turn .ensures in
+    let k = at-cgd-turn .cgd-turn .kept .1 .1 .1 in
+    (omega (arith, e .1), k .0 ∙ i .1, k .1 .0 ∙ i .2, k .1 .1 .0 ∙ i .3, k .1 .1 .1 .0 ∙ i .4, next-turn _ _ _ _ _ (i .5) _ (e .0) (c .before .is-last .ensures) (e .1) (c .if2 .left))
 
 returns : tie.Need-returns Inv-loop μ-loop
 returns c =
@@ -91,21 +80,9 @@ returns c =
     let g : min (start .args .n + 5) (start .args .max-iters) ≤ (at-loop .loop) .t .k = ltb-false _ _ (sym (c .before .goes-on .ensures) ∙ (c .if1) .left) in
     turns-end _ _ _ _ _ (at-loop .loop .inv .5) _ (at-loop .loop .inv .0) g
 
-same-length-5 : tie.Need-same-length-5 Inv-loop μ-loop
-same-length-5 c = search needs
-
-same-length-6 : tie.Need-same-length-6 Inv-loop μ-loop
-same-length-6 c = search needs
-
-same-length-7 : tie.Need-same-length-7 Inv-loop μ-loop
-same-length-7 c = search needs
-
-same-length-8 : tie.Need-same-length-8 Inv-loop μ-loop
-same-length-8 c = search needs
-
 returns-2 : tie.Need-returns-2 Inv-loop μ-loop
 returns-2 c =
-    let at-cgd-turn = c .before .before .before .before .before .before .before .before .before .before in
+    let at-cgd-turn = before-is-last (c .before) in
     let at-if1 = before-cgd-turn at-cgd-turn in
     let at-goes-on = at-if1 .before in
     let at-loop = at-goes-on .before in
@@ -116,22 +93,6 @@ returns-2 c =
 pub cgd-turns-spec : {M : Type 1} → statement M
 cgd-turns-spec =
     tie.close
-    (tie.spec
-    Inv-loop
-    μ-loop
-    loop-holds
-    goes-on-requires
-    cgd-turn-requires
-    is-last-requires
-    loop-less
-    loop-again
-    same-length
-    same-length-2
-    same-length-3
-    same-length-4
-    returns
-    same-length-5
-    same-length-6
-    same-length-7
-    same-length-8
+    (tie.spec Inv-loop μ-loop loop-holds goes-on-requires cgd-turn-requires (λ c κs. search needs) loop-less loop-again (λ c. search needs)
+    (λ c. search needs) (λ c. search needs) (λ c. search needs) returns (λ c. search needs) (λ c. search needs) (λ c. search needs) (λ c. search needs)
     returns-2)

@@ -1,3 +1,5 @@
+-- `linear::factor` meets its contract. The invariants: the rows, and the cells of a row, that the definition has gone through; a cell goes one of three ways
+-- (`cell-diagonal`, `cell-left`, `cell-beside` in Cells.antt).
 use mathlib.Core.Path.{_≡_, _∙_}
 use Prim.Native.Nat.{_≤_, _+_, _-_, _*_}
 use native.Mathlib.Omega.{arith}
@@ -40,15 +42,6 @@ Inv-rows a n l₀ ok₀ i₀ l ok i =
 abbrev μ-rows : tie.MeasureT-rows
 μ-rows a n l₀ ok₀ i₀ l ok i = n - i
 
-mul-clear : tie.Need-mul-clear Inv-loop2 μ-loop2 Inv-loop μ-loop Inv-rows μ-rows
-mul-clear c = omega arith
-
-clear-requires : tie.Need-clear-requires Inv-loop2 μ-loop2 Inv-loop μ-loop Inv-rows μ-rows
-clear-requires c κs = search (loops, leaves)
-
-rows-holds : tie.Need-rows-holds Inv-loop2 μ-loop2 Inv-loop μ-loop Inv-rows μ-rows
-rows-holds c = search (loops, leaves)
-
 -- ---- places in the code, each from the next that is named
 
 abbrev before-clear : tie.After-clear Inv-loop2 μ-loop2 Inv-loop μ-loop Inv-rows μ-rows → tie.Start Inv-loop2 μ-loop2 Inv-loop μ-loop Inv-rows μ-rows
@@ -64,9 +57,6 @@ mul-row : tie.Need-mul-row Inv-loop2 μ-loop2 Inv-loop μ-loop Inv-rows μ-rows
 mul-row c =
     let start = before-clear (before-rows (c .before)) in
     omega (arith, row-in (c .before .rows .i) (start .args .n) (start .args .n) (start .args .n * (start .args) .n) (omega arith) (c .rows-test .taken))
-
-add-end : tie.Need-add-end Inv-loop2 μ-loop2 Inv-loop μ-loop Inv-rows μ-rows
-add-end c = omega arith
 
 loop-holds : tie.Need-loop-holds Inv-loop2 μ-loop2 Inv-loop μ-loop Inv-rows μ-rows
 loop-holds c =
@@ -99,68 +89,8 @@ loop2-holds c =
     let start = before-clear (before-rows (c .before .before .before .before .before)) in
     (search loops, omega (arith, row-in (c .before .before .before .loop .j) (start .args .n) (start .args .n) (start .args .n * (start .args) .n) (omega arith) (omega arith)), search loops, ap (at (start .args .a .now)) (c .before .packed-index .ensures) ∙ less-none _ _ _)
 
-add-s : tie.Need-add-s Inv-loop2 μ-loop2 Inv-loop μ-loop Inv-rows μ-rows
-add-s c = omega arith
-
-mul-s-2 : tie.Need-mul-s-2 Inv-loop2 μ-loop2 Inv-loop μ-loop Inv-rows μ-rows
-mul-s-2 c = omega arith
-
-slice-read-s : tie.Need-slice-read-s Inv-loop2 μ-loop2 Inv-loop μ-loop Inv-rows μ-rows
-slice-read-s c = omega arith
-
-add-s-2 : tie.Need-add-s-2 Inv-loop2 μ-loop2 Inv-loop μ-loop Inv-rows μ-rows
-add-s-2 c = omega arith
-
-mul-s-3 : tie.Need-mul-s-3 Inv-loop2 μ-loop2 Inv-loop μ-loop Inv-rows μ-rows
-mul-s-3 c = omega arith
-
-slice-read-s-2 : tie.Need-slice-read-s-2 Inv-loop2 μ-loop2 Inv-loop μ-loop Inv-rows μ-rows
-slice-read-s-2 c = omega arith
-
-add-k : tie.Need-add-k Inv-loop2 μ-loop2 Inv-loop μ-loop Inv-rows μ-rows
-add-k c = omega arith
-
-loop2-less : tie.Need-loop2-less Inv-loop2 μ-loop2 Inv-loop μ-loop Inv-rows μ-rows
-loop2-less c = omega arith
-
 loop2-again : tie.Need-loop2-again Inv-loop2 μ-loop2 Inv-loop μ-loop Inv-rows μ-rows
 loop2-again c = (search loops, search loops, search loops, less-next _ _ _ _ ((c .before .before .before .loop2) .inv .3))
-
-sqrt-requires : tie.Need-sqrt-requires Inv-loop2 μ-loop2 Inv-loop μ-loop Inv-rows μ-rows
-sqrt-requires c κs = search (loops, leaves)
-
-add-l : tie.Need-add-l Inv-loop2 μ-loop2 Inv-loop μ-loop Inv-rows μ-rows
-add-l c = omega arith
-
-mul-l : tie.Need-mul-l Inv-loop2 μ-loop2 Inv-loop μ-loop Inv-rows μ-rows
-mul-l c = omega arith
-
-slice-write-l : tie.Need-slice-write-l Inv-loop2 μ-loop2 Inv-loop μ-loop Inv-rows μ-rows
-slice-write-l c = omega arith
-
-add-l-2 : tie.Need-add-l-2 Inv-loop2 μ-loop2 Inv-loop μ-loop Inv-rows μ-rows
-add-l-2 c = omega arith
-
-mul-l-2 : tie.Need-mul-l-2 Inv-loop2 μ-loop2 Inv-loop μ-loop Inv-rows μ-rows
-mul-l-2 c = omega arith
-
-slice-read-l : tie.Need-slice-read-l Inv-loop2 μ-loop2 Inv-loop μ-loop Inv-rows μ-rows
-slice-read-l c = omega arith
-
-add-l-3 : tie.Need-add-l-3 Inv-loop2 μ-loop2 Inv-loop μ-loop Inv-rows μ-rows
-add-l-3 c = omega arith
-
-mul-l-3 : tie.Need-mul-l-3 Inv-loop2 μ-loop2 Inv-loop μ-loop Inv-rows μ-rows
-mul-l-3 c = omega arith
-
-slice-write-l-2 : tie.Need-slice-write-l-2 Inv-loop2 μ-loop2 Inv-loop μ-loop Inv-rows μ-rows
-slice-write-l-2 c = omega arith
-
-add-j : tie.Need-add-j Inv-loop2 μ-loop2 Inv-loop μ-loop Inv-rows μ-rows
-add-j c = omega arith
-
-loop-less : tie.Need-loop-less Inv-loop2 μ-loop2 Inv-loop μ-loop Inv-rows μ-rows
-loop-less c = omega arith
 
 loop-again : tie.Need-loop-again Inv-loop2 μ-loop2 Inv-loop μ-loop Inv-rows μ-rows
 loop-again c =
@@ -177,17 +107,8 @@ loop-again c =
           (⊎-elim (λ w. cell-diagonal _ _ _ _ _ whole (w .0 .taken) (w .1 .left) (w .2 .ensures) (w .3)) (λ w. cell-beside _ _ _ _ _ whole (w .0 .left) (w .2)) (c .if1 .came)),
     )
 
-add-i : tie.Need-add-i Inv-loop2 μ-loop2 Inv-loop μ-loop Inv-rows μ-rows
-add-i c = omega arith
-
-rows-less : tie.Need-rows-less Inv-loop2 μ-loop2 Inv-loop μ-loop Inv-rows μ-rows
-rows-less c = omega arith
-
 rows-again : tie.Need-rows-again Inv-loop2 μ-loop2 Inv-loop μ-loop Inv-rows μ-rows
 rows-again c = (search loops, search loops, search loops, leave-step _ _ _ ((c .before .before .before .rows) .inv .3) (leave-end _ _ _ _ ((c .before .loop) .inv .0) ((c .loop-test) .left) ((c .before .loop) .inv .4)))
-
-same-length : tie.Need-same-length Inv-loop2 μ-loop2 Inv-loop μ-loop Inv-rows μ-rows
-same-length c = search (loops, leaves)
 
 returns : tie.Need-returns Inv-loop2 μ-loop2 Inv-loop μ-loop Inv-rows μ-rows
 unfolding factor
@@ -195,9 +116,6 @@ returns c =
     let at-clear = before-rows (c .before) in
     let start = before-clear at-clear in
     ap (λ (z : Bool). done z (c .before .rows .l)) (c .before .rows .inv .2) ∙ leave-end _ _ _ _ (c .before .rows .inv .0) (c .rows-test .left) (c .before .rows .inv .3) ∙ ap (leave (start .args .n) (λ i. leave (i + 1) (cell (start .args .a .now) (start .args .n) i))) (at-clear .clear .ensures)
-
-same-length-2 : tie.Need-same-length-2 Inv-loop2 μ-loop2 Inv-loop μ-loop Inv-rows μ-rows
-same-length-2 c = search (loops, leaves)
 
 returns-2 : tie.Need-returns-2 Inv-loop2 μ-loop2 Inv-loop μ-loop Inv-rows μ-rows
 unfolding factor
@@ -216,50 +134,9 @@ returns-2 c =
 pub factor-spec : {M : Type 1} → statement M
 factor-spec =
     tie.close
-    (tie.spec
-    Inv-loop2
-    μ-loop2
-    Inv-loop
-    μ-loop
-    Inv-rows
-    μ-rows
-    mul-clear
-    clear-requires
-    rows-holds
-    mul-row
-    add-end
-    loop-holds
-    mul-other
-    packed-index-requires
-    mul-s
-    shared-slice-read-s
-    loop2-holds
-    add-s
-    mul-s-2
-    slice-read-s
-    add-s-2
-    mul-s-3
-    slice-read-s-2
-    add-k
-    loop2-less
-    loop2-again
-    sqrt-requires
-    add-l
-    mul-l
-    slice-write-l
-    add-l-2
-    mul-l-2
-    slice-read-l
-    add-l-3
-    mul-l-3
-    slice-write-l-2
-    add-j
-    loop-less
-    loop-again
-    add-i
-    rows-less
-    rows-again
-    same-length
-    returns
-    same-length-2
-    returns-2)
+    (tie.spec Inv-loop2 μ-loop2 Inv-loop μ-loop Inv-rows μ-rows (λ c. omega arith) (λ c κs. search (loops, leaves)) (λ c. search (loops, leaves)) mul-row
+    (λ c. omega arith) loop-holds mul-other packed-index-requires mul-s shared-slice-read-s loop2-holds (λ c. omega arith) (λ c. omega arith)
+    (λ c. omega arith) (λ c. omega arith) (λ c. omega arith) (λ c. omega arith) (λ c. omega arith) (λ c. omega arith) loop2-again
+    (λ c κs. search (loops, leaves)) (λ c. omega arith) (λ c. omega arith) (λ c. omega arith) (λ c. omega arith) (λ c. omega arith) (λ c. omega arith)
+    (λ c. omega arith) (λ c. omega arith) (λ c. omega arith) (λ c. omega arith) (λ c. omega arith) loop-again (λ c. omega arith) (λ c. omega arith)
+    rows-again (λ c. search (loops, leaves)) returns (λ c. search (loops, leaves)) returns-2)

@@ -1,3 +1,5 @@
+-- `linear::linear_cgd_in` meets its contract, by whether the residual got worse: the vector stays (`stays`), or the exact solution or the start takes its
+-- place (`gives-up`, both in Turns.antt). The rooms keep their lengths from call to call.
 use borrow.Author.Needs.{needs}
 use mathlib.Core.Path.{ap, _∙_}
 use lib.ListN.{length}
@@ -17,11 +19,17 @@ before-cgd-begin-arg4 c = c .before .before .before .before .before .before .bef
 abbrev before-cgd-turns-arg4 : tie.After-cgd-turns-arg4 → tie.After-cgd-begin
 before-cgd-turns-arg4 c = c .before .before .before .before .before .before .before .before .before .before
 
-abbrev before-dot : tie.After-dot → tie.After-cgd-turns
-before-dot c = c .before .before .before .before .before .before .before .before .before
+abbrev before-ap2 : tie.After-ap2 → tie.After-cgd-turns
+before-ap2 c = c .before .before .before .before .before .before .before
+
+abbrev before-dot : tie.After-dot → tie.After-ap2
+before-dot c = c .before .before
 
 abbrev before-exact-or-start : tie.After-exact-or-start → tie.Then1
 before-exact-or-start c = c .before .before .before .before
+
+abbrev before-slice-known15 : tie.After-slice-known15 → tie.After-exact-or-start
+before-slice-known15 c = c .before .before .before .before .before .before
 
 cgd-begin-requires : tie.Need-cgd-begin-requires
 cgd-begin-requires c κs =
@@ -36,106 +44,90 @@ cgd-turns-requires c κs =
 
 dot-requires : tie.Need-dot-requires
 dot-requires c κs =
-    let start = before-cgd-begin-arg4 ((before-cgd-turns-arg4 (c .before .before .before .before .before .before .before .before .before)) .before) in
+    let start = before-cgd-begin-arg4 ((before-cgd-turns-arg4 ((before-ap2 (c .before)) .before)) .before) in
     (start .pre .3, (start .pre) .3)
-
-is-worse-requires : tie.Need-is-worse-requires
-is-worse-requires c κs = search needs
 
 exact-or-start-requires : tie.Need-exact-or-start-requires
 exact-or-start-requires c κs =
-    let at-cgd-turns = before-dot (c .before .before .before .before .before) in
+    let at-cgd-turns = before-ap2 (before-dot (c .before .before .before .before .before)) in
     let at-cgd-begin = before-cgd-turns-arg4 (at-cgd-turns .before) in
     let start = before-cgd-begin-arg4 (at-cgd-begin .before) in
     (start .pre .1, (start .pre) .2, (start .pre) .3, (at-cgd-turns .cgd-turns) .kept .1 .1 .1 .0 ∙ (start .pre) .4, ap length (start .pre .0) ∙ (start .pre) .4, (start .pre) .8, (at-cgd-turns .cgd-turns) .kept .1 .1 .1 .1 .1 .1 .0 ∙ (at-cgd-begin .cgd-begin) .kept .1 .1 .1 .1 .1 .1 .0 ∙ (start .pre) .7)
 
 same-length : tie.Need-same-length
 same-length c =
-    let at-exact-or-start = c .before .before .before .before .before .before in
-    let at-cgd-turns = before-dot (((before-exact-or-start at-exact-or-start) .before) .before) in
+    let at-exact-or-start = before-slice-known15 c in
+    let at-cgd-turns = before-ap2 (before-dot (((before-exact-or-start at-exact-or-start) .before) .before)) in
     (at-exact-or-start .exact-or-start) .kept .1 .1 .1 .0 ∙ (at-cgd-turns .cgd-turns) .kept .1 .1 .1 .0
 
 same-length-2 : tie.Need-same-length-2
 same-length-2 c =
-    let at-cgd-turns = before-dot (((before-exact-or-start (c .before .before .before .before .before .before)) .before) .before) in
+    let at-cgd-turns = before-ap2 (before-dot (((before-exact-or-start (before-slice-known15 c)) .before) .before)) in
     let at-cgd-begin = before-cgd-turns-arg4 (at-cgd-turns .before) in
     (at-cgd-turns .cgd-turns) .kept .1 .1 .1 .1 .0 ∙ (at-cgd-begin .cgd-begin) .kept .1 .1 .1 .1 .0
 
 same-length-3 : tie.Need-same-length-3
 same-length-3 c =
-    let at-cgd-turns = before-dot (((before-exact-or-start (c .before .before .before .before .before .before)) .before) .before) in
+    let at-cgd-turns = before-ap2 (before-dot (((before-exact-or-start (before-slice-known15 c)) .before) .before)) in
     let at-cgd-begin = before-cgd-turns-arg4 (at-cgd-turns .before) in
     (at-cgd-turns .cgd-turns) .kept .1 .1 .1 .1 .1 .0 ∙ (at-cgd-begin .cgd-begin) .kept .1 .1 .1 .1 .1 .0
 
 same-length-4 : tie.Need-same-length-4
 same-length-4 c =
-    let at-exact-or-start = c .before .before .before .before .before .before in
-    let at-cgd-turns = before-dot (((before-exact-or-start at-exact-or-start) .before) .before) in
+    let at-exact-or-start = before-slice-known15 c in
+    let at-cgd-turns = before-ap2 (before-dot (((before-exact-or-start at-exact-or-start) .before) .before)) in
     let at-cgd-begin = before-cgd-turns-arg4 (at-cgd-turns .before) in
     (at-exact-or-start .exact-or-start) .kept .1 .1 .1 .1 .1 .1 .0 ∙ (at-cgd-turns .cgd-turns) .kept .1 .1 .1 .1 .1 .1 .0 ∙ (at-cgd-begin .cgd-begin) .kept .1 .1 .1 .1 .1 .1 .0
 
 same-length-5 : tie.Need-same-length-5
 same-length-5 c =
-    let at-exact-or-start = c .before .before .before .before .before .before in
+    let at-exact-or-start = before-slice-known15 c in
     (at-exact-or-start .exact-or-start) .kept .1 .1 .1 .1 .1 .0
 
 returns : tie.Need-returns
 returns c =
-    let at-exact-or-start = c .before .before .before .before .before .before in
+    let at-exact-or-start = before-slice-known15 c in
     let at-if1 = before-exact-or-start at-exact-or-start in
     let at-is-worse = at-if1 .before in
     let at-dot = at-is-worse .before in
-    let at-cgd-turns = before-dot at-dot in
+    let at-cgd-turns = before-ap2 (before-dot at-dot) in
     let at-cgd-begin = before-cgd-turns-arg4 (at-cgd-turns .before) in
     let start = before-cgd-begin-arg4 (at-cgd-begin .before) in
-    gives-up _ _ _ _ _ (at-cgd-begin .cgd-begin .result) (at-cgd-turns .cgd-turns .result) (at-cgd-begin .cgd-begin .ensures .0) (at-cgd-turns .cgd-turns .ensures) (at-dot .dot .ensures) (at-is-worse .is-worse .ensures) (at-if1 .if1 .taken) (at-exact-or-start .exact-or-start .ensures ∙ ap (λ (x : List Float). solvedOr x (start .args .n) (start .args .b .now) (factor (start .args .a .now) (start .args .n))) (start .pre .0))
+    let from-x : List Float → List Float = λ x. solvedOr x (start .args .n) (start .args .b .now) (factor (start .args .a .now) (start .args .n)) in
+    gives-up _ _ _ _ _ (at-cgd-begin .cgd-begin .result) (at-cgd-turns .cgd-turns .result) (at-cgd-begin .cgd-begin .ensures .0) (at-cgd-turns .cgd-turns .ensures)
+    (at-dot .dot .ensures) (at-is-worse .is-worse .ensures) (at-if1 .if1 .taken) (at-exact-or-start .exact-or-start .ensures ∙ ap from-x (start .pre .0))
 
 same-length-6 : tie.Need-same-length-6
 same-length-6 c =
-    let at-cgd-turns = before-dot (c .before .before) in
+    let at-cgd-turns = before-ap2 (before-dot (c .before .before)) in
     (at-cgd-turns .cgd-turns) .kept .1 .1 .1 .0
 
 same-length-7 : tie.Need-same-length-7
 same-length-7 c =
-    let at-cgd-turns = before-dot (c .before .before) in
+    let at-cgd-turns = before-ap2 (before-dot (c .before .before)) in
     let at-cgd-begin = before-cgd-turns-arg4 (at-cgd-turns .before) in
     (at-cgd-turns .cgd-turns) .kept .1 .1 .1 .1 .0 ∙ (at-cgd-begin .cgd-begin) .kept .1 .1 .1 .1 .0
 
 same-length-8 : tie.Need-same-length-8
 same-length-8 c =
-    let at-cgd-turns = before-dot (c .before .before) in
+    let at-cgd-turns = before-ap2 (before-dot (c .before .before)) in
     let at-cgd-begin = before-cgd-turns-arg4 (at-cgd-turns .before) in
     (at-cgd-turns .cgd-turns) .kept .1 .1 .1 .1 .1 .0 ∙ (at-cgd-begin .cgd-begin) .kept .1 .1 .1 .1 .1 .0
 
 same-length-9 : tie.Need-same-length-9
 same-length-9 c =
-    let at-cgd-turns = before-dot (c .before .before) in
+    let at-cgd-turns = before-ap2 (before-dot (c .before .before)) in
     let at-cgd-begin = before-cgd-turns-arg4 (at-cgd-turns .before) in
     (at-cgd-turns .cgd-turns) .kept .1 .1 .1 .1 .1 .1 .0 ∙ (at-cgd-begin .cgd-begin) .kept .1 .1 .1 .1 .1 .1 .0
 
 returns-2 : tie.Need-returns-2
 returns-2 c =
-    let at-cgd-turns = before-dot (c .before .before) in
+    let at-cgd-turns = before-ap2 (before-dot (c .before .before)) in
     let at-cgd-begin = before-cgd-turns-arg4 (at-cgd-turns .before) in
     stays _ _ _ _ _ (at-cgd-begin .cgd-begin .result) (at-cgd-turns .cgd-turns .result) (at-cgd-begin .cgd-begin .ensures .0) (at-cgd-turns .cgd-turns .ensures) (c .before .before .dot .ensures) (c .before .is-worse .ensures) (c .if1 .left)
 
 pub linear-cgd-in-spec : {M : Type 1} → statement M
 linear-cgd-in-spec =
     tie.close
-    (tie.spec
-    cgd-begin-requires
-    cgd-turns-requires
-    dot-requires
-    is-worse-requires
-    exact-or-start-requires
-    same-length
-    same-length-2
-    same-length-3
-    same-length-4
-    same-length-5
-    returns
-    same-length-6
-    same-length-7
-    same-length-8
-    same-length-9
-    returns-2)
+    (tie.spec cgd-begin-requires cgd-turns-requires dot-requires (λ c κs. search needs) exact-or-start-requires same-length same-length-2 same-length-3
+    same-length-4 same-length-5 returns same-length-6 same-length-7 same-length-8 same-length-9 returns-2)

@@ -1,30 +1,10 @@
+-- `linear::recompute` meets its contract, by whether the residual is far from the last one (`renew-far`, `renew-near` in Turns.antt).
 use borrow.Author.Needs.{needs}
 use mathlib.Core.Path.{_∙_}
 use Rattle.loops.proofs.Fill.{fill-whole}
 use Rattle.linear.proofs.Turns.{renew-far, renew-near}
 use Rattle.linear.proofs.recompute.Statement.{statement}
 use Rattle.linear.proofs.recompute.Tie as tie
-
-is-far-requires : tie.Need-is-far-requires
-is-far-requires c κs = search needs
-
-sp-mat-vec-requires : tie.Need-sp-mat-vec-requires
-sp-mat-vec-requires c κs = search needs
-
-difference-requires : tie.Need-difference-requires
-difference-requires c κs = search needs
-
-dot-requires : tie.Need-dot-requires
-dot-requires c κs = search needs
-
-recomputed-requires : tie.Need-recomputed-requires
-recomputed-requires c κs = search needs
-
-same-length : tie.Need-same-length
-same-length c = search needs
-
-same-length-2 : tie.Need-same-length-2
-same-length-2 c = search needs
 
 -- ---- places in the code, each from the next that is named
 
@@ -49,13 +29,5 @@ returns-2 c =
 pub recompute-spec : {M : Type 1} → statement M
 recompute-spec =
     tie.close
-    (tie.spec
-    is-far-requires
-    sp-mat-vec-requires
-    difference-requires
-    dot-requires
-    recomputed-requires
-    same-length
-    same-length-2
-    returns
-    returns-2)
+    (tie.spec (λ c κs. search needs) (λ c κs. search needs) (λ c κs. search needs) (λ c κs. search needs) (λ c κs. search needs) (λ c. search needs)
+    (λ c. search needs) returns returns-2)

@@ -1,3 +1,5 @@
+-- `linear::turned` meets its contract. The loop's invariant: a turn at each of the first i places; each place is made from its old value alone (`updated`
+-- in packed_matrix/proofs/Rooms.antt).
 use mathlib.Core.Path.{_≡_}
 use Prim.Native.Nat.{_≤_, _-_, _*_}
 use native.Mathlib.Omega.{arith}
@@ -17,39 +19,6 @@ Inv-loop beta r n p₀ i₀ p i =
 abbrev μ-loop : tie.MeasureT-loop
 μ-loop beta r n p₀ i₀ p i = n - i
 
-loop-holds : tie.Need-loop-holds Inv-loop μ-loop
-loop-holds c = search loops
-
-mul-p : tie.Need-mul-p Inv-loop μ-loop
-mul-p c = omega arith
-
-slice-read-p : tie.Need-slice-read-p Inv-loop μ-loop
-slice-read-p c = omega arith
-
-mul-p-2 : tie.Need-mul-p-2 Inv-loop μ-loop
-mul-p-2 c = omega arith
-
-shared-slice-read-p : tie.Need-shared-slice-read-p Inv-loop μ-loop
-shared-slice-read-p c = omega arith
-
-mul-p-3 : tie.Need-mul-p-3 Inv-loop μ-loop
-mul-p-3 c = omega arith
-
-slice-write-p : tie.Need-slice-write-p Inv-loop μ-loop
-slice-write-p c = omega arith
-
-add-i : tie.Need-add-i Inv-loop μ-loop
-add-i c = omega arith
-
-loop-less : tie.Need-loop-less Inv-loop μ-loop
-loop-less c = omega arith
-
-loop-again : tie.Need-loop-again Inv-loop μ-loop
-loop-again c = search loops
-
-same-length : tie.Need-same-length Inv-loop μ-loop
-same-length c = search loops
-
 returns : tie.Need-returns Inv-loop μ-loop
 returns c =
     let start = c .before .before in
@@ -58,18 +27,5 @@ returns c =
 pub turned-spec : {M : Type 1} → statement M
 turned-spec =
     tie.close
-    (tie.spec
-    Inv-loop
-    μ-loop
-    loop-holds
-    mul-p
-    slice-read-p
-    mul-p-2
-    shared-slice-read-p
-    mul-p-3
-    slice-write-p
-    add-i
-    loop-less
-    loop-again
-    same-length
-    returns)
+    (tie.spec Inv-loop μ-loop (λ c. search loops) (λ c. omega arith) (λ c. omega arith) (λ c. omega arith) (λ c. omega arith) (λ c. omega arith)
+    (λ c. omega arith) (λ c. omega arith) (λ c. omega arith) (λ c. search loops) (λ c. search loops) returns)

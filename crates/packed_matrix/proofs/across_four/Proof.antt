@@ -1,3 +1,5 @@
+-- `packed_matrix::across_four` meets its contract. The loop's invariant: a turn at each of the first k places; each place is made from its old value alone
+-- (`iter-fill` in loops/proofs/Fill.antt).
 use borrow.Author.Needs.{needs}
 use mathlib.Core.Path.{_≡_, ap, _∙_}
 use Prim.Native.Nat.{_≤_, _+_, _-_}
@@ -19,70 +21,20 @@ Inv-loop a r0 r1 r2 r3 x j y₀ k₀ y k =
 abbrev μ-loop : tie.MeasureT-loop
 μ-loop a r0 r1 r2 r3 x j y₀ k₀ y k = j - k
 
-loop-holds : tie.Need-loop-holds Inv-loop μ-loop
-loop-holds c = search loops
-
-mul-four-more : tie.Need-mul-four-more Inv-loop μ-loop
-mul-four-more c = omega arith
-
-slice-read-four-more : tie.Need-slice-read-four-more Inv-loop μ-loop
-slice-read-four-more c = omega arith
-
-add-four-more : tie.Need-add-four-more Inv-loop μ-loop
-add-four-more c = omega arith
-
-add-four-more-2 : tie.Need-add-four-more-2 Inv-loop μ-loop
-add-four-more-2 c = omega arith
-
-add-four-more-3 : tie.Need-add-four-more-3 Inv-loop μ-loop
-add-four-more-3 c = omega arith
-
-add-four-more-4 : tie.Need-add-four-more-4 Inv-loop μ-loop
-add-four-more-4 c = omega arith
-
-four-more-requires : tie.Need-four-more-requires Inv-loop μ-loop
-four-more-requires c κs = search needs
-
-mul-y : tie.Need-mul-y Inv-loop μ-loop
-mul-y c = omega arith
-
-slice-write-y : tie.Need-slice-write-y Inv-loop μ-loop
-slice-write-y c = omega arith
-
-add-k : tie.Need-add-k Inv-loop μ-loop
-add-k c = omega arith
-
-loop-less : tie.Need-loop-less Inv-loop μ-loop
-loop-less c = omega arith
-
 loop-again : tie.Need-loop-again Inv-loop μ-loop
-loop-again c = (omega arith, search loops, iter-step _ _ _ ((c .before .before .before .loop) .inv .2) (ap (λ (v : Float). set ((c .before .before .before .loop) .y) ((c .before .before .before .loop) .k) v) ((c .four-more) .ensures)))
-
-same-length : tie.Need-same-length Inv-loop μ-loop
-same-length c = search loops
+loop-again c =
+    let at-loop = c .before .before .before in
+    (omega arith, search loops, iter-step _ _ _ (at-loop .loop .inv .2) (ap (λ (v : Float). set (at-loop .loop .y) (at-loop .loop .k) v) (c .four-more .ensures)))
 
 returns : tie.Need-returns Inv-loop μ-loop
-returns c = let s = (c .before .before .before .before .before .args) in
-    iter-end _ _ _ _ ((c .before .loop) .inv .0) ((c .loop-test) .left) ((c .before .loop) .inv .2) ∙ iter-fill nan (λ k v. fourMore (s .a .now) (s .x .now) (s .j) (s .r0 + k) (s .r1 + k) (s .r2 + k) (s .r3 + k) v) _ _ (omega arith)
+returns c =
+    let start = c .before .before .before .before .before in
+    let s = start .args in
+    iter-end _ _ _ _ (c .before .loop .inv .0) (c .loop-test .left) (c .before .loop .inv .2) ∙ iter-fill nan (λ k v. fourMore (s .a .now) (s .x .now) (s .j) (s .r0 + k) (s .r1 + k) (s .r2 + k) (s .r3 + k) v) _ _ (omega arith)
 
 pub across-four-spec : {M : Type 1} → statement M
 across-four-spec =
     tie.close
-    (tie.spec
-    Inv-loop
-    μ-loop
-    loop-holds
-    mul-four-more
-    slice-read-four-more
-    add-four-more
-    add-four-more-2
-    add-four-more-3
-    add-four-more-4
-    four-more-requires
-    mul-y
-    slice-write-y
-    add-k
-    loop-less
-    loop-again
-    same-length
+    (tie.spec Inv-loop μ-loop (λ c. search loops) (λ c. omega arith) (λ c. omega arith) (λ c. omega arith) (λ c. omega arith) (λ c. omega arith)
+    (λ c. omega arith) (λ c κs. search needs) (λ c. omega arith) (λ c. omega arith) (λ c. omega arith) (λ c. omega arith) loop-again (λ c. search loops)
     returns)

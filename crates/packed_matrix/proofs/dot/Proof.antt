@@ -1,3 +1,4 @@
+-- `packed_matrix::dot` meets its contract. The loop's invariant: the sum of the first i products, from -0.0 on.
 use mathlib.Core.Path.{_≡_}
 use Prim.Native.Nat.{_≤_, _-_, _*_}
 use native.Mathlib.Omega.{arith}
@@ -15,30 +16,6 @@ Inv-loop a b n s₀ i₀ s i =
 abbrev μ-loop : tie.MeasureT-loop
 μ-loop a b n s₀ i₀ s i = n - i
 
-loop-holds : tie.Need-loop-holds Inv-loop μ-loop
-loop-holds c = search loops
-
-mul-s : tie.Need-mul-s Inv-loop μ-loop
-mul-s c = omega arith
-
-shared-slice-read-s : tie.Need-shared-slice-read-s Inv-loop μ-loop
-shared-slice-read-s c = omega arith
-
-mul-s-2 : tie.Need-mul-s-2 Inv-loop μ-loop
-mul-s-2 c = omega arith
-
-shared-slice-read-s-2 : tie.Need-shared-slice-read-s-2 Inv-loop μ-loop
-shared-slice-read-s-2 c = omega arith
-
-add-i : tie.Need-add-i Inv-loop μ-loop
-add-i c = omega arith
-
-loop-less : tie.Need-loop-less Inv-loop μ-loop
-loop-less c = omega arith
-
-loop-again : tie.Need-loop-again Inv-loop μ-loop
-loop-again c = search loops
-
 returns : tie.Need-returns Inv-loop μ-loop
 unfolding dot
 returns c = search loops
@@ -46,15 +23,5 @@ returns c = search loops
 pub dot-spec : {M : Type 1} → statement M
 dot-spec =
     tie.close
-    (tie.spec
-    Inv-loop
-    μ-loop
-    loop-holds
-    mul-s
-    shared-slice-read-s
-    mul-s-2
-    shared-slice-read-s-2
-    add-i
-    loop-less
-    loop-again
-    returns)
+    (tie.spec Inv-loop μ-loop (λ c. search loops) (λ c. omega arith) (λ c. omega arith) (λ c. omega arith) (λ c. omega arith) (λ c. omega arith)
+    (λ c. omega arith) (λ c. search loops) returns)

@@ -1,3 +1,4 @@
+-- `table_sums::factor` meets its contract, by its test.
 use Rattle.table_sums.proofs.factor.Statement.{statement}
 use Rattle.table_sums.proofs.factor.Tie as tie
 

@@ -1,3 +1,4 @@
+-- `CgdState::is_worse` meets its contract, by its first test.
 use Rattle.linear.proofs.CgdState.is_worse.Statement.{statement}
 use Rattle.linear.proofs.CgdState.is_worse.Tie as tie
 
@@ -10,6 +11,4 @@ returns-2 c = simp ((c .if1) .left)
 pub is-worse-spec : {M : Type 1} → statement M
 is-worse-spec =
     tie.close
-    (tie.spec
-    returns
-    returns-2)
+    (tie.spec returns returns-2)
