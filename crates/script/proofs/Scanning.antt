@@ -1,15 +1,18 @@
 -- Digits, numbers and lines, byte by byte.
-use Prim.Native.Nat.{ℕ, _+_, _-_, _*_, _/_, _^_, _≤_, _<_}
-use mathlib.Core.Path.{_≡_, sym, _∙_}
+use Prim.Native.Nat.{ℕ, zero, suc, _+_, _-_, _*_, _/_, _^_, _≤_, _<_}
+use mathlib.Core.Path.{_≡_, refl, sym, ap, _∙_}
+use mathlib.Core.Bool.{true, false}
 use mathlib.Core.List.{List}
 use native.Mathlib.Nat.{mul-le-mul-right, div-mul-le-self, div-lt-iff-lt-mul}
+use native.Mathlib.Numerals.{unary-clauses}
 use native.Mathlib.Omega.{arith}
 use borrow.Author.Tests.{lt-ltb, le-ltb, le-leb, lt-leb, eq-eqb, ne-eqb}
-use lib.Dec.{leb}
+use lib.Dec.{leb, ltb}
 use lib.ListN.{length, getD, drop, drop-of-length-le}
 use Rattle.loops.proofs.Parts.{drop-next}
 use Rattle.script.specs.declared.Scan.{Scan}
-use Rattle.script.specs.Scan.{digitOf, numberAt, lineAt}
+use Rattle.script.specs.declared.Signed.{Signed}
+use Rattle.script.specs.Scan.{digitOf, numberAt, stepAt, signedAt, lineAt, linesEnd, wholeLines, movedBy}
 
 module _ (b : ℕ) where
   pub digit-decimal : 48 ≤ b → b ≤ 57 → b - 48 ≡ digitOf b
@@ -77,3 +80,63 @@ module _ (text : List ℕ) (i r : ℕ) (e : lineAt (drop i text) i ≡ r) where
   pub line-found : i < length text → getD text i 0 ≡ 10 → i + 1 ≡ r
   unfolding lineAt
   line-found l p = let g : lineAt (drop i text) i ≡ i + 1 = rw (drop-next 0 text i l, eq-eqb _ 10 p) in sym g ∙ e
+
+-- the last whole line, from the end: byte i - 1 ends it, or the first i - 1 bytes have it
+module _ (text : List ℕ) where
+  pub end-found : (i : ℕ) → 0 < i → getD text (i - 1) 0 ≡ 10 → i ≡ linesEnd text i
+  unfolding linesEnd
+  end-found zero p h = absurd (omega arith)
+  end-found (suc i) p h = rw (eq-eqb (getD text i 0) 10 (simp unary-clauses at h))
+
+  pub end-before : (i : ℕ) → 0 < i → (getD text (i - 1) 0 ≡ 10 → ⊥) → linesEnd text (i - 1) ≡ linesEnd text i
+  unfolding linesEnd
+  end-before zero p h = absurd (omega arith)
+  end-before (suc i) p h = simp unary-clauses (rw (ne-eqb (getD text i 0) 10 (simp unary-clauses at h)))
+
+  pub end-none : (i : ℕ) → i ≤ 0 → 0 ≡ linesEnd text i
+  unfolding linesEnd
+  end-none zero p = refl
+  end-none (suc i) p = absurd (omega arith)
+
+-- the place after, in the text and behind it
+pub step-in : (text : List ℕ) (at : ℕ) → at < length text → at + 1 ≡ stepAt text at
+unfolding stepAt
+step-in text at h = rw (lt-ltb at (length text) h)
+
+pub step-behind : (text : List ℕ) (at : ℕ) → length text ≤ at → at ≡ stepAt text at
+unfolding stepAt
+step-behind text at h = rw (le-ltb at (length text) h)
+
+-- a number with a minus sign, and one without
+module _ (text : List ℕ) (at : ℕ) {b : ℕ} (e : b ≡ getD text at 0) where
+  pub signed-minus : {p : ℕ} {n : Scan} → b ≡ 45 → p ≡ stepAt text at → n ≡ numberAt 10 0 (drop p text) p → record { minus = true; size = n .value; next = n .next } ≡ signedAt text at
+  unfolding signedAt
+  signed-minus h q m = rw (m, q, eq-eqb (getD text at 0) 45 (sym e ∙ h))
+
+  pub signed-plain : {n : Scan} → (b ≡ 45 → ⊥) → n ≡ numberAt 10 0 (drop at text) at → record { minus = false; size = n .value; next = n .next } ≡ signedAt text at
+  unfolding signedAt
+  signed-plain h m = rw (m, ne-eqb (getD text at 0) 45 (λ k. h (e ∙ k)))
+
+-- a room that is not full, and one that is
+module _ (room : List ℕ) (n : ℕ) where
+  pub whole-all : n < length room → n ≡ wholeLines room n
+  unfolding wholeLines
+  whole-all h = rw (lt-ltb n (length room) h)
+
+  pub whole-full : {r : ℕ} → length room ≤ n → r ≡ linesEnd room (length room) → r ≡ wholeLines room n
+  unfolding wholeLines
+  whole-full h e = rw (le-ltb n (length room) h) e
+
+-- n moved up or down
+module _ (n : ℕ) (by : Signed) where
+  pub moved-down : {r : ℕ} → by .minus ≡ true → r ≡ n - by .size → r ≡ movedBy n by
+  unfolding movedBy
+  moved-down h e = rw h e
+
+  pub moved-up : by .minus ≡ false → n + by .size < 2 ^ 64 → n + by .size ≡ movedBy n by
+  unfolding movedBy
+  moved-up h l = rw (h, lt-ltb (n + by .size) (2 ^ 64) l)
+
+  pub moved-not : by .minus ≡ false → 2 ^ 64 ≤ n + by .size → n ≡ movedBy n by
+  unfolding movedBy
+  moved-not h l = rw (h, le-ltb (n + by .size) (2 ^ 64) l)

@@ -6,53 +6,56 @@ use definition::NewTable;
 use definition::SilenceAnswer;
 use definition::SilenceWeighting;
 use libc::STDOUT_FILENO;
-ghost use Prim.Native.Nat.{_≤_};
 
-// What stands between two lines: the table's record, whether there is a table, the record and the length of the rooms that the
-// next call is lent, and whether these are forged.
-struct Session {
-    silence: SilenceWeighting,
-    open: bool,
-    forged: SilenceWeighting,
-    lent: usize,
-    altered: bool,
+type Phones = [i32; 128];
+
+// A place more than the 1,000,000 decoder frames that a table takes.
+type Known = [bool; 1000001];
+
+type Weights = [f32; 1000001];
+
+enum Held {
+    Nothing,
+    Table(SilenceWeighting),
 }
 
-fn no_table() -> Session {
-    let s = SilenceWeighting {
-        silence_weight: 0.0,
-        subsampling: 1,
-        phones: 0,
-        table: 0,
-        length: DecoderFrame(0),
-    };
+// What stands between two lines: what is open; the same and the length of the rooms as the next call is told them, and whether this is forged.
+struct Session {
+    held: Held,
+    told: Held,
+    lent: usize,
+    forged: bool,
+}
+
+fn nothing() -> Session {
     Session {
-        silence: s,
-        open: false,
-        forged: s,
+        held: Held::Nothing,
+        told: Held::Nothing,
         lent: 0,
-        altered: false,
+        forged: false,
     }
 }
 
-fn with_table(s: SilenceWeighting) -> Session {
+fn holding(s: SilenceWeighting) -> Session {
     Session {
-        silence: s,
-        open: true,
-        forged: s,
+        held: Held::Table(s),
+        told: Held::Table(s),
         lent: s.table,
-        altered: false,
+        forged: false,
     }
 }
 
 // After a call: a forged one leaves the record as it was.
 fn after(session: Session, answer: SilenceAnswer) -> Session {
-    if session.altered {
-        let s = session.silence;
-        return with_table(s);
+    let held = session.held;
+    if session.forged {
+        let Held::Table(s) = held else {
+            return session;
+        };
+        return holding(s);
     }
     let s = answer.silence;
-    with_table(s)
+    holding(s)
 }
 
 // ---- output
@@ -61,73 +64,72 @@ fn say(words: &[u8]) {
     io::write_all(STDOUT_FILENO, words);
 }
 
-fn space() {
-    say(b" ");
-}
-
-fn end_line() {
+fn print_line(n: usize) {
+    io::print_decimal(STDOUT_FILENO, n as u64);
     say(b"\n");
 }
 
-fn print_number(n: usize) {
+fn print_next(n: usize) {
+    say(b" ");
     io::print_decimal(STDOUT_FILENO, n as u64);
 }
 
-fn print_line(n: usize) {
-    print_number(n);
-    end_line();
+fn print_float(x: f32) {
+    say(b" ");
+    io::print_hex(STDOUT_FILENO, script::float_bits(x), 8);
 }
 
-// An f32's bits.
-fn print_float(x: f32) {
-    if x != x {
-        say(b"7fc00000");
+// The changes of an answer, or its refusal.
+fn print_answer(answer: SilenceAnswer, frames: &[usize], weights: &[f32]) {
+    if answer.refusal != 0 {
+        print_line(answer.refusal);
         return;
     }
-    io::print_hex(STDOUT_FILENO, wide(f32::to_bits(x)), 8);
-}
-
-fn wide(bits: u32) -> u64 {
-    bits as u64
+    say(b"0");
+    print_next(answer.changes);
+    print_changes(answer.changes, frames, weights);
+    say(b"\n");
 }
 
 fn print_changes(n: usize, frames: &[usize], weights: &[f32]) {
-    print_number(0);
-    space();
-    print_number(n);
     for i in 0..n {
         if i < frames.len() {
-            space();
-            print_number(frames[i]);
+            print_next(frames[i]);
         }
         if i < weights.len() {
-            space();
             print_float(weights[i]);
         }
     }
-    end_line();
 }
 
-// ---- input
+// ---- rooms. A length that this program has no room for is cut to the room; the answer then shows it
 
-// The float of a pattern.
-fn float(bits: usize) -> f32 {
-    let b = bits % 0x1_0000_0000;
-    if 0x7f80_0000 < b % 0x8000_0000 {
-        return 0.0 / 0.0;
-    }
-    f32::from_bits(b as u32)
+fn front_i32(room: &[i32], n: usize) -> &[i32] {
+    let k = script::at_most(n, room.len());
+    &room[0..k]
 }
 
-// Where the text has a minus sign at a place, the place after it.
-fn after_minus(text: &[u8], at: usize) -> usize {
-    if at < text.len() {
-        if text[at] == b'-' {
-            return at + 1;
-        }
-    }
-    at
+fn front_usize(room: &[usize], n: usize) -> &[usize] {
+    let k = script::at_most(n, room.len());
+    &room[0..k]
 }
+
+fn lend_usize(room: &mut [usize], n: usize) -> &mut [usize] {
+    let k = script::at_most(n, room.len());
+    &mut room[0..k]
+}
+
+fn lend_bool(room: &mut [bool], n: usize) -> &mut [bool] {
+    let k = script::at_most(n, room.len());
+    &mut room[0..k]
+}
+
+fn lend_f32(room: &mut [f32], n: usize) -> &mut [f32] {
+    let k = script::at_most(n, room.len());
+    &mut room[0..k]
+}
+
+// ---- the commands
 
 fn phone(minus: bool, n: usize) -> i32 {
     let m = (n % 0x4000_0000) as i32;
@@ -137,50 +139,21 @@ fn phone(minus: bool, n: usize) -> i32 {
     m
 }
 
-// A list: its length, then its items. The value is the length; a list that is longer than the room is not read.
-fn read_phones(text: &[u8], at: usize, items: &mut [i32]) -> script::Scan {
-    let n = script::number(text, at, 10);
-    let count = n.value;
-    let mut next = n.next;
-    if items.len() < count {
-        return n;
-    }
-    for i in 0..count {
-        let from = after_minus(text, next);
-        let x = script::number(text, from, 10);
-        items[i] = phone(next < from, x.value);
+// n phones, into a room as far as it has places; the place after them.
+fn read_phones(text: &[u8], at: usize, n: usize, items: &mut [i32]) -> usize {
+    let mut next = at;
+    for i in 0..n {
+        let x = script::signed_number(text, next);
+        set_phone(items, i, phone(x.minus, x.size));
         next = x.next;
     }
-    script::Scan { value: count, next }
+    next
 }
 
-fn read_list(text: &[u8], at: usize, items: &mut [usize]) -> script::Scan {
-    let n = script::number(text, at, 10);
-    let count = n.value;
-    let mut next = n.next;
-    if items.len() < count {
-        return n;
+fn set_phone(items: &mut [i32], i: usize, x: i32) {
+    if i < items.len() {
+        items[i] = x;
     }
-    for i in 0..count {
-        let x = script::number(text, next, 10);
-        items[i] = x.value;
-        next = x.next;
-    }
-    script::Scan { value: count, next }
-}
-
-// ---- the commands. A length that this program has no room for is cut to the room; the answer then shows it
-
-fn at_most(n: usize, room: usize) -> usize
-    ensures { λ r. ⌜ (r ≤ n) × (r ≤ room) ⌝ }
-{
-    if n <= room { n } else { room }
-}
-
-fn within(n: usize, a: usize, b: usize, c: usize) -> usize
-    ensures { λ r. ⌜ (r ≤ a) × (r ≤ b) × (r ≤ c) ⌝ }
-{
-    at_most(at_most(at_most(n, a), b), c)
 }
 
 // `t T weight sub np p1 .. pnp`
@@ -188,116 +161,71 @@ fn make(text: &[u8], at: usize, phones: &mut [i32]) -> Session {
     let table = script::number(text, at, 10);
     let weight = script::number(text, table.next, 16);
     let subsampling = script::number(text, weight.next, 10);
-    let list = read_phones(text, subsampling.next, phones);
-    let count = at_most(list.value, phones.len());
+    let n = script::number(text, subsampling.next, 10);
+    read_phones(text, n.next, n.value, phones);
     let made = silence_weighting::new(
-        &phones[..count],
-        float(weight.value),
+        front_i32(phones, n.value),
+        script::float(weight.value),
         subsampling.value,
         table.value,
     );
     match made {
         NewTable::Table(s) => {
             print_line(0);
-            with_table(s)
+            holding(s)
         }
         NewTable::Refused(r) => {
             print_line(r);
-            no_table()
+            nothing()
         }
     }
 }
 
 // `y r D`, `y l N`, `y s N`, `y w HEX`, `y p N`
-fn forge(text: &[u8], at: usize, session: Session) -> Session {
-    if text.len() <= at {
-        return session;
-    }
-    let what = text[at];
-    let from = after_minus(text, at + 2);
-    let n = script::number(text, from, 10);
-    let mut s = session.forged;
+fn forge(text: &[u8], at: usize, session: Session, told: SilenceWeighting) -> Session {
+    let from = script::step(text, script::step(text, at));
+    let n = script::signed_number(text, from);
+    let mut s = told;
     let mut lent = session.lent;
-    match what {
+    match script::byte_at(text, at) {
         b'r' => {
-            lent = moved(lent, at + 2 < from, n.value);
+            lent = script::moved(lent, n);
         }
         b'l' => {
-            let length = DecoderFrame(n.value);
+            let length = DecoderFrame(n.size);
             s.length = length;
         }
         b's' => {
-            s.subsampling = n.value;
+            s.subsampling = n.size;
         }
         b'w' => {
-            let bits = script::number(text, at + 2, 16);
-            s.silence_weight = float(bits.value);
+            let bits = script::number(text, from, 16);
+            s.silence_weight = script::float(bits.value);
         }
         _ => {
-            s.phones = n.value;
+            s.phones = n.size;
         }
     }
-    let silence = session.silence;
+    let held = session.held;
     Session {
-        silence,
-        open: session.open,
-        forged: s,
+        held,
+        told: Held::Table(s),
         lent,
-        altered: true,
+        forged: true,
     }
 }
 
-// n places more, or less where there is a minus sign.
-fn moved(lent: usize, minus: bool, n: usize) -> usize {
-    if minus {
-        if n <= lent {
-            return lent - n;
-        }
-        return 0;
+// How many phones the table has that is open.
+fn phones_of(h: Held) -> usize {
+    match h {
+        Held::Table(s) => s.phones,
+        Held::Nothing => 0,
     }
-    if n < 1000000 {
-        if lent < 1000000000 {
-            return lent + n;
-        }
-    }
-    lent
 }
 
-// `b decoded np p.. ns s.. ne e..`
-fn traceback(
-    text: &[u8],
-    at: usize,
-    session: Session,
-    phones: &[i32],
-    known: &mut [bool],
-    is_silence: &mut [bool],
-    current_weight: &mut [f32],
-) -> Session {
-    let mut segment_phones = [0i32; 64];
-    let mut starts = [0usize; 64];
-    let mut ends = [0usize; 64];
-    let decoded = script::number(text, at, 10);
-    let a = read_phones(text, decoded.next, &mut segment_phones);
-    let b = read_list(text, a.next, &mut starts);
-    let c = read_list(text, b.next, &mut ends);
-    let na = at_most(a.value, 64);
-    let nb = at_most(b.value, 64);
-    let nc = at_most(c.value, 64);
-    record(
-        session,
-        phones,
-        known,
-        is_silence,
-        current_weight,
-        &segment_phones[..na],
-        &starts[..nb],
-        &ends[..nc],
-        decoded.value,
-    )
-}
-
-fn record(
-    session: Session,
+fn note(
+    s: SilenceWeighting,
+    lent: usize,
     phones: &[i32],
     known: &mut [bool],
     is_silence: &mut [bool],
@@ -306,29 +234,79 @@ fn record(
     starts: &[usize],
     ends: &[usize],
     decoded: usize,
-) -> Session {
-    let made = session.silence;
-    let count = at_most(made.phones, phones.len());
-    let lent = within(
-        session.lent,
-        known.len(),
-        is_silence.len(),
-        current_weight.len(),
-    );
-    let s = session.forged;
-    let answer = silence_weighting::compute_current_traceback(
+) -> SilenceAnswer {
+    silence_weighting::compute_current_traceback(
         s,
-        &phones[..count],
-        &mut known[..lent],
-        &mut is_silence[..lent],
-        &mut current_weight[..lent],
+        phones,
+        lend_bool(known, lent),
+        lend_bool(is_silence, lent),
+        lend_f32(current_weight, lent),
         segment_phones,
         starts,
         ends,
         DecoderFrame(decoded),
+    )
+}
+
+// `b decoded np p.. ns s.. ne e..`
+fn traceback(
+    text: &[u8],
+    at: usize,
+    session: Session,
+    s: SilenceWeighting,
+    phones: &[i32],
+    known: &mut Known,
+    is_silence: &mut Known,
+    current_weight: &mut Weights,
+) -> Session {
+    let mut segment_phones = [0i32; 64];
+    let mut starts = [0usize; 64];
+    let mut ends = [0usize; 64];
+    let decoded = script::number(text, at, 10);
+    let np = script::number(text, decoded.next, 10);
+    let after_phones = read_phones(text, np.next, np.value, &mut segment_phones);
+    let ns = script::number(text, after_phones, 10);
+    let after_starts = script::read_numbers(text, ns.next, ns.value, &mut starts);
+    let ne = script::number(text, after_starts, 10);
+    script::read_numbers(text, ne.next, ne.value, &mut ends);
+    let held = session.held;
+    let answer = note(
+        s,
+        session.lent,
+        front_i32(phones, phones_of(held)),
+        known,
+        is_silence,
+        current_weight,
+        front_i32(&segment_phones, np.value),
+        front_usize(&starts, ns.value),
+        front_usize(&ends, ne.value),
+        decoded.value,
     );
     print_line(answer.refusal);
     after(session, answer)
+}
+
+fn weigh(
+    s: SilenceWeighting,
+    lent: usize,
+    known: &mut [bool],
+    is_silence: &mut [bool],
+    current_weight: &mut [f32],
+    ready: usize,
+    first: usize,
+    frames: &mut [usize],
+    changes: &mut [f32],
+) -> SilenceAnswer {
+    silence_weighting::get_delta_weights(
+        s,
+        lend_bool(known, lent),
+        lend_bool(is_silence, lent),
+        lend_f32(current_weight, lent),
+        InputFrame(ready),
+        InputFrame(first),
+        frames,
+        changes,
+    )
 }
 
 // `a ready first lf lw`
@@ -336,9 +314,10 @@ fn weights(
     text: &[u8],
     at: usize,
     session: Session,
-    known: &mut [bool],
-    is_silence: &mut [bool],
-    current_weight: &mut [f32],
+    s: SilenceWeighting,
+    known: &mut Known,
+    is_silence: &mut Known,
+    current_weight: &mut Weights,
 ) -> Session {
     let mut frames = [0usize; 20000];
     let mut changes = [0.0f32; 20000];
@@ -346,52 +325,18 @@ fn weights(
     let first = script::number(text, ready.next, 10);
     let nf = script::number(text, first.next, 10);
     let nw = script::number(text, nf.next, 10);
-    let a = at_most(nf.value, 20000);
-    let b = at_most(nw.value, 20000);
-    weigh(
-        session,
+    let answer = weigh(
+        s,
+        session.lent,
         known,
         is_silence,
         current_weight,
-        InputFrame(ready.value),
-        InputFrame(first.value),
-        &mut frames[..a],
-        &mut changes[..b],
-    )
-}
-
-fn weigh(
-    session: Session,
-    known: &mut [bool],
-    is_silence: &mut [bool],
-    current_weight: &mut [f32],
-    ready: InputFrame,
-    first: InputFrame,
-    frames: &mut [usize],
-    changes: &mut [f32],
-) -> Session {
-    let lent = within(
-        session.lent,
-        known.len(),
-        is_silence.len(),
-        current_weight.len(),
+        ready.value,
+        first.value,
+        lend_usize(&mut frames, nf.value),
+        lend_f32(&mut changes, nw.value),
     );
-    let s = session.forged;
-    let answer = silence_weighting::get_delta_weights(
-        s,
-        &mut known[..lent],
-        &mut is_silence[..lent],
-        &mut current_weight[..lent],
-        ready,
-        first,
-        frames,
-        changes,
-    );
-    if answer.refusal == 0 {
-        print_changes(answer.changes, frames, changes);
-    } else {
-        print_line(answer.refusal);
-    }
+    print_answer(answer, &frames, &changes);
     after(session, answer)
 }
 
@@ -400,52 +345,53 @@ fn line(
     text: &[u8],
     at: usize,
     session: Session,
-    phones: &mut [i32],
-    known: &mut [bool],
-    is_silence: &mut [bool],
-    current_weight: &mut [f32],
+    phones: &mut Phones,
+    known: &mut Known,
+    is_silence: &mut Known,
+    current_weight: &mut Weights,
 ) -> Session {
-    if text.len() <= at {
-        return session;
-    }
-    let letter = text[at];
+    let letter = script::byte_at(text, at);
+    let from = script::step(text, script::step(text, at));
     if letter == b't' {
-        return make(text, at + 2, phones);
+        return make(text, from, phones);
     }
     if letter == b'z' {
-        return no_table();
+        return nothing();
     }
-    if session.open {
-        if letter == b'y' {
-            return forge(text, at + 2, session);
-        }
-        if letter == b'b' {
-            return traceback(
-                text,
-                at + 2,
-                session,
-                phones,
-                known,
-                is_silence,
-                current_weight,
-            );
-        }
-        if letter == b'a' {
-            return weights(text, at + 2, session, known, is_silence, current_weight);
-        }
+    let told = session.told;
+    let Held::Table(s) = told else {
+        say(b"no such line here\n");
+        return session;
+    };
+    if letter == b'y' {
+        return forge(text, from, session, s);
+    }
+    if letter == b'b' {
+        return traceback(
+            text,
+            from,
+            session,
+            s,
+            phones,
+            known,
+            is_silence,
+            current_weight,
+        );
+    }
+    if letter == b'a' {
+        return weights(text, from, session, s, known, is_silence, current_weight);
     }
     say(b"no such line here\n");
     session
 }
 
-fn replay(
-    text: &[u8],
-    phones: &mut [i32],
-    known: &mut [bool],
-    is_silence: &mut [bool],
-    current_weight: &mut [f32],
-) {
-    let mut session = no_table();
+// The whole text, with rooms for a table.
+fn replay(text: &[u8]) {
+    let mut phones = [0i32; 128];
+    let mut known = [false; 1000001];
+    let mut is_silence = [false; 1000001];
+    let mut current_weight = [0.0f32; 1000001];
+    let mut session = nothing();
     let mut at = 0;
     // as many turns as there are bytes are enough
     let mut left = text.len();
@@ -453,35 +399,36 @@ fn replay(
         if text.len() <= at {
             return;
         }
-        session = line(text, at, session, phones, known, is_silence, current_weight);
+        session = line(
+            text,
+            at,
+            session,
+            &mut phones,
+            &mut known,
+            &mut is_silence,
+            &mut current_weight,
+        );
         at = script::next_line(text, at);
         left = left - 1;
     }
 }
 
-// The rooms as slices. They have a place more than the 1,000,000 frames that a table takes.
-fn in_rooms(
-    text: &[u8],
-    phones: &mut [i32; 128],
-    known: &mut [bool; 1000001],
-    is_silence: &mut [bool; 1000001],
-    current_weight: &mut [f32; 1000001],
-) {
-    replay(text, phones, known, is_silence, current_weight);
+// The lines that the room has, and a word where there are more.
+fn play_input(text: &mut [u8]) {
+    let n = io::read_full(0, text);
+    let e = script::whole_lines(text, n);
+    replay(&text[0..e]);
+    if n == text.len() {
+        say(b"the script is longer than this program's room: the rest is not read\n");
+    }
+}
+
+// The room as a slice.
+fn in_room(text: &mut [u8; 262144]) {
+    play_input(text);
 }
 
 fn main() {
     let mut text = [0u8; 262144];
-    let mut phones = [0i32; 128];
-    let mut known = [false; 1000001];
-    let mut is_silence = [false; 1000001];
-    let mut current_weight = [0.0f32; 1000001];
-    let n = io::read_full(0, &mut text);
-    in_rooms(
-        &text[..n],
-        &mut phones,
-        &mut known,
-        &mut is_silence,
-        &mut current_weight,
-    );
+    in_room(&mut text);
 }

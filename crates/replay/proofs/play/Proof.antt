@@ -1,68 +1,50 @@
+-- Safe and ending: the turns left fall. The rooms are arrays, whose lengths no call changes.
+use native.Mathlib.Omega.{arith}
 use borrow.Author.Needs.{needs}
 use Rattle.replay.proofs.play.Statement.{statement}
 use Rattle.replay.proofs.play.Tie as tie
 
-slice-aggregate-lines : tie.Need-slice-aggregate-lines
-slice-aggregate-lines c = search needs
+abbrev Inv-loop : tie.InvT-loop
+Inv-loop _ _ _ _ _ _ _ _ _ _ _ _ _ _ _ _ _ _ _ _ _ _ _ _ _ _ _ _ _ _ _ _ _ = Unit {0}
 
-slice-aggregate-lines-2 : tie.Need-slice-aggregate-lines-2
-slice-aggregate-lines-2 c = search needs
+abbrev μ-loop : tie.MeasureT-loop
+μ-loop _ _ _ _ _ _ _ _ _ _ _ _ _ _ _ _ _ _ _ _ _ _ _ _ _ _ _ _ _ _ _ _ left = left
 
-slice-aggregate-lines-3 : tie.Need-slice-aggregate-lines-3
-slice-aggregate-lines-3 c = search needs
+loop-holds : tie.Need-loop-holds Inv-loop μ-loop
+loop-holds c = tt
 
-slice-aggregate-lines-4 : tie.Need-slice-aggregate-lines-4
-slice-aggregate-lines-4 c = search needs
+ends-at-requires : tie.Need-ends-at-requires Inv-loop μ-loop
+ends-at-requires c κs = tt
 
-slice-aggregate-lines-5 : tie.Need-slice-aggregate-lines-5
-slice-aggregate-lines-5 c = search needs
-
-slice-aggregate-lines-6 : tie.Need-slice-aggregate-lines-6
-slice-aggregate-lines-6 c = search needs
-
-slice-aggregate-lines-7 : tie.Need-slice-aggregate-lines-7
-slice-aggregate-lines-7 c = search needs
-
-slice-aggregate-lines-8 : tie.Need-slice-aggregate-lines-8
-slice-aggregate-lines-8 c = search needs
-
-slice-aggregate-lines-9 : tie.Need-slice-aggregate-lines-9
-slice-aggregate-lines-9 c = search needs
-
-slice-aggregate-lines-10 : tie.Need-slice-aggregate-lines-10
-slice-aggregate-lines-10 c = search needs
-
-lines-requires : tie.Need-lines-requires
-lines-requires c κs = tt
-
-same-length : tie.Need-same-length
-same-length c = (c .before .before .before .before .before .before .before .before .before .before .before .before .before .before .before .before .lines) .kept .1 .1 .1 .1 .1 .1 .1 .1 .1 .1 .1 .1 .1 .1 .1 .1 .1 .1 .1 .1 .0
-
-same-length-2 : tie.Need-same-length-2
-same-length-2 c = (c .before .before .before .before .before .before .before .before .before .before .before .before .before .before .before .before .lines) .kept .1 .1 .1 .1 .1 .1 .1 .1 .1 .1 .1 .1 .1 .1 .1 .1 .1 .1 .1 .1 .1 .0
-
-same-length-3 : tie.Need-same-length-3
-same-length-3 c = (c .before .before .before .before .before .before .before .before .before .before .before .before .before .before .before .before .lines) .kept .1 .1 .1 .1 .1 .1 .1 .1 .1 .1 .1 .1 .1 .1 .1 .1 .1 .1 .1 .1 .1 .1 .0
-
-returns : tie.Need-returns
+returns : tie.Need-returns Inv-loop μ-loop
 returns c = tt
+
+line-requires : tie.Need-line-requires Inv-loop μ-loop
+line-requires c κs = tt
+
+sub-left : tie.Need-sub-left Inv-loop μ-loop
+sub-left c = omega (arith, c .before .before .before .before .before .before .before .before .before .before .before .before .before .loop-test .taken)
+
+loop-less : tie.Need-loop-less Inv-loop μ-loop
+loop-less c = omega (arith, c .before .before .before .before .before .before .before .before .before .before .before .before .before .loop-test .taken)
+
+loop-again : tie.Need-loop-again Inv-loop μ-loop
+loop-again c = tt
+
+returns-2 : tie.Need-returns-2 Inv-loop μ-loop
+returns-2 c = tt
 
 pub play-spec : {M : Type 1} → statement M
 play-spec =
     tie.close
     (tie.spec
-    slice-aggregate-lines
-    slice-aggregate-lines-2
-    slice-aggregate-lines-3
-    slice-aggregate-lines-4
-    slice-aggregate-lines-5
-    slice-aggregate-lines-6
-    slice-aggregate-lines-7
-    slice-aggregate-lines-8
-    slice-aggregate-lines-9
-    slice-aggregate-lines-10
-    lines-requires
-    same-length
-    same-length-2
-    same-length-3
-    returns)
+    Inv-loop
+    μ-loop
+    loop-holds
+    ends-at-requires
+    returns
+    line-requires
+    sub-left
+    loop-less
+    loop-again
+    returns-2)

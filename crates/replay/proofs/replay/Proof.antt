@@ -1,58 +1,20 @@
+-- Safe and ending: the turns left fall. The rooms are arrays, whose lengths no call changes.
 use native.Mathlib.Omega.{arith}
-use mathlib.Core.Path.{_≡_, refl, _∙_}
-use Prim.Native.Nat.{_-_}
-use lib.ListN.{length}
+use borrow.Author.Needs.{needs}
 use Rattle.replay.proofs.replay.Statement.{statement}
 use Rattle.replay.proofs.replay.Tie as tie
 
 abbrev Inv-loop : tie.InvT-loop
-Inv-loop text bytes₀ gconsts₀ means-invvars-t₀ inv-vars-t₀ sigma-inv-m₀ u₀ lda-t₀ lda-offset₀ global-mean-stats₀ known₀ is-silence₀ current-weight₀ session₀ left₀ bytes gconsts means-invvars-t inv-vars-t sigma-inv-m u lda-t lda-offset global-mean-stats known is-silence current-weight session left =
-    (length bytes ≡ length bytes₀) × (length gconsts ≡ length gconsts₀) × (length means-invvars-t ≡ length means-invvars-t₀) × (length inv-vars-t ≡ length inv-vars-t₀) × (length sigma-inv-m ≡ length sigma-inv-m₀) × (length u ≡ length u₀) × (length lda-t ≡ length lda-t₀) × (length lda-offset ≡ length lda-offset₀) × (length global-mean-stats ≡ length global-mean-stats₀) × (length known ≡ length known₀) × (length is-silence ≡ length is-silence₀) × (length current-weight ≡ length current-weight₀)
+Inv-loop _ _ _ _ _ _ _ _ _ _ _ _ _ _ _ _ _ _ _ _ _ = Unit {0}
 
 abbrev μ-loop : tie.MeasureT-loop
-μ-loop text bytes₀ gconsts₀ means-invvars-t₀ inv-vars-t₀ sigma-inv-m₀ u₀ lda-t₀ lda-offset₀ global-mean-stats₀ known₀ is-silence₀ current-weight₀ session₀ left₀ bytes gconsts means-invvars-t inv-vars-t sigma-inv-m u lda-t lda-offset global-mean-stats known is-silence current-weight session left = left
+μ-loop _ _ _ _ _ _ _ _ _ _ _ _ _ _ _ _ _ _ _ _ left = left
 
 new-session-requires : tie.Need-new-session-requires Inv-loop μ-loop
 new-session-requires c κs = tt
 
 loop-holds : tie.Need-loop-holds Inv-loop μ-loop
-loop-holds c = (refl, refl, refl, refl, refl, refl, refl, refl, refl, refl, refl, refl)
-
-same-length : tie.Need-same-length Inv-loop μ-loop
-same-length c = (c .before .before .before .loop) .inv .0
-
-same-length-2 : tie.Need-same-length-2 Inv-loop μ-loop
-same-length-2 c = (c .before .before .before .loop) .inv .1
-
-same-length-3 : tie.Need-same-length-3 Inv-loop μ-loop
-same-length-3 c = (c .before .before .before .loop) .inv .2
-
-same-length-4 : tie.Need-same-length-4 Inv-loop μ-loop
-same-length-4 c = (c .before .before .before .loop) .inv .3
-
-same-length-5 : tie.Need-same-length-5 Inv-loop μ-loop
-same-length-5 c = (c .before .before .before .loop) .inv .4
-
-same-length-6 : tie.Need-same-length-6 Inv-loop μ-loop
-same-length-6 c = (c .before .before .before .loop) .inv .5
-
-same-length-7 : tie.Need-same-length-7 Inv-loop μ-loop
-same-length-7 c = (c .before .before .before .loop) .inv .6
-
-same-length-8 : tie.Need-same-length-8 Inv-loop μ-loop
-same-length-8 c = (c .before .before .before .loop) .inv .7
-
-same-length-9 : tie.Need-same-length-9 Inv-loop μ-loop
-same-length-9 c = (c .before .before .before .loop) .inv .8
-
-same-length-10 : tie.Need-same-length-10 Inv-loop μ-loop
-same-length-10 c = (c .before .before .before .loop) .inv .9
-
-same-length-11 : tie.Need-same-length-11 Inv-loop μ-loop
-same-length-11 c = (c .before .before .before .loop) .inv .10
-
-same-length-12 : tie.Need-same-length-12 Inv-loop μ-loop
-same-length-12 c = (c .before .before .before .loop) .inv .11
+loop-holds c = tt
 
 returns : tie.Need-returns Inv-loop μ-loop
 returns c = tt
@@ -61,49 +23,13 @@ section-requires : tie.Need-section-requires Inv-loop μ-loop
 section-requires c κs = tt
 
 sub-left : tie.Need-sub-left Inv-loop μ-loop
-sub-left c = omega (arith, (c .before .before .before .before .before .before .before .before .before .before .before .before .before .before .before .before .before .before .before .before .before .before .before .before .before .before .before .before .before .before .before .before .before .before .before .before .before .before .before .loop-test) .taken)
+sub-left c = omega (arith, c .before .before .before .before .before .before .before .before .before .before .before .loop-test .taken)
 
 loop-less : tie.Need-loop-less Inv-loop μ-loop
-loop-less c = omega (arith, (c .before .before .before .before .before .before .before .before .before .before .before .before .before .before .before .before .before .before .before .before .before .before .before .before .before .before .before .before .before .before .before .before .before .before .before .before .before .before .before .loop-test) .taken)
+loop-less c = omega (arith, c .before .before .before .before .before .before .before .before .before .before .before .loop-test .taken)
 
 loop-again : tie.Need-loop-again Inv-loop μ-loop
-loop-again c = ((c .before .before .before .before .before .before .before .before .before .before .before .before .before .before .before .before .before .before .before .before .before .before .before .before .section) .kept .1 .1 .0 ∙ (c .before .before .before .before .before .before .before .before .before .before .before .before .before .before .before .before .before .before .before .before .before .before .before .before .before .before .before .before .before .before .before .before .before .before .before .before .before .before .before .before .loop) .inv .0, (c .before .before .before .before .before .before .before .before .before .before .before .before .before .before .before .before .before .before .before .before .before .before .before .before .section) .kept .1 .1 .1 .0 ∙ (c .before .before .before .before .before .before .before .before .before .before .before .before .before .before .before .before .before .before .before .before .before .before .before .before .before .before .before .before .before .before .before .before .before .before .before .before .before .before .before .before .loop) .inv .1, (c .before .before .before .before .before .before .before .before .before .before .before .before .before .before .before .before .before .before .before .before .before .before .before .before .section) .kept .1 .1 .1 .1 .0 ∙ (c .before .before .before .before .before .before .before .before .before .before .before .before .before .before .before .before .before .before .before .before .before .before .before .before .before .before .before .before .before .before .before .before .before .before .before .before .before .before .before .before .loop) .inv .2, (c .before .before .before .before .before .before .before .before .before .before .before .before .before .before .before .before .before .before .before .before .before .before .before .before .section) .kept .1 .1 .1 .1 .1 .0 ∙ (c .before .before .before .before .before .before .before .before .before .before .before .before .before .before .before .before .before .before .before .before .before .before .before .before .before .before .before .before .before .before .before .before .before .before .before .before .before .before .before .before .loop) .inv .3, (c .before .before .before .before .before .before .before .before .before .before .before .before .before .before .before .before .before .before .before .before .before .before .before .before .section) .kept .1 .1 .1 .1 .1 .1 .0 ∙ (c .before .before .before .before .before .before .before .before .before .before .before .before .before .before .before .before .before .before .before .before .before .before .before .before .before .before .before .before .before .before .before .before .before .before .before .before .before .before .before .before .loop) .inv .4, (c .before .before .before .before .before .before .before .before .before .before .before .before .before .before .before .before .before .before .before .before .before .before .before .before .section) .kept .1 .1 .1 .1 .1 .1 .1 .0 ∙ (c .before .before .before .before .before .before .before .before .before .before .before .before .before .before .before .before .before .before .before .before .before .before .before .before .before .before .before .before .before .before .before .before .before .before .before .before .before .before .before .before .loop) .inv .5, (c .before .before .before .before .before .before .before .before .before .before .before .before .before .before .before .before .before .before .before .before .before .before .before .before .section) .kept .1 .1 .1 .1 .1 .1 .1 .1 .0 ∙ (c .before .before .before .before .before .before .before .before .before .before .before .before .before .before .before .before .before .before .before .before .before .before .before .before .before .before .before .before .before .before .before .before .before .before .before .before .before .before .before .before .loop) .inv .6, (c .before .before .before .before .before .before .before .before .before .before .before .before .before .before .before .before .before .before .before .before .before .before .before .before .section) .kept .1 .1 .1 .1 .1 .1 .1 .1 .1 .0 ∙ (c .before .before .before .before .before .before .before .before .before .before .before .before .before .before .before .before .before .before .before .before .before .before .before .before .before .before .before .before .before .before .before .before .before .before .before .before .before .before .before .before .loop) .inv .7, (c .before .before .before .before .before .before .before .before .before .before .before .before .before .before .before .before .before .before .before .before .before .before .before .before .section) .kept .1 .1 .1 .1 .1 .1 .1 .1 .1 .1 .0 ∙ (c .before .before .before .before .before .before .before .before .before .before .before .before .before .before .before .before .before .before .before .before .before .before .before .before .before .before .before .before .before .before .before .before .before .before .before .before .before .before .before .before .loop) .inv .8, (c .before .before .before .before .before .before .before .before .before .before .before .before .before .before .before .before .before .before .before .before .before .before .before .before .section) .kept .1 .1 .1 .1 .1 .1 .1 .1 .1 .1 .1 .0 ∙ (c .before .before .before .before .before .before .before .before .before .before .before .before .before .before .before .before .before .before .before .before .before .before .before .before .before .before .before .before .before .before .before .before .before .before .before .before .before .before .before .before .loop) .inv .9, (c .before .before .before .before .before .before .before .before .before .before .before .before .before .before .before .before .before .before .before .before .before .before .before .before .section) .kept .1 .1 .1 .1 .1 .1 .1 .1 .1 .1 .1 .1 .0 ∙ (c .before .before .before .before .before .before .before .before .before .before .before .before .before .before .before .before .before .before .before .before .before .before .before .before .before .before .before .before .before .before .before .before .before .before .before .before .before .before .before .before .loop) .inv .10, (c .before .before .before .before .before .before .before .before .before .before .before .before .before .before .before .before .before .before .before .before .before .before .before .before .section) .kept .1 .1 .1 .1 .1 .1 .1 .1 .1 .1 .1 .1 .1 .0 ∙ (c .before .before .before .before .before .before .before .before .before .before .before .before .before .before .before .before .before .before .before .before .before .before .before .before .before .before .before .before .before .before .before .before .before .before .before .before .before .before .before .before .loop) .inv .11)
-
-same-length-13 : tie.Need-same-length-13 Inv-loop μ-loop
-same-length-13 c = (c .before .loop) .inv .0
-
-same-length-14 : tie.Need-same-length-14 Inv-loop μ-loop
-same-length-14 c = (c .before .loop) .inv .1
-
-same-length-15 : tie.Need-same-length-15 Inv-loop μ-loop
-same-length-15 c = (c .before .loop) .inv .2
-
-same-length-16 : tie.Need-same-length-16 Inv-loop μ-loop
-same-length-16 c = (c .before .loop) .inv .3
-
-same-length-17 : tie.Need-same-length-17 Inv-loop μ-loop
-same-length-17 c = (c .before .loop) .inv .4
-
-same-length-18 : tie.Need-same-length-18 Inv-loop μ-loop
-same-length-18 c = (c .before .loop) .inv .5
-
-same-length-19 : tie.Need-same-length-19 Inv-loop μ-loop
-same-length-19 c = (c .before .loop) .inv .6
-
-same-length-20 : tie.Need-same-length-20 Inv-loop μ-loop
-same-length-20 c = (c .before .loop) .inv .7
-
-same-length-21 : tie.Need-same-length-21 Inv-loop μ-loop
-same-length-21 c = (c .before .loop) .inv .8
-
-same-length-22 : tie.Need-same-length-22 Inv-loop μ-loop
-same-length-22 c = (c .before .loop) .inv .9
-
-same-length-23 : tie.Need-same-length-23 Inv-loop μ-loop
-same-length-23 c = (c .before .loop) .inv .10
-
-same-length-24 : tie.Need-same-length-24 Inv-loop μ-loop
-same-length-24 c = (c .before .loop) .inv .11
+loop-again c = tt
 
 returns-2 : tie.Need-returns-2 Inv-loop μ-loop
 returns-2 c = tt
@@ -116,33 +42,9 @@ replay-spec =
     μ-loop
     new-session-requires
     loop-holds
-    same-length
-    same-length-2
-    same-length-3
-    same-length-4
-    same-length-5
-    same-length-6
-    same-length-7
-    same-length-8
-    same-length-9
-    same-length-10
-    same-length-11
-    same-length-12
     returns
     section-requires
     sub-left
     loop-less
     loop-again
-    same-length-13
-    same-length-14
-    same-length-15
-    same-length-16
-    same-length-17
-    same-length-18
-    same-length-19
-    same-length-20
-    same-length-21
-    same-length-22
-    same-length-23
-    same-length-24
     returns-2)

@@ -1,3 +1,4 @@
+-- Each range of bytes has its digit by `digitOf`, and every other byte 16 (`digit-decimal` to `digit-above`, Scanning.antt).
 use borrow.Author.Needs.{needs}
 use native.Mathlib.Omega.{arith}
 use mathlib.Core.Path.{ap, _∙_}

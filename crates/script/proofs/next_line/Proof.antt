@@ -1,3 +1,4 @@
+-- Invariant: the line after place i is the line after the start (`lineAt`); a byte 10 ends it (Scanning.antt).
 use borrow.Author.Needs.{needs}
 use mathlib.Core.Path.{_≡_, refl}
 use Prim.Native.Nat.{_-_}

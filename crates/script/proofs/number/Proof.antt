@@ -1,3 +1,5 @@
+-- Invariant: the number from place i on, with the digits so far, is the number at the start (`numberAt`). A turn, a byte that ends the number and a
+-- digit that would not fit in 64 bits are one law each (Scanning.antt).
 use borrow.Author.Needs.{needs}
 use native.Mathlib.Omega.{arith}
 use mathlib.Core.Path.{_≡_, refl}

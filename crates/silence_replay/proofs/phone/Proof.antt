@@ -1,3 +1,4 @@
+-- The phone that a number below 2^30 stands for fits in an i32, with a minus sign too (`phone-fits`, script's Phones.antt).
 use borrow.Author.Needs.{needs}
 use Rattle.script.proofs.Phones.{phone-fits}
 use Rattle.silence_replay.proofs.phone.Statement.{statement}

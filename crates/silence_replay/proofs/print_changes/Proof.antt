@@ -1,5 +1,6 @@
-use borrow.Author.Needs.{needs}
+-- Safe and ending: what is left of the count falls; each list is asked for its length before a place of it is read.
 use Prim.Native.Nat.{_-_, _≤_}
+use borrow.Author.Needs.{needs}
 use Rattle.silence_replay.proofs.print_changes.Statement.{statement}
 use Rattle.silence_replay.proofs.print_changes.Tie as tie
 
@@ -10,32 +11,17 @@ Inv-loop n frames weights i₀ i =
 abbrev μ-loop : tie.MeasureT-loop
 μ-loop n frames weights i₀ i = n - i
 
-print-number-requires : tie.Need-print-number-requires Inv-loop μ-loop
-print-number-requires c κs = tt
-
-space-requires : tie.Need-space-requires Inv-loop μ-loop
-space-requires c κs = tt
-
-print-number-requires-2 : tie.Need-print-number-requires-2 Inv-loop μ-loop
-print-number-requires-2 c κs = tt
-
 loop-holds : tie.Need-loop-holds Inv-loop μ-loop
 loop-holds c = search needs
 
-space-requires-2 : tie.Need-space-requires-2 Inv-loop μ-loop
-space-requires-2 c κs = tt
+mul-print-next : tie.Need-mul-print-next Inv-loop μ-loop
+mul-print-next c = search needs
 
-mul-print-number : tie.Need-mul-print-number Inv-loop μ-loop
-mul-print-number c = search needs
+shared-slice-read-print-next : tie.Need-shared-slice-read-print-next Inv-loop μ-loop
+shared-slice-read-print-next c = search needs
 
-shared-slice-read-print-number : tie.Need-shared-slice-read-print-number Inv-loop μ-loop
-shared-slice-read-print-number c = search needs
-
-print-number-requires-3 : tie.Need-print-number-requires-3 Inv-loop μ-loop
-print-number-requires-3 c κs = tt
-
-space-requires-3 : tie.Need-space-requires-3 Inv-loop μ-loop
-space-requires-3 c κs = tt
+print-next-requires : tie.Need-print-next-requires Inv-loop μ-loop
+print-next-requires c κs = tt
 
 mul-print-float : tie.Need-mul-print-float Inv-loop μ-loop
 mul-print-float c = search needs
@@ -55,9 +41,6 @@ loop-less c = search needs
 loop-again : tie.Need-loop-again Inv-loop μ-loop
 loop-again c = search needs
 
-end-line-requires : tie.Need-end-line-requires Inv-loop μ-loop
-end-line-requires c κs = tt
-
 returns : tie.Need-returns Inv-loop μ-loop
 returns c = tt
 
@@ -67,20 +50,14 @@ print-changes-spec =
     (tie.spec
     Inv-loop
     μ-loop
-    print-number-requires
-    space-requires
-    print-number-requires-2
     loop-holds
-    space-requires-2
-    mul-print-number
-    shared-slice-read-print-number
-    print-number-requires-3
-    space-requires-3
+    mul-print-next
+    shared-slice-read-print-next
+    print-next-requires
     mul-print-float
     shared-slice-read-print-float
     print-float-requires
     add-i
     loop-less
     loop-again
-    end-line-requires
     returns)

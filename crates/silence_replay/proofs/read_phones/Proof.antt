@@ -1,40 +1,29 @@
-use borrow.Author.Needs.{needs}
+-- Safe and ending: what is left of the count falls, and the room keeps its length. No place is written but by `set_phone`, which looks first.
 use mathlib.Core.Path.{_≡_}
 use Prim.Native.Nat.{_-_, _≤_}
 use lib.ListN.{length}
+use borrow.Author.Needs.{needs}
 use Rattle.silence_replay.proofs.read_phones.Statement.{statement}
 use Rattle.silence_replay.proofs.read_phones.Tie as tie
 
 abbrev Inv-loop : tie.InvT-loop
-Inv-loop text at items₀ count next₀ i₀ items next i =
-    (i ≤ count) × (length items ≡ length items₀)
+Inv-loop text at n items₀ next₀ i₀ items next i =
+    (i ≤ n) × (length items ≡ length items₀)
 
 abbrev μ-loop : tie.MeasureT-loop
-μ-loop text at items₀ count next₀ i₀ items next i = count - i
-
-number-requires : tie.Need-number-requires Inv-loop μ-loop
-number-requires c κs = tt
-
-returns : tie.Need-returns Inv-loop μ-loop
-returns c = tt
+μ-loop text at n items₀ next₀ i₀ items next i = n - i
 
 loop-holds : tie.Need-loop-holds Inv-loop μ-loop
 loop-holds c = search needs
 
-after-minus-requires : tie.Need-after-minus-requires Inv-loop μ-loop
-after-minus-requires c κs = tt
-
-number-requires-2 : tie.Need-number-requires-2 Inv-loop μ-loop
-number-requires-2 c κs = tt
+signed-number-requires : tie.Need-signed-number-requires Inv-loop μ-loop
+signed-number-requires c κs = tt
 
 phone-requires : tie.Need-phone-requires Inv-loop μ-loop
 phone-requires c κs = tt
 
-mul-t14 : tie.Need-mul-t14 Inv-loop μ-loop
-mul-t14 c = search needs
-
-slice-set-from-items : tie.Need-slice-set-from-items Inv-loop μ-loop
-slice-set-from-items c = search needs
+set-phone-requires : tie.Need-set-phone-requires Inv-loop μ-loop
+set-phone-requires c κs = tt
 
 add-i : tie.Need-add-i Inv-loop μ-loop
 add-i c = search needs
@@ -48,8 +37,8 @@ loop-again c = search needs
 same-length : tie.Need-same-length Inv-loop μ-loop
 same-length c = search needs
 
-returns-2 : tie.Need-returns-2 Inv-loop μ-loop
-returns-2 c = tt
+returns : tie.Need-returns Inv-loop μ-loop
+returns c = tt
 
 pub read-phones-spec : {M : Type 1} → statement M
 read-phones-spec =
@@ -57,16 +46,12 @@ read-phones-spec =
     (tie.spec
     Inv-loop
     μ-loop
-    number-requires
-    returns
     loop-holds
-    after-minus-requires
-    number-requires-2
+    signed-number-requires
     phone-requires
-    mul-t14
-    slice-set-from-items
+    set-phone-requires
     add-i
     loop-less
     loop-again
     same-length
-    returns-2)
+    returns)

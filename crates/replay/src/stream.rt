@@ -1,0 +1,458 @@
+// The lines that make a stream, or call it. Each call is lent the fronts of the program's rooms that the script wants.
+use super::lengths::CmvnStats;
+use super::lengths::Current;
+use super::lengths::Frames;
+use super::lengths::Gconsts;
+use super::lengths::GlobalRow;
+use super::lengths::InvVars;
+use super::lengths::Lda;
+use super::lengths::LdaOffset;
+use super::lengths::Lengths;
+use super::lengths::Linear;
+use super::lengths::Means;
+use super::lengths::Quadratic;
+use super::lengths::Rows;
+use super::lengths::Scratch;
+use super::lengths::SigmaInvM;
+use super::lengths::U;
+use super::lengths::WaitingFrames;
+use super::lengths::WaitingWeights;
+use super::lengths::fit;
+use super::lengths::front_f32;
+use super::lengths::front_f64;
+use super::lengths::front_u32;
+use super::lengths::front_usize;
+use super::lengths::lend_f32;
+use super::lengths::lend_f64;
+use super::lengths::lend_u32;
+use super::lengths::lend_usize;
+use super::lengths::needs;
+use super::lengths::read_lengths;
+use super::print::does_not_fit;
+use super::print::not_here;
+use super::print::print_answer;
+use super::print::print_next;
+use super::print::print_vector;
+use super::print::say;
+use super::session::Held;
+use super::session::Session;
+use super::session::after;
+use super::session::called;
+use super::session::closed;
+use super::session::model_of;
+use super::session::opened;
+use definition::IvectorInfo;
+use definition::IvectorStream;
+use definition::NewStream;
+use definition::StreamCall;
+
+// ---- `s FL RL WF WW c0 .. c4`
+
+fn new_in(
+    info: IvectorInfo,
+    z: Lengths,
+    gconsts: &[f32],
+    means_invvars_t: &[f32],
+    inv_vars_t: &[f32],
+    sigma_inv_m: &[f64],
+    u: &[f64],
+    lda_t: &[f32],
+    lda_offset: &[f32],
+    global_mean_stats: &[f64],
+    frames: &[f32],
+    rows: &mut [f64],
+    waiting_frames: &[usize],
+    waiting_weights: &[f32],
+    cmvn_stats: &mut [f64],
+    linear: &mut [f64],
+    quadratic: &mut [f64],
+    current: &mut [f64],
+    scratch: &[f64],
+) -> NewStream {
+    ivector_stream::new(
+        info,
+        front_f32(gconsts, z[0]),
+        front_f32(means_invvars_t, z[1]),
+        front_f32(inv_vars_t, z[2]),
+        front_f64(sigma_inv_m, z[3]),
+        front_f64(u, z[4]),
+        front_f32(lda_t, z[5]),
+        front_f32(lda_offset, z[6]),
+        front_f64(global_mean_stats, z[7]),
+        front_f32(frames, z[8]),
+        lend_f64(rows, z[9]),
+        front_usize(waiting_frames, z[10]),
+        front_f32(waiting_weights, z[11]),
+        lend_f64(cmvn_stats, z[12]),
+        lend_f64(linear, z[13]),
+        lend_f64(quadratic, z[14]),
+        lend_f64(current, z[15]),
+        front_f64(scratch, z[16]),
+    )
+}
+
+pub(crate) fn new_line(
+    text: &[u8],
+    at: usize,
+    session: Session,
+    gconsts: &Gconsts,
+    means_invvars_t: &Means,
+    inv_vars_t: &InvVars,
+    sigma_inv_m: &SigmaInvM,
+    u: &U,
+    lda_t: &Lda,
+    lda_offset: &LdaOffset,
+    global_mean_stats: &GlobalRow,
+    frames: &Frames,
+    rows: &mut Rows,
+    waiting_frames: &WaitingFrames,
+    waiting_weights: &WaitingWeights,
+    cmvn_stats: &mut CmvnStats,
+    linear: &mut Linear,
+    quadratic: &mut Quadratic,
+    current: &mut Current,
+    scratch: &Scratch,
+) -> Session {
+    let told = session.told;
+    let Held::Model(info) = model_of(told) else {
+        not_here();
+        return session;
+    };
+    let z = stream_lengths(text, at, session);
+    if !fit(z, 8, 17) {
+        does_not_fit();
+        return closed(session);
+    }
+    let answer = new_in(
+        info,
+        z,
+        gconsts,
+        means_invvars_t,
+        inv_vars_t,
+        sigma_inv_m,
+        u,
+        lda_t,
+        lda_offset,
+        global_mean_stats,
+        frames,
+        rows,
+        waiting_frames,
+        waiting_weights,
+        cmvn_stats,
+        linear,
+        quadratic,
+        current,
+        scratch,
+    );
+    opened(session, answer, z)
+}
+
+// The lengths that a fresh stream is lent: of the tables, what the script wants by now; of the rest, what the line says, against the needs
+// of the model as it was loaded.
+fn stream_lengths(text: &[u8], at: usize, session: Session) -> Lengths {
+    let held = session.held;
+    let lent = session.lent;
+    let Held::Model(i) = model_of(held) else {
+        return lent;
+    };
+    let own = needs(i.opts, i.dims);
+    read_lengths(text, at, 8, 17, with_tables(own, lent))
+}
+
+// The lengths of z, with those of the tables from another list.
+fn with_tables(z: Lengths, tables: Lengths) -> Lengths {
+    [
+        tables[0],
+        tables[1],
+        tables[2],
+        tables[3],
+        tables[4],
+        tables[5],
+        tables[6],
+        tables[7],
+        z[8],
+        z[9],
+        z[10],
+        z[11],
+        z[12],
+        z[13],
+        z[14],
+        z[15],
+        z[16],
+    ]
+}
+
+// ---- the calls
+
+// `p n x1 .. xn`. A list that is longer than this room is longer than any frame.
+fn push_line(
+    text: &[u8],
+    at: usize,
+    z: Lengths,
+    s: IvectorStream,
+    frames: &mut [f32],
+    rows: &mut [f64],
+    waiting_frames: &[usize],
+    waiting_weights: &[f32],
+) -> StreamCall {
+    let mut frame = [0.0f32; 128];
+    let n = script::number(text, at, 10);
+    script::read_floats(text, n.next, n.value, &mut frame);
+    ivector_stream::push_frame(
+        s,
+        front_f32(&frame, n.value),
+        lend_f32(frames, z[8]),
+        lend_f64(rows, z[9]),
+        front_usize(waiting_frames, z[10]),
+        front_f32(waiting_weights, z[11]),
+    )
+}
+
+// `w nf f1 .. fnf nw w1 .. wnw`. Lists that are longer than these rooms are longer than a change may be.
+fn change_line(
+    text: &[u8],
+    at: usize,
+    z: Lengths,
+    s: IvectorStream,
+    frames: &[f32],
+    rows: &[f64],
+    waiting_frames: &mut [usize],
+    waiting_weights: &mut [f32],
+) -> StreamCall {
+    let mut delta_frames = [0usize; 1026];
+    let mut delta_weights = [0.0f32; 1026];
+    let nf = script::number(text, at, 10);
+    let next = script::read_numbers(text, nf.next, nf.value, &mut delta_frames);
+    let nw = script::number(text, next, 10);
+    script::read_floats(text, nw.next, nw.value, &mut delta_weights);
+    ivector_stream::update_frame_weights(
+        s,
+        front_usize(&delta_frames, nf.value),
+        front_f32(&delta_weights, nw.value),
+        front_f32(frames, z[8]),
+        front_f64(rows, z[9]),
+        lend_usize(waiting_frames, z[10]),
+        lend_f32(waiting_weights, z[11]),
+    )
+}
+
+// `f`, and `d F`
+fn mark_line(
+    letter: u8,
+    text: &[u8],
+    at: usize,
+    z: Lengths,
+    s: IvectorStream,
+    frames: &[f32],
+    rows: &[f64],
+    waiting_frames: &[usize],
+    waiting_weights: &[f32],
+) -> StreamCall {
+    let frames_lent = front_f32(frames, z[8]);
+    let rows_lent = front_f64(rows, z[9]);
+    let waiting_frames_lent = front_usize(waiting_frames, z[10]);
+    let waiting_weights_lent = front_f32(waiting_weights, z[11]);
+    if letter == b'f' {
+        return ivector_stream::set_input_finished(
+            s,
+            frames_lent,
+            rows_lent,
+            waiting_frames_lent,
+            waiting_weights_lent,
+        );
+    }
+    let frame = script::number(text, at, 10);
+    ivector_stream::forget_before(
+        s,
+        frame.value,
+        frames_lent,
+        rows_lent,
+        waiting_frames_lent,
+        waiting_weights_lent,
+    )
+}
+
+fn fetch_in(
+    s: IvectorStream,
+    frame: usize,
+    z: Lengths,
+    gconsts: &[f32],
+    means_invvars_t: &[f32],
+    inv_vars_t: &[f32],
+    sigma_inv_m: &[f64],
+    u: &[f64],
+    lda_t: &[f32],
+    lda_offset: &[f32],
+    global_mean_stats: &[f64],
+    frames: &[f32],
+    rows: &[f64],
+    waiting_frames: &mut [usize],
+    waiting_weights: &mut [f32],
+    cmvn_stats: &mut [f64],
+    linear: &mut [f64],
+    quadratic: &mut [f64],
+    current: &mut [f64],
+    scratch: &mut [f64],
+    out: &mut [u32],
+) -> StreamCall {
+    ivector_fetch::get_frame(
+        s,
+        frame,
+        front_f32(gconsts, z[0]),
+        front_f32(means_invvars_t, z[1]),
+        front_f32(inv_vars_t, z[2]),
+        front_f64(sigma_inv_m, z[3]),
+        front_f64(u, z[4]),
+        front_f32(lda_t, z[5]),
+        front_f32(lda_offset, z[6]),
+        front_f64(global_mean_stats, z[7]),
+        front_f32(frames, z[8]),
+        front_f64(rows, z[9]),
+        lend_usize(waiting_frames, z[10]),
+        lend_f32(waiting_weights, z[11]),
+        lend_f64(cmvn_stats, z[12]),
+        lend_f64(linear, z[13]),
+        lend_f64(quadratic, z[14]),
+        lend_f64(current, z[15]),
+        lend_f64(scratch, z[16]),
+        out,
+    )
+}
+
+// `v F n`. An output that is longer than 160 is longer than any vector.
+pub(crate) fn fetch_line(
+    text: &[u8],
+    at: usize,
+    session: Session,
+    gconsts: &Gconsts,
+    means_invvars_t: &Means,
+    inv_vars_t: &InvVars,
+    sigma_inv_m: &SigmaInvM,
+    u: &U,
+    lda_t: &Lda,
+    lda_offset: &LdaOffset,
+    global_mean_stats: &GlobalRow,
+    frames: &Frames,
+    rows: &Rows,
+    waiting_frames: &mut WaitingFrames,
+    waiting_weights: &mut WaitingWeights,
+    cmvn_stats: &mut CmvnStats,
+    linear: &mut Linear,
+    quadratic: &mut Quadratic,
+    current: &mut Current,
+    scratch: &mut Scratch,
+) -> Session {
+    let mut out = [0u32; 160];
+    let frame = script::number(text, at, 10);
+    let n = script::number(text, frame.next, 10);
+    let told = session.told;
+    let z = session.lent;
+    let Held::Stream(s) = told else {
+        not_here();
+        return session;
+    };
+    let call = fetch_in(
+        s,
+        frame.value,
+        z,
+        gconsts,
+        means_invvars_t,
+        inv_vars_t,
+        sigma_inv_m,
+        u,
+        lda_t,
+        lda_offset,
+        global_mean_stats,
+        frames,
+        rows,
+        waiting_frames,
+        waiting_weights,
+        cmvn_stats,
+        linear,
+        quadratic,
+        current,
+        scratch,
+        lend_u32(&mut out, n.value),
+    );
+    fetched(session, call, front_u32(&out, n.value))
+}
+
+fn fetched(session: Session, call: StreamCall, vector: &[u32]) -> Session {
+    let a = call.answer;
+    print_answer(a);
+    if a.refusal == 0 {
+        print_next(a.not_finite);
+        print_vector(vector);
+    }
+    say(b"\n");
+    let stream = call.stream;
+    after(session, stream)
+}
+
+fn is_call(letter: u8) -> bool {
+    match letter {
+        b'p' | b'f' | b'w' | b'd' => true,
+        _ => false,
+    }
+}
+
+// A call that is lent the rings alone.
+pub(crate) fn ring_line(
+    letter: u8,
+    text: &[u8],
+    at: usize,
+    session: Session,
+    frames: &mut Frames,
+    rows: &mut Rows,
+    waiting_frames: &mut WaitingFrames,
+    waiting_weights: &mut WaitingWeights,
+) -> Session {
+    let told = session.told;
+    let z = session.lent;
+    let Held::Stream(s) = told else {
+        not_here();
+        return session;
+    };
+    if !is_call(letter) {
+        not_here();
+        return session;
+    }
+    if letter == b'p' {
+        let call = push_line(
+            text,
+            at,
+            z,
+            s,
+            frames,
+            rows,
+            waiting_frames,
+            waiting_weights,
+        );
+        return called(session, call);
+    }
+    if letter == b'w' {
+        let call = change_line(
+            text,
+            at,
+            z,
+            s,
+            frames,
+            rows,
+            waiting_frames,
+            waiting_weights,
+        );
+        return called(session, call);
+    }
+    let call = mark_line(
+        letter,
+        text,
+        at,
+        z,
+        s,
+        frames,
+        rows,
+        waiting_frames,
+        waiting_weights,
+    );
+    called(session, call)
+}
