@@ -195,7 +195,7 @@ pub record Files : Type 0 where
 
 -- a file of its own, from its start; the bytes after its last item are ignored
 abbrev pub file : {A : Type 0} → Parser A → List ℕ → Parser A
-file p bytes s at = after (p bytes 0) (λ a _ _. read a at) bytes
+file p bytes s i = after (p bytes 0) (λ a _ _. read a i) bytes
 
 -- the files together, then the rooms: lent lengths z, and of scratch
 unfoldable pub judged : IvectorOptions → TableLengths → ℕ → Contents → Parser Model

@@ -55,12 +55,9 @@ every ls = build (length ls) (λ g. (g, at ls g))
 abbrev pub maxLike : List Float → Float
 maxLike ls = foldl larger (inf true) ls
 
--- of log-likelihoods, the likelihoods, and the k most likely
-abbrev pub likelihoods : Float → List Post → List Post
-likelihoods max-like ps = map (λ p. (p .0, expOf (p .1 -₃₂ max-like))) ps
-
+-- of log-likelihoods the k most likely, as likelihoods
 unfoldable pub ranked : ℕ → Float → List Post → List Post
-ranked k max-like ps = take k (sorted (likelihoods max-like ps))
+ranked k max-like ps = take k (sorted (map (λ p. (p .0, expOf (p .1 -₃₂ max-like))) ps))
 
 -- the k most likely of the log-likelihoods ls, of those not below min_post of the largest where there are any
 unfoldable pub bestOf : List Float → ℕ → Float → List Post

@@ -59,13 +59,10 @@ pub record Cgd : Type 0 where
   pub r-cur : Float
   pub r-recompute : Float
 
--- 3f84.. is 0.01
-abbrev pub residualFactor : Float
-residualFactor = f64 0x3f84_7ae1_47ae_147b *₆₄ f64 0x3f84_7ae1_47ae_147b
-
--- of the residual squared: whether it shrank or grew past the factor since it was recomputed
+-- of the residual squared: whether it shrank or grew past a factor since it was recomputed; 3f84.. is 0.01
 abbrev pub residualFar : Float → Float → Bool
-residualFar square recomputed = lt square (residualFactor *₆₄ recomputed) || lt (one₆₄ /₆₄ residualFactor *₆₄ recomputed) square
+residualFar square recomputed =
+    let factor = f64 0x3f84_7ae1_47ae_147b *₆₄ f64 0x3f84_7ae1_47ae_147b in lt square (factor *₆₄ recomputed) || lt (one₆₄ /₆₄ factor *₆₄ recomputed) square
 
 -- whether it is at most MIN_POSITIVE (0010..), which ends the turns
 abbrev pub residualLast : Float → Bool

@@ -17,18 +17,16 @@ pub record Stats : Type 0 where
   pub linear : List Float
   pub quadratic : List Float  -- packed
 
+abbrev pub statsFrom : Float → List Float → List Float → Stats
+statsFrom n linear quadratic = record { num-frames = n; linear = linear; quadratic = quadratic }
+
 -- v added to the diagonal of a packed matrix, s wide
 unfoldable pub addDiagonal : ℕ → Float → List Float → List Float
 addDiagonal s v q = iter s (λ i q. set q (packed i i) (at q (packed i i) +₆₄ v)) q
 
 -- `OnlineIvectorStats::new`, of the i-vector dimension and the prior offset
 unfoldable pub newStats : ℕ → Float → Stats
-newStats s prior =
-    record {
-      num-frames = zero₆₄;
-      linear = set (replicate s zero₆₄) 0 (zero₆₄ +₆₄ prior);
-      quadratic = addDiagonal s one₆₄ (replicate (triangle s) zero₆₄);
-    }
+newStats s prior = statsFrom zero₆₄ (set (replicate s zero₆₄) 0 (zero₆₄ +₆₄ prior)) (addDiagonal s one₆₄ (replicate (triangle s) zero₆₄))
 
 -- more of the prior, past `max_count` frames: tot is the batch's weight
 unfoldable pub rescaled : ℕ → Float → Float → Float → Stats → Stats
@@ -36,11 +34,8 @@ rescaled s prior max-count tot st =
     let scale : Float → Float = λ n. larger n max-count /₆₄ max-count in
     let change = scale (st .num-frames +₆₄ tot) -₆₄ scale (st .num-frames) in
     let more = lt zero₆₄ max-count && ne change zero₆₄ in
-    record {
-      num-frames = st .num-frames +₆₄ tot;
-      linear = if more then set (st .linear) 0 (at (st .linear) 0 +₆₄ prior *₆₄ change) else st .linear;
-      quadratic = if more then addDiagonal s change (st .quadratic) else st .quadratic;
-    }
+    statsFrom (st .num-frames +₆₄ tot) (if more then set (st .linear) 0 (at (st .linear) 0 +₆₄ prior *₆₄ change) else st .linear)
+    (if more then addDiagonal s change (st .quadratic) else st .quadratic)
 
 -- a posterior of a batch: its Gaussian, its scaled value, and the raw feature row of its frame
 pub record Entry : Type 0 where
@@ -67,8 +62,5 @@ accQuadratic s u es quadratic = build (triangle s) (λ i. total₆₄ (at quadra
 
 unfoldable pub acc : ℕ → ℕ → List Float → List Float → Float → Float → List Entry → Stats → Stats
 acc d s sigma-inv-m u prior max-count es st =
-    rescaled s prior max-count (total₆₄ zero₆₄ (map (λ g. sumFor es g (λ e. e .value)) (seen es))) (record {
-      num-frames = st .num-frames;
-      linear = accLinear d s sigma-inv-m es (st .linear);
-      quadratic = accQuadratic s u es (st .quadratic);
-    })
+    rescaled s prior max-count (total₆₄ zero₆₄ (map (λ g. sumFor es g (λ e. e .value)) (seen es)))
+    (statsFrom (st .num-frames) (accLinear d s sigma-inv-m es (st .linear)) (accQuadratic s u es (st .quadratic)))

@@ -10,8 +10,8 @@ use Rattle.loops.specs.Lists.{those}
 use Rattle.loops.proofs.Tests.{those-all, at-each}
 use Rattle.floats.specs.Operators.{_+₃₂_, zero₃₂}
 use Rattle.floats.specs.Ln.{lnNarrow}
-use Rattle.definition.specs.Posteriors.{Post, sorted, orElse, likelihoods, every, maxLike, ranked, bestOf}
-use Rattle.diag_gmm.specs.Steps.{held}
+use Rattle.definition.specs.Posteriors.{Post, sorted, orElse, every, maxLike, ranked, bestOf}
+use Rattle.diag_gmm.specs.Steps.{held, likelihoods}
 use Rattle.diag_gmm.proofs.Comparing.{differs, same}
 use Rattle.diag_gmm.proofs.Rooms.{length-held}
 use Rattle.diag_gmm.proofs.Sorting.{length-sort}

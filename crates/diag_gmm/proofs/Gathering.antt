@@ -13,7 +13,8 @@ use Rattle.loops.proofs.Build.{length-build, at-build}
 use Rattle.loops.proofs.Parts.{drop-next}
 use Rattle.floats.specs.Operators.{_-₃₂_, at}
 use Rattle.floats.specs.Exp.{expOf}
-use Rattle.definition.specs.Posteriors.{Post, insert, sorted, likelihoods, every, ranked}
+use Rattle.definition.specs.Posteriors.{Post, insert, sorted, every, ranked}
+use Rattle.diag_gmm.specs.Steps.{likelihoods}
 use Rattle.diag_gmm.proofs.Sorting.{into, take-sort}
 
 length-every : (ls : List Float) → length (every ls) ≡ length ls

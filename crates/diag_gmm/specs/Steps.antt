@@ -1,13 +1,19 @@
 -- What the contracts say besides the definition: `held` and `Fair` of the rooms that a caller lends. The rest is not for readers.
 use mathlib.Core.Path.{_≡_}
-use mathlib.Core.List.{List, [], _∷_, zipWith}
+use mathlib.Core.List.{List, [], _∷_, map, zipWith}
 use Prim.Native.Nat.{ℕ, zero, suc, _<_}
 use lib.ListN.{take, getD}
 use lib.Ieee.{Float}
+use Rattle.floats.specs.Operators.{_-₃₂_}
+use Rattle.floats.specs.Exp.{expOf}
 use Rattle.definition.specs.Posteriors.{Post}
 
 abbrev pub post : ℕ → Float → Post
 post g p = (g, p)
+
+-- of log-likelihoods, the likelihoods
+abbrev pub likelihoods : Float → List Post → List Post
+likelihoods max-like ps = map (λ p. (p .0, expOf (p .1 -₃₂ max-like))) ps
 
 -- the posteriors that the first n places of two rooms hold: Gaussians in one, values in the other
 unfoldable pub held : ℕ → List ℕ → List Float → List Post

@@ -19,7 +19,7 @@ use Rattle.definition.specs.declared.NewTable.the-variants as T
 use Rattle.definition.specs.Model.{lengthsFrom}
 use Rattle.definition.specs.Silence.{decoder}
 use Rattle.program.specs.Rooms.{ringsFrom, estimateFrom, roomsFrom, roomLengthsOf}
-use Rattle.program.specs.Calls.{freshStream}
+use Rattle.program.specs.Calls.{answerFrom, freshStream}
 use Rattle.exports.specs.declared.LoadAnswer.{LoadAnswer}
 use Rattle.exports.specs.declared.NewTableAnswer.{NewTableAnswer}
 use Rattle.exports.specs.declared.SilenceCounts.{SilenceCounts}
@@ -45,7 +45,7 @@ answered a s = record { answer = a; stream = s }
 
 unfoldable pub newStreamAnswer : IvectorInfo → NewStream → StreamCall
 newStreamAnswer i (N.Stream c) = c
-newStreamAnswer i (N.Refused n) = answered (record { refusal = n; «frames_held» = 0; «rows_held» = 0; «not_finite» = 0 }) (noStream i)
+newStreamAnswer i (N.Refused n) = answered (answerFrom n 0 0 0) (noStream i)
 
 -- no subsampling is 0
 abbrev pub noTable : SilenceWeighting

@@ -48,16 +48,13 @@ streamFrom i z accepted next mark waiting past-highest called finished n =
 
 -- ---- answers
 
+abbrev pub answerFrom : ℕ → ℕ → ℕ → ℕ → StreamAnswer
+answerFrom r frames rows n = record { refusal = r; «frames_held» = frames; «rows_held» = rows; «not_finite» = n }
+
 -- refusal r, on a record s, with n elements not finite; a refusal 10 is its number alone
 unfoldable pub answerOf : ℕ → IvectorStream → ℕ → StreamAnswer
 answerOf r s n =
-    if eqb r 10 then record { refusal = r; «frames_held» = 0; «rows_held» = 0; «not_finite» = 0 }
-    else record {
-      refusal = r;
-      «frames_held» = framesHeld (s .accepted) (s .mark);
-      «rows_held» = rowsHeld (s .info .opts .«cmn_window») (s .accepted) (s .mark);
-      «not_finite» = n;
-    }
+    if eqb r 10 then answerFrom r 0 0 0 else answerFrom r (framesHeld (s .accepted) (s .mark)) (rowsHeld (s .info .opts .«cmn_window») (s .accepted) (s .mark)) n
 
 -- what a call returns, s being the record that it leaves
 abbrev pub callOf : ℕ → IvectorStream → ℕ → StreamCall
