@@ -1,5 +1,5 @@
 // The lines that forge what the next call is told: a length, a field of the record, the waiting frames.
-use super::lengths::move_length;
+use super::rooms::move_length;
 use super::session::Held;
 use super::session::Session;
 use super::session::forge;

@@ -1,9 +1,9 @@
 // What stands between two lines of a script, and what a line leaves.
-use super::lengths::Lengths;
 use super::print::does_not_fit;
 use super::print::print_answer;
 use super::print::print_line;
 use super::print::say;
+use super::rooms::Lengths;
 use definition::IvectorInfo;
 use definition::IvectorOptions;
 use definition::IvectorStream;
