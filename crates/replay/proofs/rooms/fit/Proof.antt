@@ -1,8 +1,8 @@
 -- Safe and ending: what is left of the count falls. No place is read but by `length_of`, which looks first.
 use Prim.Native.Nat.{_-_}
 use borrow.Author.Needs.{needs}
-use Rattle.replay.proofs.lengths.fit.Statement.{statement}
-use Rattle.replay.proofs.lengths.fit.Tie as tie
+use Rattle.replay.proofs.rooms.fit.Statement.{statement}
+use Rattle.replay.proofs.rooms.fit.Tie as tie
 
 abbrev Inv-loop : tie.InvT-loop
 Inv-loop z from to k₀ k =

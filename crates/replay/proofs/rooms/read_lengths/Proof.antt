@@ -1,8 +1,8 @@
 -- Safe and ending: what is left of the count falls. No place is written but by `move_length`, which looks first.
 use Prim.Native.Nat.{_-_}
 use borrow.Author.Needs.{needs}
-use Rattle.replay.proofs.lengths.read_lengths.Statement.{statement}
-use Rattle.replay.proofs.lengths.read_lengths.Tie as tie
+use Rattle.replay.proofs.rooms.read_lengths.Statement.{statement}
+use Rattle.replay.proofs.rooms.read_lengths.Tie as tie
 
 abbrev Inv-loop : tie.InvT-loop
 Inv-loop text at from to out₀ next₀ k₀ out next k =

@@ -2,8 +2,8 @@
 use native.Mathlib.Nat.{mul-le-mul}
 use native.Mathlib.Omega.{arith}
 use borrow.Author.Needs.{needs}
-use Rattle.replay.proofs.lengths.times.Statement.{statement}
-use Rattle.replay.proofs.lengths.times.Tie as tie
+use Rattle.replay.proofs.rooms.times.Statement.{statement}
+use Rattle.replay.proofs.rooms.times.Tie as tie
 
 returns : tie.Need-returns
 returns c = tt
