@@ -185,6 +185,4 @@ extractor = do
 -- ---- the LDA
 
 unfoldable pub lda : Parser Matrix
-lda = do
-  binary
-  matrix binary32 false maxFeat maxColumns
+lda = binary >> matrix binary32 false maxFeat maxColumns

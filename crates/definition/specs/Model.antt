@@ -22,12 +22,15 @@ use Rattle.definition.specs.Text.{cmvn}
 
 -- ---- `DiagGmm::parse`
 
--- of Gaussian i; 4019.. is 2 pi
+-- 4019.. is 2 pi
+abbrev pub gconstOffset : ℕ → Float
+gconstOffset d = neg half₆₄ *₆₄ lnOf (f64 0x4019_21fb_5444_2d18) *₆₄ asF64 d
+
+-- of Gaussian i
 unfoldable pub gconst : Gmm → ℕ → Float
 gconst x i =
     let d = x .inv-vars .cols in
-    let offset = neg half₆₄ *₆₄ lnOf (f64 0x4019_21fb_5444_2d18) *₆₄ asF64 d in
-    narrowed (sum₆₄ (lnOf (at (x .weights) i) +₆₄ offset) d (λ k.
+    narrowed (sum₆₄ (lnOf (at (x .weights) i) +₆₄ gconstOffset d) d (λ k.
     let miv = at (x .means-invvars .nums) (i * d + k) in
     let iv = at (x .inv-vars .nums) (i * d + k) in
     half₆₄ *₆₄ lnOf iv -₆₄ half₆₄ *₆₄ miv *₆₄ miv /₆₄ iv))
@@ -99,6 +102,10 @@ tablesFrom gconsts means-invvars-t inv-vars-t sigma-inv-m u lda-t lda-offset glo
       global-mean-stats = global-mean-stats;
     }
 
+-- row r of the column after n of them, or 0 where there is none
+abbrev pub ldaOffset : ℕ → Matrix → ℕ → Float
+ldaOffset n x r = if ltb n (x .cols) then at (x .nums) (r * x .cols + n) else zero₃₂
+
 -- the tables that the files define
 unfoldable pub tablesOf : IvectorOptions → Contents → Tables
 tablesOf o c =
@@ -114,7 +121,7 @@ tablesOf o c =
     (flat (x .num-gauss) sim)
     (flat (x .num-gauss) (λ i. quadraticTerm d s (m i) (sim i)))
     (transposed n (c .lda))
-    (build d (λ r. if ltb n (c .lda .cols) then at (c .lda .nums) (r * c .lda .cols + n) else zero₃₂))
+    (build d (ldaOffset n (c .lda)))
     (c .global-row)
 
 -- a loaded model: its record, and its tables
@@ -197,6 +204,15 @@ pub record Files : Type 0 where
 abbrev pub file : {A : Type 0} → Parser A → List ℕ → Parser A
 file p bytes s i = after (p bytes 0) (λ a _ _. read a i) bytes
 
+-- the four files, one after the other
+abbrev pub reading : Files → Parser Contents
+reading f = do
+  g ← file gmm (f .gmm)
+  x ← file extractor (f .extractor)
+  l ← file lda (f .lda)
+  r ← file cmvn (f .cmvn)
+  give (record { gmm = g; extractor = x; lda = l; global-row = r })
+
 -- the files together, then the rooms: lent lengths z, and of scratch
 unfoldable pub judged : IvectorOptions → TableLengths → ℕ → Contents → Parser Model
 judged o z scratch c = do
@@ -208,11 +224,8 @@ judged o z scratch c = do
 unfoldable pub loading : IvectorOptions → Files → TableLengths → ℕ → Parser Model
 loading o f z scratch = do
   need (optionsInRange o) 1
-  g ← file gmm (f .gmm)
-  x ← file extractor (f .extractor)
-  l ← file lda (f .lda)
-  r ← file cmvn (f .cmvn)
-  judged o z scratch (record { gmm = g; extractor = x; lda = l; global-row = r })
+  c ← reading f
+  judged o z scratch c
 
 unfoldable pub load : IvectorOptions → Files → TableLengths → ℕ → Got Model
 load o f z scratch = loading o f z scratch [] 0

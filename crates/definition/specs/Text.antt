@@ -82,9 +82,7 @@ row (suc n) s i = after (skip (λ b. not (eqb b 10) && space b) s i) (λ _ t p. 
 
 -- a row of at most 65, after blanks and blank rows
 unfoldable pub line : Parser (List Float)
-line = do
-  skip space
-  row 66
+line = skip space >> row 66
 
 -- one byte
 unfoldable pub byte : ℕ → Parser (Unit {0})
@@ -92,9 +90,7 @@ byte b s i = if here (eqb b) s i then read tt (i + 1) else refused 7
 
 -- a bracket, blanks aside
 unfoldable pub bracket : ℕ → Parser (Unit {0})
-bracket b = do
-  skip space
-  byte b
+bracket b = skip space >> byte b
 
 -- nothing more, blanks aside
 unfoldable pub ending : Parser (Unit {0})

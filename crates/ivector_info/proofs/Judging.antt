@@ -13,10 +13,8 @@ use Rattle.definition.specs.declared.IvectorOptions.{IvectorOptions}
 use Rattle.definition.specs.declared.Dimensions.{Dimensions}
 use Rattle.definition.specs.declared.TableLengths.{TableLengths}
 use Rattle.definition.specs.Options.{optionsInRange, dimsAgree, spliced}
-use Rattle.definition.specs.Reader.{Got, read, refused, after, _>>=_, give}
-use Rattle.definition.specs.Kaldi.{Gmm, Extractor, Matrix, gmm, extractor, lda}
-use Rattle.definition.specs.Text.{cmvn}
-use Rattle.definition.specs.Model.{Files, Contents, Model, file, dimsOf, contentsAgree, modelOf, tablesFit, loadScratch, judged, loading, load}
+use Rattle.definition.specs.Reader.{Got, read, refused, after}
+use Rattle.definition.specs.Model.{Files, Contents, Model, dimsOf, contentsAgree, modelOf, tablesFit, loadScratch, judged, loading, load}
 use Rattle.kaldi_io.proofs.Chain.{goes, stops, met, unmet}
 use Rattle.definition.proofs.Ranges.{agreeing}
 use Rattle.ivector_info.specs.declared.Places.{Places}
@@ -24,34 +22,6 @@ use Rattle.ivector_info.specs.Steps.{contents, contentsAt, CheckedIn, Ju
 use Rattle.ivector_info.proofs.Files.{dims-are}
 
 module _ (o : IvectorOptions) (z : TableLengths) (n : ℕ) (f : Files) where
-  -- ---- the files first, then the judgement
-
-  fourth : (g : Gmm) (x : Extractor) (l : Matrix) (r : Got (List Float))
-      → after (after (after r (λ a _ _. read a 0) (f .cmvn)) (λ r. give {A = Contents} (record { gmm = g; extractor = x; lda = l; global-row = r })) []) (judged o z n) []
-      ≡ after (after r (λ a _ _. read a 0) (f .cmvn)) (λ r. judged o z n (record { gmm = g; extractor = x; lda = l; global-row = r })) []
-  fourth g x l (refused k) = refl
-  fourth g x l (read r p) = refl
-
-  third : (g : Gmm) (x : Extractor) (l : Got Matrix)
-      → after (after (after l (λ a _ _. read a 0) (f .lda)) (λ l. file cmvn (f .cmvn) >>= (λ r. give {A = Contents} (record { gmm = g; extractor = x; lda = l; global-row = r }))) []) (judged o z n) []
-      ≡ after (after l (λ a _ _. read a 0) (f .lda)) (λ l. file cmvn (f .cmvn) >>= (λ r. judged o z n (record { gmm = g; extractor = x; lda = l; global-row = r }))) []
-  third g x (refused k) = refl
-  third g x (read l p) = fourth g x l (cmvn (f .cmvn) 0)
-
-  second : (g : Gmm) (x : Got Extractor)
-      → after (after (after x (λ a _ _. read a 0) (f .extractor)) (λ x. file lda (f .lda) >>= (λ l. file cmvn (f .cmvn) >>= (λ r. give {A = Contents} (record { gmm = g; extractor = x; lda = l; global-row = r })))) []) (judged o z n) []
-      ≡ after (after x (λ a _ _. read a 0) (f .extractor)) (λ x. file lda (f .lda) >>= (λ l. file cmvn (f .cmvn) >>= (λ r. judged o z n (record { gmm = g; extractor = x; lda = l; global-row = r })))) []
-  second g (refused k) = refl
-  second g (read x p) = third g x (lda (f .lda) 0)
-
-  first : (g : Got Gmm)
-      → after
-      (after (after g (λ a _ _. read a 0) (f .gmm)) (λ g. file extractor (f .extractor) >>= (λ x. file lda (f .lda) >>= (λ l. file cmvn (f .cmvn) >>= (λ r. give {A = Contents} (record { gmm = g; extractor = x; lda = l; global-row = r }))))) [])
-      (judged o z n) []
-      ≡ after (after g (λ a _ _. read a 0) (f .gmm)) (λ g. file extractor (f .extractor) >>= (λ x. file lda (f .lda) >>= (λ l. file cmvn (f .cmvn) >>= (λ r. judged o z n (record { gmm = g; extractor = x; lda = l; global-row = r }))))) []
-  first (refused k) = refl
-  first (read g p) = second g (extractor (f .extractor) 0)
-
   -- ---- each way out
 
   pub options-out : optionsInRange o ≡ false → refused 1 ≡ load o f z n
@@ -61,7 +31,7 @@ module _ (o : IvectorOptions) (z : TableLengths) (n : ℕ) (f : Files) where
   module _ (options-in : optionsInRange o ≡ true) where
     past-files : {x : Got Model} → x ≡ after (contents f) (judged o z n) [] → x ≡ load o f z n
     unfolding load loading contents
-    past-files t = goes _ [] (sym (met 1 [] 0 options-in)) (t ∙ first (gmm (f .gmm) 0))
+    past-files t = goes _ [] (sym (met 1 [] 0 options-in)) t
 
     pub files-out : {k : ℕ} → refused k ≡ contents f → refused k ≡ load o f z n
     files-out e = past-files (stops (judged o z n) [] (sym e) refl)

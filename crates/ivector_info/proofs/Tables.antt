@@ -14,10 +14,10 @@ use Rattle.definition.specs.Options.{spliced}
 use Rattle.definition.specs.Reader.{Got, read, refused}
 use Rattle.definition.specs.Kaldi.{Matrix, Gmm}
 use Rattle.definition.specs.Text.{line}
-use Rattle.definition.specs.Model.{Files, Contents, Tables, tablesFrom, tablesOf, filledTables, Model, modelOf, gconst, transposed, loadedOf, loadedTables}
+use Rattle.definition.specs.Model.{Files, Contents, Tables, tablesFrom, tablesOf, filledTables, Model, modelOf, gconst, transposed, loadedOf, loadedTables, ldaOffset}
 use Rattle.definition.proofs.Ranges.{tables-fitting}
 use Rattle.kaldi_text.specs.Answers.{cells}
-use Rattle.ivector_tables.specs.Steps.{floatMatrix, gmmAt, ldaOffset, sigmaInvMs, quadraticTerms}
+use Rattle.ivector_tables.specs.Steps.{floatMatrix, gmmAt, sigmaInvMs, quadraticTerms}
 use Rattle.ivector_info.specs.Load.{scratchKept}
 use Rattle.ivector_info.specs.declared.Places.{Places}
 use Rattle.ivector_info.specs.Steps.{contentsAt, CheckedIn, JudgedIn, GmmFits, LdaFits}
@@ -77,7 +77,7 @@ module _ (o : IvectorOptions) (z : TableLengths) {f : Files} {d : Dimensions} (p
       × (offset ≡ over (build (d .«feat_dim») (ldaOffset (spliced o d) turning)) (t .lda-offset))
       × (row ≡ over (cells (line (f .cmvn) (at .row))) (t .global-mean-stats))
       → tablesFrom gconsts means vars sims us turned offset row ≡ loadedTables g t
-  unfolding tablesOf sigmaInvMs quadraticTerms ldaOffset
+  unfolding tablesOf sigmaInvMs quadraticTerms
   tables-are t p q r =
       let same = sym (dims-are x prior) in
       filled (tablesOf o here) t (p .0) (p .1) (p .2) (q .0) (q .1)

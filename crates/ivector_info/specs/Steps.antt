@@ -11,7 +11,7 @@ use Rattle.definition.specs.Options.{maxFeat, maxColumns, optionsInRange, splic
 use Rattle.definition.specs.Reader.{Got, read, refused, Parser, _>>=_, give}
 use Rattle.definition.specs.Kaldi.{gmm, extractor, lda}
 use Rattle.definition.specs.Text.{cmvn, line}
-use Rattle.definition.specs.Model.{Contents, Files, Model, file, modelOf, tablesFit, loadScratch}
+use Rattle.definition.specs.Model.{Contents, Files, Model, reading, modelOf, tablesFit, loadScratch}
 use Rattle.kaldi_io.specs.Answers.{MatrixIn}
 use Rattle.kaldi_files.specs.Answers.{GmmIn, ExtractorIn, means, inverses, items}
 use Rattle.kaldi_text.specs.Answers.{cells, RowIn}
@@ -23,14 +23,6 @@ use Rattle.ivector_info.specs.declared.Judged.{Judged}
 use Rattle.ivector_info.specs.declared.Judged.the-variants as J
 
 -- ---- the files
-
-abbrev pub reading : Files → Parser Contents
-reading f = do
-  g ← file gmm (f .gmm)
-  x ← file extractor (f .extractor)
-  l ← file lda (f .lda)
-  r ← file cmvn (f .cmvn)
-  give (record { gmm = g; extractor = x; lda = l; global-row = r })
 
 unfoldable pub contents : Files → Got Contents
 contents f = reading f [] 0

@@ -27,9 +27,9 @@ ghost use lib.ListN.{length};
 ghost use Rattle.loops.specs.Lists.{build, over};
 ghost use Rattle.definition.specs.Options.{spliced};
 ghost use Rattle.definition.specs.Text.{line};
-ghost use Rattle.definition.specs.Model.{gconst, transposed, Tables, tablesFrom, tableLengthsOf, Files, load as loadOf, loadedOf, loadedTables};
+ghost use Rattle.definition.specs.Model.{gconst, transposed, Tables, tablesFrom, tableLengthsOf, Files, load as loadOf, loadedOf, loadedTables, ldaOffset};
 ghost use Rattle.kaldi_text.specs.Answers.{cells};
-ghost use Rattle.ivector_tables.specs.Steps.{floatMatrix, gmmAt, ldaOffset};
+ghost use Rattle.ivector_tables.specs.Steps.{floatMatrix, gmmAt};
 ghost use Rattle.ivector_info.specs.Load.{filesOf, scratchKept};
 ghost use Rattle.ivector_info.specs.Steps.{contents, checkedOf, checkedIn, judgedOf, judgedIn, GmmFits, LdaFits};
 

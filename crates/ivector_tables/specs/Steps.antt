@@ -17,9 +17,6 @@ use Rattle.kaldi_files.specs.Answers.{means, inverses, items}
 
 -- ---- numbers that stand in the bytes s
 
-unfoldable pub offset₆₄ : ℕ → Float
-offset₆₄ d = neg half₆₄ *₆₄ lnOf (f64 0x4019_21fb_5444_2d18) *₆₄ asF64 d
-
 abbrev pub floatMatrix : List ℕ → ℕ → ℕ → ℕ → Matrix
 floatMatrix s rows cols from = record { rows = rows; cols = cols; nums = numbers binary32 (rows * cols) (drop from s) }
 
@@ -30,10 +27,6 @@ gmmAt s gauss dim weights means vars =
       means-invvars = floatMatrix s gauss dim means;
       inv-vars = floatMatrix s gauss dim vars;
     }
-
--- row r of the offset's column
-unfoldable pub ldaOffset : ℕ → Matrix → ℕ → Float
-ldaOffset n x r = if ltb n (x .cols) then at (x .nums) (r * x .cols + n) else zero₃₂
 
 -- ---- blocks that stand in the bytes s
 

@@ -24,17 +24,17 @@ ghost use Rattle.definition.specs.Options.{maxFeat, maxIvector};
 ghost use Rattle.definition.specs.Reader.{numbers};
 ghost use Rattle.definition.specs.Kaldi.{triangle, matrix, packedMatrix};
 ghost use Rattle.definition.specs.Text.{line};
-ghost use Rattle.definition.specs.Model.{gconst as gconstOf, transposed, packed, sigmaInvM, quadraticTerm};
+ghost use Rattle.definition.specs.Model.{gconst as gconstOf, transposed, packed, sigmaInvM, quadraticTerm, gconstOffset, ldaOffset};
 ghost use Rattle.kaldi_io.specs.Answers.{placeOf, Ready};
 ghost use Rattle.kaldi_files.specs.Answers.{GmmIn, ExtractorIn};
 ghost use Rattle.kaldi_text.specs.Answers.{cells, RowIn};
-ghost use Rattle.ivector_tables.specs.Steps.{offset₆₄, floatMatrix, gmmAt, ldaOffset, matrixNums, packedNums, MAt, SigmaAt, sigmaInvMs, quadraticTerms};
+ghost use Rattle.ivector_tables.specs.Steps.{floatMatrix, gmmAt, matrixNums, packedNums, MAt, SigmaAt, sigmaInvMs, quadraticTerms};
 
 // ---- the GMM
 
 // What the dimension adds to each constant: 6.28.. is 2 pi.
 fn gconst_offset(d: usize) -> f64
-    ensures { λ r. ⌜ r ≡ offset₆₄ d ⌝ }
+    ensures { λ r. ⌜ r ≡ gconstOffset d ⌝ }
 {
     -0.5 * floats::ln(6.283185307179586) * std::num::nearest_u64_to_f64(d as u64)
 }
@@ -60,7 +60,7 @@ fn gconst(
     g: usize,
 ) -> f32
     requires { ⌜ GmmIn (now s) «num_gauss» d weights «means_invvars» «inv_vars» ⌝ }
-    requires { ⌜ (offset ≡ offset₆₄ d) × (g < «num_gauss») ⌝ }
+    requires { ⌜ (offset ≡ gconstOffset d) × (g < «num_gauss») ⌝ }
     ensures { λ r. ⌜ r ≡ gconstOf (gmmAt (now (s .entry)) «num_gauss» d weights «means_invvars» «inv_vars») g ⌝ }
 {
     let n = num_gauss * d;

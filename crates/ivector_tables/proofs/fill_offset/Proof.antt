@@ -7,7 +7,8 @@ use native.Mathlib.Omega.{arith}
 use lib.ListN.{length, length-set}
 use Rattle.loops.specs.Steps.{fill}
 use Rattle.loops.proofs.Fill.{fill-none, fill-turn, fill-end, fill-over}
-use Rattle.ivector_tables.specs.Steps.{floatMatrix, ldaOffset}
+use Rattle.definition.specs.Model.{ldaOffset}
+use Rattle.ivector_tables.specs.Steps.{floatMatrix}
 use Rattle.ivector_tables.proofs.fill_offset.Statement.{statement}
 use Rattle.ivector_tables.proofs.fill_offset.Tie as tie
 

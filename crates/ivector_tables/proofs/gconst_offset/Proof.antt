@@ -1,4 +1,4 @@
--- `gconst_offset` meets its contract: the product of the definition's `offset₆₄`, the logarithm and the count by their calls' contracts
+-- `gconst_offset` meets its contract: the product of the definition's `gconstOffset`, the logarithm and the count by their calls' contracts
 -- (`offset-is` in Gmm.antt).
 use borrow.Author.Needs.{needs}
 use Rattle.ivector_tables.proofs.Gmm.{offset-is}
