@@ -59,7 +59,7 @@ maxLike ls = foldl larger (inf true) ls
 unfoldable pub ranked : ℕ → Float → List Post → List Post
 ranked k max-like ps = take k (sorted (map (λ p. (p .0, expOf (p .1 -₃₂ max-like))) ps))
 
--- the k most likely of the log-likelihoods ls, of those not below min_post of the largest where there are any
+-- the k most likely of the log-likelihoods ls: of those above the largest plus ln min_post; of all, where none is or min_post is 0
 unfoldable pub bestOf : List Float → ℕ → Float → List Post
 bestOf ls k min-post =
     let likely = if eq min-post zero₃₂ then [] else those (λ p. lt (maxLike ls +₃₂ lnNarrow min-post) (p .1)) (every ls) in
