@@ -17,7 +17,7 @@
  *   1 an option is outside its range               13 push: 1,000,000,000 frames are in
  *   2 bytes end before an item does                14 push: the frame room is full
  *   3 the mark, a token or a size byte is wrong    15 push: the row room is full
- *   4 a dimension is outside its limits            16 change: lists of different length, or of more than 1,024
+ *   4 a dimension is outside its limits            16 change: lists of different length, or of more than 384
  *   5 dimensions disagree                          17 change: a frame of 1,000,000,000 or more, or a weight not finite
  *   6 a number is not finite, or not above 0       18 change: a frame that is no longer kept
  *   7 the CMVN text breaks its form                19 change: no room for that many
@@ -184,7 +184,8 @@ shofrakin_stream_answer shofrakin_set_input_finished(shofrakin_stream *s,
     const float *frames, size_t frames_len, const double *rows, size_t rows_len,
     const size_t *waiting_frames, size_t waiting_frames_len, const float *waiting_weights, size_t waiting_weights_len);
 
-/* Changes of weights, by frame. From the first such call on, even an empty one, fetches are weighted. Refusals 10, 16 to 19. */
+/* Changes of weights, by frame, at most 384 in one call: more go into several, which do what one would. From the first such call on, even an
+ * empty one, fetches are weighted. Refusals 10, 16 to 19. */
 shofrakin_stream_answer shofrakin_update_frame_weights(shofrakin_stream *s,
     const size_t *delta_frames, size_t delta_frames_len, const float *delta_weights, size_t delta_weights_len,
     const float *frames, size_t frames_len, const double *rows, size_t rows_len,
@@ -266,7 +267,8 @@ shofrakin_silence_counts shofrakin_compute_current_traceback(shofrakin_silence *
     const size_t *ends, size_t ends_len, shofrakin_decoder_frame num_frames_decoded);
 
 /* The changes of weight up to `num_frames_ready`, by input frame, decoder frame 0 beginning at `first_decoder_frame`: the first
- * `changes` places of two lists, for shofrakin_update_frame_weights. Refusals 10, 23, 24. */
+ * `changes` places of two lists, for shofrakin_update_frame_weights. They can be more than the 384 that one call of it takes, and are not given
+ * again: hand them over in parts. Refusals 10, 23, 24. */
 shofrakin_silence_counts shofrakin_get_delta_weights(shofrakin_silence *s,
     bool *known, size_t known_len, bool *is_silence, size_t is_silence_len, float *current_weight, size_t current_weight_len,
     shofrakin_input_frame num_frames_ready, shofrakin_input_frame first_decoder_frame,

@@ -119,9 +119,18 @@ pub fn run(frames: u64, seed: u64) -> bool {
                     return fail(accepted, format!("silence: {k} {wrong:?} {wrong2:?}"));
                 }
                 let (fs, ws): (Vec<usize>, Vec<f32>) = v.iter().copied().unzip();
-                let a = s.call(Call::Change(&fs, &ws));
-                p.st.update_frame_weights(&v);
+                // at most 384 in one call; none is a change call too
+                let mut a = s.call(Call::Change(&fs[..fs.len().min(384)], &ws[..ws.len().min(384)]));
                 calls += 3;
+                if fs.len() > 384 {
+                    for (f, w) in fs[384..].chunks(384).zip(ws[384..].chunks(384)) {
+                        if a.refusal == 0 {
+                            a = s.call(Call::Change(f, w));
+                            calls += 1;
+                        }
+                    }
+                }
+                p.st.update_frame_weights(&v);
                 changes += v.len() as u64;
                 if !held(&a, &p) || s.rec.waiting != p.st.x_waiting() {
                     return fail(accepted, format!("change: {a:?}"));

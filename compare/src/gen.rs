@@ -507,14 +507,14 @@ pub fn build(r: &mut Rng, opts: Options, g: usize, ge: usize, d: usize, s: usize
     Spec { opts, g, ge, d, s, base, files: [f, e, l, c] }
 }
 
-fn give(out: &mut Vec<Cmd>, sp: &Spec) {
+pub fn give(out: &mut Vec<Cmd>, sp: &Spec) {
     out.push(Cmd::Options(sp.opts));
     for k in 0..4 {
         out.push(Cmd::Bytes(k, sp.files[k].b.clone()));
     }
 }
 
-fn frame(r: &mut Rng, o: &Options, base: usize, wild: bool) -> Vec<f32> {
+pub fn frame(r: &mut Rng, o: &Options, base: usize, wild: bool) -> Vec<f32> {
     let mut x: Vec<f32> = (0..base).map(|_| any_f32(r, wild)).collect();
     match if o.min_energy.abs() > 1e9 && !wild { 4 } else { r.n(5) } {
         0 => x[0] = o.min_energy,
@@ -564,12 +564,19 @@ pub enum What {
     Big,
     /// Every cut of every file of one model.
     Cuts,
+    /// Request No. 2: change lists about as long as one call takes.
+    Limit,
 }
 
 /// What `all` stands for (Big and Cuts are asked for by name).
-pub const KINDS: [What; 8] = [What::Calls, What::Wild, What::Damage, What::Edges, What::Rooms, What::Forged, What::Silence, What::Long];
-pub const NAMED: [What; 10] =
-    [What::Calls, What::Wild, What::Damage, What::Edges, What::Rooms, What::Forged, What::Silence, What::Long, What::Big, What::Cuts];
+#[rustfmt::skip]
+pub const KINDS: [What; 9] = [
+    What::Calls, What::Wild, What::Damage, What::Edges, What::Rooms, What::Forged, What::Silence, What::Long, What::Limit,
+];
+#[rustfmt::skip]
+pub const NAMED: [What; 11] = [
+    What::Calls, What::Wild, What::Damage, What::Edges, What::Rooms, What::Forged, What::Silence, What::Long, What::Limit, What::Big, What::Cuts,
+];
 
 pub struct CallList {
     pub cmds: Vec<Cmd>,
@@ -591,6 +598,7 @@ pub fn call_list(seed: u64, what: What) -> CallList {
         What::Long => long(&mut r, &mut s),
         What::Big => big(&mut r, &mut s),
         What::Cuts => cuts(&mut r, &mut s),
+        What::Limit => crate::requests::limit(&mut r, &mut s),
     }
     s.cmds.push(Cmd::End);
     s
@@ -653,8 +661,8 @@ fn calls(r: &mut Rng, out: &mut CallList, wild: bool, forged: bool) {
                 }
                 let k = match r.n(30) {
                     0 => 0,
-                    1 => 1024,
-                    2 => 1025,
+                    1 => 384,
+                    2 => r.pick(&[385, 1024]),
                     3..=6 => r.r(1, 3),
                     _ => r.r(1, 12),
                 };

@@ -7,6 +7,7 @@ pub mod machine;
 pub mod model;
 pub mod original;
 pub mod rattle;
+pub mod requests;
 pub mod script;
 #[allow(dead_code, warnings)]
 mod orig {

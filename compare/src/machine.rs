@@ -1139,7 +1139,7 @@ impl Stream {
             return Answer::alone(10);
         }
         let (_, _, room) = rooms(&r);
-        let n = if fr.len() != w.len() || fr.len() > 1024 {
+        let n = if fr.len() != w.len() || fr.len() > 384 {
             16
         } else if fr.iter().any(|&f| f >= 1_000_000_000) || w.iter().any(|v| !v.is_finite()) {
             17

@@ -85,10 +85,14 @@ pushTests o d z accepted mark x =
     ∷ (eqb (framesHeld accepted mark) (rowsIn (z .frames) (d .«base_dim»)), 14)
     ∷ (eqb (rowsHeld (o .«cmn_window») accepted mark) (rowsIn (z .rows) (d .«base_dim»)), 15) ∷ []
 
+-- the entries of one call's change list (request 2)
+abbrev pub maxChanges : ℕ
+maxChanges = 384
+
 -- n changes wait
 unfoldable pub changeTests : IvectorOptions → RingLengths → ℕ → ℕ → List ℕ → List Float → List (Bool × ℕ)
 changeTests o z mark n fs ws =
-    (not (eqb (length fs) (length ws)) || ltb 1024 (length fs), 16)
+    (not (eqb (length fs) (length ws)) || ltb maxChanges (length fs), 16)
     ∷ (anyOf (leb 1000000000) fs || anyOf (λ w. not (finite w)) ws, 17)
     ∷ (anyOf (λ f. ltb (f - o .«left_context») mark) fs, 18)
     ∷ (ltb (waitingRoom z) (n + length fs), 19) ∷ []

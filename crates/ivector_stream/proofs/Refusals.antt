@@ -19,7 +19,7 @@ use Rattle.definition.specs.declared.IvectorStream.{IvectorStream}
 use Rattle.definition.specs.declared.RoomLengths.{RoomLengths}
 use Rattle.definition.specs.declared.TableLengths.{TableLengths}
 use Rattle.definition.specs.Model.{tablesFit}
-use Rattle.definition.specs.Machine.{waitingRoom, pushTests, changeTests}
+use Rattle.definition.specs.Machine.{waitingRoom, maxChanges, pushTests, changeTests}
 use Rattle.definition.specs.Stream.{recordSound, sameTables, roomsFit, newRefusal}
 use Rattle.definition.proofs.Ranges.{DimRanges, dim-ranges, record-sound, Fitting, fitting}
 use Rattle.program.specs.Rooms.{Rings}
@@ -98,13 +98,13 @@ module _ (fs : List ℕ) (ws : List Float) where
   abbrev uneven : Bool
   uneven = not (eqb (length fs) (length ws))
 
-  pub lists-differ : (length fs ≡ length ws → ⊥) → (uneven || ltb 1024 (length fs)) ≡ true
+  pub lists-differ : (length fs ≡ length ws → ⊥) → (uneven || ltb maxChanges (length fs)) ≡ true
   lists-differ h = or-first uneven _ (ap not (ne-eqb _ _ h))
 
-  pub lists-long : 1024 < length fs → (uneven || ltb 1024 (length fs)) ≡ true
+  pub lists-long : maxChanges < length fs → (uneven || ltb maxChanges (length fs)) ≡ true
   lists-long h = or-second uneven _ (lt-ltb _ _ h)
 
-  pub lists-pass : length fs ≡ length ws → length fs ≤ 1024 → (uneven || ltb 1024 (length fs)) ≡ false
+  pub lists-pass : length fs ≡ length ws → length fs ≤ maxChanges → (uneven || ltb maxChanges (length fs)) ≡ false
   lists-pass e h = or-none uneven _ (ap not (eq-eqb _ _ e)) (le-ltb _ _ h)
 
   abbrev far : Bool
@@ -142,7 +142,7 @@ module _ (s : IvectorStream) (z : Rings) (gs : List ℕ) (ws : List Float) where
   unfolding updateFrameWeights changeTests
   change-taken e g =
       let h = none-first (recordTests s z ++ change-tests) tt (sym e ∙ g) in
-      let a = or-fails (uneven gs ws) (ltb 1024 (length gs)) (h .1 .1 .0) in
+      let a = or-fails (uneven gs ws) (ltb maxChanges (length gs)) (h .1 .1 .0) in
       let b = or-fails (far gs ws) (wild gs ws) (h .1 .1 .1 .0) in
       record {
         passed = tests-passed s z (h .0) (h .1 .0);

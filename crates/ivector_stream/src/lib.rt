@@ -404,7 +404,7 @@ fn change_refusal(
     if delta_frames.len() != delta_weights.len() {
         return 16;
     }
-    if 1024 < delta_frames.len() {
+    if 384 < delta_frames.len() {
         return 16;
     }
     if any_from(delta_frames, 1000000000) {
