@@ -1,5 +1,5 @@
 //! Reads the original Rust from the folder UTTER_SRC at build time, patches it and writes two variants into OUT_DIR: `orig.rs` (as
-//! published, with the scope's exponential and logarithm, and with sums from -0.0) and `orig_nan.rs` (the same with NaN ordered last
+//! published, with the scope's exponential and logarithm, sums from -0.0, and a start on the solution kept) and `orig_nan.rs` (the same with NaN ordered last
 //! instead of a panic). No original text is kept here; each patch asserts how often it applies. Then it links the static library
 //! that `rt staticlib exports` writes (another folder: SHOFRAKIN_LIB).
 use std::{env, fs, path::Path};
@@ -68,6 +68,9 @@ fn main() {
     iv = sub(&iv, "let mat = std::fs::read(dir.join(\"final.mat\"))?;", "", 1);
     iv = sub(&iv, "std::fs::read_to_string(dir.join(\"global_cmvn.stats\"))?", "std::str::from_utf8(cmvn).map_err(|_| err(\"utf-8\"))?", 1);
     assert!(!iv.contains("std::fs"));
+
+    // (3) request 9: a start on the solution is kept.
+    iv = sub(&iv, "let r_initial = r_cur;", "let r_initial = r_cur;\n    if r_cur <= f64::MIN_POSITIVE {\n        return;\n    }", 1);
 
     // Access to private items.
     iv.push_str(

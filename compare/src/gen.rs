@@ -566,16 +566,20 @@ pub enum What {
     Cuts,
     /// Request No. 2: change lists about as long as one call takes.
     Limit,
+    /// Request No. 9: solves that start on the solution.
+    Exact,
 }
 
 /// What `all` stands for (Big and Cuts are asked for by name).
 #[rustfmt::skip]
-pub const KINDS: [What; 9] = [
+pub const KINDS: [What; 10] = [
     What::Calls, What::Wild, What::Damage, What::Edges, What::Rooms, What::Forged, What::Silence, What::Long, What::Limit,
+    What::Exact,
 ];
 #[rustfmt::skip]
-pub const NAMED: [What; 11] = [
-    What::Calls, What::Wild, What::Damage, What::Edges, What::Rooms, What::Forged, What::Silence, What::Long, What::Limit, What::Big, What::Cuts,
+pub const NAMED: [What; 12] = [
+    What::Calls, What::Wild, What::Damage, What::Edges, What::Rooms, What::Forged, What::Silence, What::Long, What::Limit,
+    What::Exact, What::Big, What::Cuts,
 ];
 
 pub struct CallList {
@@ -599,6 +603,7 @@ pub fn call_list(seed: u64, what: What) -> CallList {
         What::Big => big(&mut r, &mut s),
         What::Cuts => cuts(&mut r, &mut s),
         What::Limit => crate::requests::limit(&mut r, &mut s),
+        What::Exact => crate::requests::exact(&mut r, &mut s),
     }
     s.cmds.push(Cmd::End);
     s

@@ -739,8 +739,10 @@ pub fn cgd(a: &[f64], n: usize, b: &[f64], start: &[f64], iters: u64) -> Vec<f64
     let mut cur = dot(&r, &r);
     let first = cur;
     let mut mark = cur;
-    if cur == 0.0 {
-        ev("cgd: zero starting residual");
+    // request 9: a start on the solution is kept; a NaN is not at most anything
+    if cur <= f64::MIN_POSITIVE {
+        ev(if cur == 0.0 { "cgd: exact start kept, square 0" } else { "cgd: exact start kept, square above 0" });
+        return x;
     }
     let small = 0.01f64 * 0.01;
     let large = 1.0 / small;

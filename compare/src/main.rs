@@ -2,7 +2,7 @@
 //! compare day [FRAMES [SEED]]        one stream of a day
 //! compare gen FIRST COUNT [KIND]     the lists as a script (FORMAT.md), on standard output
 //! compare answer                     the machine's answers to a script on standard input
-//! KIND: calls wild damage edges rooms forged silence long limit big cuts, or all (all but big and cuts). THREADS: how many (2).
+//! KIND: calls wild damage edges rooms forged silence long limit exact big cuts, or all (all but big and cuts). THREADS: how many (2).
 //! Exit status 1 on any difference.
 use compare::{day, gen, lists, script};
 use std::io::{BufRead, Write};

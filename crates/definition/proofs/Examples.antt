@@ -23,6 +23,7 @@ use Rattle.definition.specs.Model.{tablesFrom, Model, Files, load}
 use Rattle.definition.specs.Views.{cmvnState, cmvnFrame, normalisedRow}
 use Rattle.definition.specs.Posteriors.{minPostFor}
 use Rattle.definition.specs.Statistics.{newStats}
+use Rattle.definition.specs.Solve.{linearCgd}
 use Rattle.definition.specs.Machine.{Call, push, change, forget, fetch, Answer, Machine, machine, allFrames, fresh, toldBy, machineAfter, answersFrom, answers}
 use Rattle.definition.specs.Silence.{input, decoder, TableRooms, tableRooms, newTable, getDeltaWeights, TableCall, tableDone}
 use Rattle.definition.proofs.Computed.{computed}
@@ -200,7 +201,11 @@ pub record Examples : Type 0 where
   pub P9-half : answers (model (single 15) 2) (lengths .rings) four ≡ said 0 1 2 [] 0 ∷ said 0 1 2 (0x3f00_0000 ∷ []) 0 ∷ []
   pub P9-none : answers (model (single 0) 2) (lengths .rings) four ≡ said 0 1 2 [] 0 ∷ said 0 1 2 (0 ∷ []) 0 ∷ []
   pub P10-load : load (single 15) (files wide-zero) tables 2 ≡ read (model (single 15) 0) 0
-  pub P10 : answers (model (single 15) 0) (lengths .rings) four ≡ said 0 1 2 [] 0 ∷ said 0 1 2 (0x7fc0_0000 ∷ []) 1 ∷ []
+  pub P10 : answers (model (single 15) 0) (lengths .rings) four ≡ said 0 1 2 [] 0 ∷ said 0 1 2 (0 ∷ []) 0 ∷ []
+  -- whatever the start is, up to a residual of 2^-511 (request 9); the next number above it steps
+  pub P10-start : linearCgd (asF64 1 ∷ []) 1 (asF64 2 ∷ []) (asF64 2 ∷ []) 15 ≡ asF64 2 ∷ []
+  pub P10-at : linearCgd (asF64 1 ∷ []) 1 (f64 0x2000_0000_0000_0000 ∷ []) (zero₆₄ ∷ []) 15 ≡ zero₆₄ ∷ []
+  pub P10-above : linearCgd (asF64 1 ∷ []) 1 (f64 0x2000_0000_0000_0001 ∷ []) (zero₆₄ ∷ []) 15 ≡ f64 0x2000_0000_0000_0001 ∷ []
   pub P11-load : load late (filesOf 4 wide-two) (tablesOf 4) 2 ≡ read late-model 0
   pub P11-mark : machineAfter late-model (lengths .rings) twelve (forget 10 ∷ []) .mark ≡ 4
   pub P11 : answersFrom late-model (lengths .rings) twelve (forget 10 ∷ change (6 ∷ []) (asF64 1 ∷ []) ∷ change (7 ∷ []) (asF64 1 ∷ []) ∷ [])
@@ -240,6 +245,9 @@ P1-to-P12 =
       P9-none = refl;
       P10-load = refl;
       P10 = refl;
+      P10-start = refl;
+      P10-at = refl;
+      P10-above = refl;
       P11-load = refl;
       P11-mark = refl;
       P11 = refl;

@@ -153,9 +153,10 @@ module _ (a : List Float) (n : ℕ) (b : List Float) where
   length-cgd x m h =
       let first = begun a n b x .r-cur in
       let c = final (leave (min (n + 5) m) (λ k. turn a n b) (begun a n b x)) in
-      if-long (residualWorse (c .r-cur) first (dot n b b))
+      if-long (residualLast first) x (if residualWorse (c .r-cur) first (dot n b b) then solvedOr x n b (factor a n) else c .x) n h
+      (if-long (residualWorse (c .r-cur) first (dot n b b))
       (solvedOr x n b (factor a n)) (c .x) n (length-solved x (factor a n) h)
-      (leave-keeps (λ (c : Cgd). length (c .x) ≡ n) (min (n + 5) m) (λ k. turn a n b) (begun a n b x) (λ i l c p. length-turn c) (begun-long x h))
+      (leave-keeps (λ (c : Cgd). length (c .x) ≡ n) (min (n + 5) m) (λ k. turn a n b) (begun a n b x) (λ i l c p. length-turn c) (begun-long x h)))
 
 pub length-ivector : (n : ℕ) (prior : Float) (iters : ℕ) (st : Stats) (current : List Float) → length current ≡ n → length (getIvector n prior iters st current) ≡ n
 unfolding getIvector

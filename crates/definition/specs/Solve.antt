@@ -64,7 +64,7 @@ abbrev pub residualFar : Float → Float → Bool
 residualFar square recomputed =
     let factor = f64 0x3f84_7ae1_47ae_147b *₆₄ f64 0x3f84_7ae1_47ae_147b in lt square (factor *₆₄ recomputed) || lt (one₆₄ /₆₄ factor *₆₄ recomputed) square
 
--- whether it is at most MIN_POSITIVE (0010..), which ends the turns
+-- whether it is at most MIN_POSITIVE (0010..), which ends the turns, or lets none begin
 abbrev pub residualLast : Float → Bool
 residualLast square = le square (f64 0x0010_0000_0000_0000)
 
@@ -101,12 +101,12 @@ module _ (a : List Float) (n : ℕ) (b : List Float) where
       if residualLast r-next then off (record { x = x; r = r; p = c .p; r-cur = r-next; r-recompute = r-recompute })
       else on (record { x = x; r = r; p = p; r-cur = r-next; r-recompute = r-recompute })
 
-  -- the exact solution instead, or the start, where the residual got worse
+  -- the start itself where that is the solution (request 9); the exact solution instead, or the start, where the residual got worse
   unfoldable pub linearCgd : List Float → ℕ → List Float
   linearCgd x max-iters =
       let first = begun x .r-cur in
       let c = final (leave (min (n + 5) max-iters) (λ k. turn) (begun x)) in
-      if residualWorse (c .r-cur) first (dot n b b) then solvedOr x n b (factor a n) else c .x
+      if residualLast first then x else (if residualWorse (c .r-cur) first (dot n b b) then solvedOr x n b (factor a n) else c .x)
 
 -- the prior: a vector of zeros but for the offset in element 0
 unfoldable pub priorVector : ℕ → Float → List Float

@@ -141,8 +141,7 @@ module _ (a : List Float) (n : ℕ) (b x : List Float) (max-iters : ℕ) (first 
     (e1 : cgdOf x r p first ≡ begun a n b x) (e2 : cgdOf x′ r′ p′ last ≡ final (leave (min (n + 5) max-iters) (λ k. turn a n b) (cgdOf x r p first)))
     (e3 : d ≡ dot n b b) (e4 : w ≡ isWorse last (first .«r_cur») d) where
   abbrev judged : Float → Cgd → List Float
-  judged v c =
-      if residualWorse (c .r-cur) v (dot n b b) then solvedOr x n b (factor a n) else c .x
+  judged v c = if residualLast v then x else (if residualWorse (c .r-cur) v (dot n b b) then solvedOr x n b (factor a n) else c .x)
 
   judged-is : judged (first .«r_cur») (cgdOf x′ r′ p′ last) ≡ linearCgd a n b x max-iters
   unfolding linearCgd
@@ -151,8 +150,14 @@ module _ (a : List Float) (n : ℕ) (b x : List Float) (max-iters : ℕ) (first 
   worse : {t : Bool} → w ≡ t → isWorse last (first .«r_cur») (dot n b b) ≡ t
   worse h = ap (isWorse last (first .«r_cur»)) (sym e3) ∙ sym e4 ∙ h
 
-  pub stays : w ≡ false → x′ ≡ linearCgd a n b x max-iters
-  stays h = choose-false _ (worse h) refl ∙ judged-is
+  pub stays : isLast first ≡ false → w ≡ false → x′ ≡ linearCgd a n b x max-iters
+  stays g h = choose-false _ g (choose-false _ (worse h) refl) ∙ judged-is
 
-  pub gives-up : {y : List Float} → w ≡ true → y ≡ solvedOr x n b (factor a n) → y ≡ linearCgd a n b x max-iters
-  gives-up h e = choose-true _ (worse h) e ∙ judged-is
+  pub gives-up : {y : List Float} → isLast first ≡ false → w ≡ true → y ≡ solvedOr x n b (factor a n) → y ≡ linearCgd a n b x max-iters
+  gives-up g h e = choose-false _ g (choose-true _ (worse h) e) ∙ judged-is
+
+-- a start on the solution is kept
+pub kept-start : (a : List Float) (n : ℕ) (b x : List Float) (max-iters : ℕ) {r p : List Float} (first : CgdState) → cgdOf x r p first ≡ begun a n b x → isLast first ≡ true
+    → x ≡ linearCgd a n b x max-iters
+unfolding linearCgd
+kept-start a n b x max-iters first e h = choose-true _ (ap (λ (c : Cgd). residualLast (c .r-cur)) (sym e) ∙ h) refl

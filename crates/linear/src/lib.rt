@@ -184,7 +184,7 @@ impl CgdState {
         self
     }
 
-    // Whether the residual is at most MIN_POSITIVE, which ends the turns.
+    // Whether the residual is at most MIN_POSITIVE, which ends the turns, or lets none begin.
     fn is_last(self) -> bool
         ensures { λ r. ⌜ r ≡ isLast self ⌝ }
     {
@@ -326,13 +326,17 @@ fn linear_cgd_in(
     ensures { λ _. ⌜ now (x .exit) ≡ linearCgd (now (a .entry)) n (now (b .entry)) (now (x .entry)) «max_iters» ⌝ }
 {
     let first = cgd_begin(a, n, b, x, r, p, ap);
+    if first.is_last() {
+        return;
+    }
     let last = cgd_turns(a, n, b, x, r, p, ap, max_iters, first);
     if last.is_worse(first.r_cur, dot(b, b, n)) {
         exact_or_start(a, n, b, x, x_orig, l, ap);
     }
 }
 
-// A x = b from the start x. Where the residual gets worse: the exact solution, or the start again. L lies in scratch.
+// A x = b from the start x, which is kept where it is the solution. Where the residual gets worse: the exact solution, or the start
+// again. L lies in scratch.
 pub fn linear_cgd(
     a: &[f64],
     n: usize,
