@@ -9,6 +9,7 @@ pub mod original;
 pub mod rattle;
 pub mod requests;
 pub mod script;
+pub mod timed;
 #[allow(dead_code, warnings)]
 mod orig {
     include!(concat!(env!("OUT_DIR"), "/orig.rs"));

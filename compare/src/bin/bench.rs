@@ -8,6 +8,7 @@ use compare::machine::{self, model_needs, stream_needs, Options, DEFAULT};
 use compare::model::{self, Size};
 use compare::original::plain;
 use compare::rattle::{self, Call};
+use compare::timed::{measured, median};
 use std::hint::black_box;
 use std::time::Duration;
 
@@ -66,31 +67,6 @@ impl Set {
         }
         (s, p)
     }
-}
-
-/// What is timed, under a name that callgrind finds: the thread's own time, so that other work on the machine does not count.
-#[no_mangle]
-#[inline(never)]
-pub fn measured(f: &mut dyn FnMut()) -> u64 {
-    let t = thread_time();
-    f();
-    thread_time() - t
-}
-
-/// Nanoseconds of this thread on the processor.
-fn thread_time() -> u64 {
-    #[repr(C)]
-    struct Timespec {
-        sec: i64,
-        nsec: i64,
-    }
-    extern "C" {
-        fn clock_gettime(clock: i32, t: *mut Timespec) -> i32;
-    }
-    const CLOCK_THREAD_CPUTIME_ID: i32 = 3;
-    let mut t = Timespec { sec: 0, nsec: 0 };
-    assert!(unsafe { clock_gettime(CLOCK_THREAD_CPUTIME_ID, &mut t) } == 0);
-    t.sec as u64 * 1_000_000_000 + t.nsec as u64
 }
 
 fn time(mut f: impl FnMut()) -> Duration {
@@ -274,15 +250,11 @@ fn main() {
                     each[1].push(d[1]);
                 }
             }
-            let mid = |v: &mut Vec<f64>| {
-                v.sort_by(f64::total_cmp);
-                v[v.len() / 2]
-            };
-            let m = mid(&mut ratios);
+            let m = median(&mut ratios);
             println!(
                 "{name:6} {kind:9} {:14.3} {:14.3}   {m:6.2}  ({:.2} to {:.2})",
-                mid(&mut each[0]),
-                mid(&mut each[1]),
+                median(&mut each[0]),
+                median(&mut each[1]),
                 ratios[0],
                 ratios[ratios.len() - 1]
             );
