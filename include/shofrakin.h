@@ -13,7 +13,7 @@
  * The calls ask nothing else: whatever numbers they get, they return; the questions answer any record. They keep no state, allocate
  * nothing, and may run in several threads on different records and rooms.
  *
- * Answers: `refusal` is 0 for a call that is taken, else a number from 1 to 24. A refused call writes nowhere.
+ * Answers: `refusal` is 0 for a call that is taken, else a number from 1 to 24, or 27 to 29. A refused call writes nowhere.
  *   1 an option is outside its range               13 push: 1,000,000,000 frames are in
  *   2 bytes end before an item does                14 push: the frame room is full
  *   3 the mark, a token or a size byte is wrong    15 push: the row room is full
@@ -26,6 +26,8 @@
  *  10 a record that no call made, or other lengths 22 fetch: the frame is above the highest changed one
  *  11 push: length is not the base dimension       23 silence: more frames than the table has, or a frame number too high
  *  12 push: a number is not finite                 24 silence: lists of different length, or too short for the answer
+ *  27 voice: no enrolled vector, or more than 32   29 voice: a number not finite, or a limit below 0
+ *  28 voice: a length is not the dimension's
  */
 #ifndef SHOFRAKIN_H
 #define SHOFRAKIN_H
@@ -273,6 +275,24 @@ shofrakin_silence_counts shofrakin_get_delta_weights(shofrakin_silence *s,
     bool *known, size_t known_len, bool *is_silence, size_t is_silence_len, float *current_weight, size_t current_weight_len,
     shofrakin_input_frame num_frames_ready, shofrakin_input_frame first_decoder_frame,
     size_t *frames, size_t frames_len, float *weights, size_t weights_len);
+
+/* ---- whose voice it is */
+
+/* The nearest voice: whether there is one near enough, its index from 0 and its distance. Beside nobody, and beside a refusal, both are 0. */
+typedef struct {
+    size_t refusal;
+    bool found;
+    size_t index;
+    float distance;
+} shofrakin_voice_answer;
+
+/* Of `count` enrolled vectors, 1 to 32, the nearest to `vector`: the lowest index whose distance is least, where that is at most `limit`. Vectors are bits
+ * as a fetch gives them out, `dim` numbers each (shofrakin_ivector_dim), the enrolled ones one after the other. A distance is the sum of the squared
+ * differences in order, in float; one that overflows is never near enough. No root is taken: the limit is one for a sum of squares. Nothing is written.
+ * Refusals 27: no enrolled vector, or more than 32; 28: a length that is not dim, or count times dim (of the enrolled ones only the length of all
+ * together is seen); 29: a number that is not finite, in a vector or the limit, or a limit below 0. */
+shofrakin_voice_answer shofrakin_nearest_voice(size_t dim, const uint32_t *vector, size_t vector_len,
+    size_t count, const uint32_t *enrolled, size_t enrolled_len, float limit);
 
 #ifdef __cplusplus
 }

@@ -1,4 +1,4 @@
-/* include/shofrakin.h against the library: a model, a small stream, and the scope's examples P9 and P12, from C. Prints what differs. */
+/* include/shofrakin.h against the library: a model, a small stream, the scope's examples P9 and P12, and the nearest voice, from C. Prints what differs. */
 #include "shofrakin.h"
 #include <stdio.h>
 #include <string.h>
@@ -214,6 +214,28 @@ int main(void) {
         path, 1, from, 1, to, 1, (shofrakin_decoder_frame){9});
     is("traceback past the table", d.refusal, 23);
     is("length, after a refusal", table.length.number, 3);
+
+    /* the nearest voice: the vectors (3, 4), (1, 2), (1, 2) beside (1, 1), at the distances 13, 1 and 1 */
+    uint32_t voices[6], asked[2];
+    memcpy(voices, (float[]){3, 4, 1, 2, 1, 2}, sizeof voices);
+    memcpy(asked, (float[]){1, 1}, sizeof asked);
+    shofrakin_voice_answer v = shofrakin_nearest_voice(2, asked, 2, 3, voices, 6, 1);
+    is("voice", v.refusal, 0);
+    is("somebody", v.found, true);
+    is("of two the lower index", v.index, 1);
+    is("distance", v.distance, 1);
+    v = shofrakin_nearest_voice(2, asked, 2, 3, voices, 6, 0.75f);
+    is("voice, limit too low", v.refusal, 0);
+    is("nobody", v.found, false);
+    is("no index", v.index, 0);
+    is("no distance", v.distance, 0);
+    is("no voice enrolled", shofrakin_nearest_voice(2, asked, 2, 0, voices, 0, 1).refusal, 27);
+    is("a voice too many", shofrakin_nearest_voice(2, asked, 2, 33, voices, 6, 1).refusal, 27);
+    is("a vector too short", shofrakin_nearest_voice(2, asked, 1, 3, voices, 6, 1).refusal, 28);
+    is("a voice too short", shofrakin_nearest_voice(2, asked, 2, 3, voices, 5, 1).refusal, 28);
+    is("a limit below 0", shofrakin_nearest_voice(2, asked, 2, 3, voices, 6, -1).refusal, 29);
+    voices[5] = 0x7fc00000;
+    is("a voice that is not finite", shofrakin_nearest_voice(2, asked, 2, 3, voices, 6, 1).refusal, 29);
     printf(wrong ? "%d differ\n" : "the header fits the library\n", wrong);
     return wrong != 0;
 }

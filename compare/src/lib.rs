@@ -5,6 +5,7 @@ pub mod gen;
 pub mod lists;
 pub mod machine;
 pub mod model;
+pub mod nearest;
 pub mod original;
 pub mod rattle;
 pub mod requests;

@@ -1,10 +1,12 @@
 //! compare lists FIRST COUNT [KIND]   generated call lists, seeds FIRST to FIRST + COUNT - 1
 //! compare day [FRAMES [SEED]]        one stream of a day
+//! compare nearest FIRST COUNT        the nearest voice, COUNT cases from the seed FIRST
+//! compare nearest-lines              the same on cases with their answers, on standard input (FORMAT.md)
 //! compare gen FIRST COUNT [KIND]     the lists as a script (FORMAT.md), on standard output
 //! compare answer                     the machine's answers to a script on standard input
 //! KIND: calls wild damage edges rooms forged silence long limit exact big cuts, or all (all but big and cuts). THREADS: how many (2).
 //! Exit status 1 on any difference.
-use compare::{day, gen, lists, script};
+use compare::{day, gen, lists, nearest, script};
 use std::io::{BufRead, Write};
 
 fn kinds(s: &str) -> Vec<gen::What> {
@@ -57,6 +59,8 @@ fn main() {
             std::process::exit(i32::from(t.differences != 0));
         }
         Some("day") => std::process::exit(i32::from(!day::run(num(2, 8_640_000), num(3, 1)))),
+        Some("nearest") => std::process::exit(i32::from(nearest::run(num(2, 1), num(3, 1000)) != 0)),
+        Some("nearest-lines") => std::process::exit(i32::from(nearest::lines(std::io::stdin().lock()) != 0)),
         Some("gen") => {
             let mut w = std::io::BufWriter::new(std::io::stdout().lock());
             for seed in num(2, 1)..num(2, 1) + num(3, 1) {
@@ -77,7 +81,9 @@ fn main() {
             }
         }
         _ => {
-            eprintln!("compare lists FIRST COUNT [KIND] | day [FRAMES [SEED]] | gen FIRST COUNT [KIND] | answer");
+            eprintln!(
+                "compare lists FIRST COUNT [KIND] | day [FRAMES [SEED]] | nearest FIRST COUNT | nearest-lines | gen FIRST COUNT [KIND] | answer"
+            );
             std::process::exit(2);
         }
     }

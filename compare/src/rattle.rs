@@ -143,6 +143,15 @@ pub struct NewTableAnswer {
 
 #[repr(C)]
 #[derive(Clone, Copy, Debug, PartialEq)]
+pub struct VoiceAnswer {
+    pub refusal: usize,
+    pub found: bool,
+    pub index: usize,
+    pub distance: f32,
+}
+
+#[repr(C)]
+#[derive(Clone, Copy, Debug, PartialEq)]
 pub struct SilenceCounts {
     pub refusal: usize,
     pub changes: usize,
@@ -212,6 +221,9 @@ mod c {
             silence_phones: *const i32, silence_phones_len: usize, silence_weight: f32, subsampling: usize, table: usize,
         ) -> NewTableAnswer;
         pub fn shofrakin_silence_active(s: *const SilenceWeighting) -> bool;
+        pub fn shofrakin_nearest_voice(
+            dim: usize, vector: *const u32, vector_len: usize, count: usize, enrolled: *const u32, enrolled_len: usize, limit: f32,
+        ) -> VoiceAnswer;
         pub fn shofrakin_compute_current_traceback(
             s: *mut SilenceWeighting, silence_phones: *const i32, silence_phones_len: usize,
             known: *mut bool, known_len: usize, is_silence: *mut bool, is_silence_len: usize,
@@ -969,5 +981,18 @@ impl Silence {
 
     pub fn table(&self) -> Vec<(bool, bool, u32)> {
         (0..self.rec.length).map(|i| (self.known[i], self.is_silence[i], self.current_weight[i].to_bits())).collect()
+    }
+}
+
+/// The library's nearest voice. The slices' rooms end where they do: nothing is written.
+pub fn nearest_voice(dim: usize, vector: &[u32], count: usize, enrolled: &[u32], limit: f32) -> crate::nearest::Nearest {
+    use crate::nearest::Nearest;
+    let a = unsafe { c::shofrakin_nearest_voice(dim, vector.as_ptr(), vector.len(), count, enrolled.as_ptr(), enrolled.len(), limit) };
+    let none = a.index == 0 && a.distance.to_bits() == 0;
+    match (a.refusal, a.found) {
+        (0, true) => Nearest::Voice(a.index, a.distance.to_bits()),
+        (0, false) if none => Nearest::Nobody,
+        (n, false) if none => Nearest::Refused(n),
+        _ => Nearest::Refused(usize::MAX),
     }
 }

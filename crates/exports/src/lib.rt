@@ -18,6 +18,7 @@ use definition::SilenceWeighting;
 use definition::StreamAnswer;
 use definition::StreamCall;
 use definition::TableLengths;
+use nearest_voice::VoiceAnswer;
 ghost use mathlib.Core.Path.{_≡_};
 ghost use mathlib.Core.List.{[]};
 ghost use Prim.Native.Nat.{ℕ};
@@ -29,6 +30,7 @@ ghost use Rattle.definition.specs.Stream.{newRefusal};
 ghost use Rattle.definition.specs.Silence.{TableRooms, tableRooms, newTable, active, computeCurrentTraceback, getDeltaWeights, tableCall, tableDone};
 ghost use Rattle.program.specs.Rooms.{Rings, ringsFrom, estimateFrom, Rooms, roomsFrom, roomLengthsOf};
 ghost use Rattle.program.specs.Calls.{newAnswer, freshRooms, ringCall, doneOn, pushFrame, setInputFinished, updateFrameWeights, forgetBefore, Step, fetchCall, fetchedOn, getFrame};
+ghost use Rattle.nearest_voice.specs.Voice.{nearestVoice, voiceAnswer};
 ghost use Rattle.ivector_info.specs.Load.{filesOf, scratchKept};
 ghost use Rattle.exports.specs.Answers.{loadAnswer, noInfo, answered, newStreamAnswer, newTableAnswer, counted, noStream, noTable};
 
@@ -566,4 +568,21 @@ pub extern "C" fn shofrakin_get_delta_weights(
         refusal: a.refusal,
         changes: a.changes,
     }
+}
+
+// ---- whose voice it is
+
+// `nearest_voice::nearest_voice`, its answer as a record.
+#[no_mangle]
+pub extern "C" fn shofrakin_nearest_voice(
+    dim: usize,
+    vector: &[u32],
+    count: usize,
+    enrolled: &[u32],
+    limit: f32,
+) -> VoiceAnswer
+    ensures { λ r. ⌜ r ≡ voiceAnswer (nearestVoice dim (now (vector .entry)) count (now (enrolled .entry)) limit) ⌝ }
+{
+    let a = nearest_voice::nearest_voice(dim, vector, count, enrolled, limit);
+    nearest_voice::voice_answer(a)
 }

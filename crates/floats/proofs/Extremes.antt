@@ -94,7 +94,7 @@ cond-no-nan : (b : Bool) (x y : Float) → isNan x ≡ false → isNan y ≡ fal
 cond-no-nan true x y h k = h
 cond-no-nan false x y h k = k
 
-sum-no-nan : (f : Format) (s : Bool) (a : ℕ) (t : Bool) (b c : ℕ) → isNan (sum f s a t b c) ≡ false
+pub sum-no-nan : (f : Format) (s : Bool) (a : ℕ) (t : Bool) (b c : ℕ) → isNan (sum f s a t b c) ≡ false
 unfolding sum
 sum-no-nan f s a t b c =
     cond-no-nan (Bool·beq s t) (round f s (a + b) c) (cond (ltb a b) (round f t (b - a) c) (round f (s && ltb b a) (a - b) c)) (round-no-nan f s (a + b) c)

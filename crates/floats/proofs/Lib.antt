@@ -15,3 +15,4 @@ pub mod Series
 pub mod Logs
 pub mod Extremes
 pub mod Tens
+pub mod Finite

@@ -1,66 +1,30 @@
 -- Laws of numbers in bytes, each for both widths.
-use mathlib.Core.Path.{_≡_, refl, sym, ap, _∙_, subst}
-use mathlib.Core.Bool.{Bool, true, false, not, cond, false≢true}
+use mathlib.Core.Path.{_≡_, refl, sym, ap, _∙_}
+use mathlib.Core.Bool.{Bool, true, false, not}
 use mathlib.Core.List.{List, [], _∷_}
 use Prim.Native.Nat.{ℕ, zero, suc, _+_, _-_, _*_, _/_, _%_, _≤_, _<_}
 use native.Mathlib.Nat.{not-suc-le-zero, le-of-suc-le-suc, zero-add, suc-add, suc-mul, add-comm, le-add-right, mul-zero, mul-suc, add-zero}
 use native.Mathlib.Omega.{arith}
 use borrow.Author.Tests.{eq-eqb, ne-eqb, not-true, not-false}
-use lib.Dec.{T, leb, eqb}
 use lib.ListN.{length, take, drop, set, length-set}
 use lib.Seq.{drop-drop, take-nil, take-take}
-use lib.Ieee.{Float, nan, inf, fin, Format, binary32, binary64, ofBits, ofFields, odd, nanBits, isNan, lt, hid, ones, top, prec, low}
+use lib.Ieee.{Float, nan, Format, binary32, binary64, ofBits, ofFields, odd, lt, hid, ones, top}
 use lib.Ieee.Scale.{finite}
-use lib.Ieee.Bits.{nanBits-is}
 use Rattle.loops.specs.Lists.{allOf}
 use Rattle.loops.specs.Steps.{fill}
 use Rattle.loops.proofs.Choose.{by-test, and-holds}
 use Rattle.loops.proofs.Fill.{fill-none, fill-turn, fill-end, fill-list}
 use Rattle.loops.proofs.Tests.{each-at, at-each, all-turn, all-fails, all-end}
 use Rattle.floats.specs.Operators.{zero₃₂, at}
+use Rattle.floats.proofs.Finite.{finite-field}
 use Rattle.definition.specs.Reader.{littleEndian, byteWidth, numbers, kept, floats, refused, read}
 use Rattle.kaldi_io.specs.Answers.{Ready}
 use Rattle.kaldi_io.proofs.Bytes.{bytes-ok, bytes-short}
-
--- ---- which patterns are finite
-
-odd-finite : (d : ℕ) (s : Bool) (q k l : ℕ) → finite (odd d s q k l) ≡ true
-unfolding odd
-odd-finite d s zero k l = refl
-odd-finite d s (suc q) k l = refl
-
-fields-finite : (a b s : Bool) (v : Float) → finite v ≡ true → finite (cond a (cond b (inf s) nan) v) ≡ not a
-fields-finite true true s v h = refl
-fields-finite true false s v h = refl
-fields-finite false b s v h = h
-
-no-ones : (f : Format) → eqb 0 (ones f) ≡ false
-no-ones binary32 = refl
-no-ones binary64 = refl
-
-ofFields-finite : (f : Format) (s : Bool) (x t : ℕ) → finite (ofFields f s x t) ≡ not (eqb x (ones f))
-unfolding ofFields
-ofFields-finite f s zero t = odd-finite (prec f) s t 0 (low f) ∙ sym (ap not (no-ones f))
-ofFields-finite f s (suc x) t = fields-finite (eqb (suc x) (ones f)) (eqb t 0) s (odd (prec f) s (hid f + t) x (low f)) (odd-finite (prec f) s (hid f + t) x (low f))
-
-finite-field : (f : Format) (b : ℕ) → finite (ofBits f b) ≡ not (eqb (b % top f / hid f) (ones f))
-unfolding ofBits
-finite-field f b = ofFields-finite f (leb (top f) b) (b % top f / hid f) (b % hid f)
 
 zero-is : (f : Format) → ofBits f 0 ≡ zero₃₂
 unfolding ofBits ofFields odd
 zero-is binary32 = refl
 zero-is binary64 = refl
-
-not-nan : (x : Float) → finite x ≡ true → isNan x ≡ false
-unfolding isNan
-not-nan nan e = absurd (false≢true e)
-not-nan (inf s) e = refl
-not-nan (fin s m e) h = refl
-
--- a finite pattern may become a float
-pub finite-pattern : (f : Format) (b : ℕ) → finite (ofBits f b) ≡ true → T (not (nanBits f b))
-finite-pattern f b e = subst (λ (t : Bool). T (not t)) (sym (nanBits-is f b ∙ not-nan (ofBits f b) e)) tt
 
 kept-finite : (positive : Bool) (x : Float) → kept positive x ≡ true → finite x ≡ true
 unfolding kept

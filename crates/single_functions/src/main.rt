@@ -1,9 +1,10 @@
 // Runs single functions on the vectors of standard input, and prints what each gives. A line is a function's letter and its arguments as
 // hexadecimal numbers, parted by one space each: l ln, n ln_f32, e exp, r narrow, f min_post_for, s select_posteriors, g linear_cgd,
-// c cholesky_solve, t a text number (its bytes).
+// c cholesky_solve, t a text number (its bytes), v nearest_voice.
 use definition::IvectorOptions;
 use kaldi_text::Cmvn;
 use libc::STDOUT_FILENO;
+use nearest_voice::NearestVoice;
 
 fn say(words: &[u8]) {
     io::write_all(STDOUT_FILENO, words);
@@ -318,6 +319,83 @@ fn print_first(row: &[f64]) {
     end_line();
 }
 
+// n bit patterns of floats from place `at` of the text on, as far as the room has places; the place after them.
+fn read_bits(text: &[u8], at: usize, n: usize, items: &mut [u32]) -> usize {
+    let mut next = at;
+    for i in 0..n {
+        let x = script::number(text, next, 16);
+        set_bits(items, i, (x.value % 0x1_0000_0000) as u32);
+        next = x.next;
+    }
+    next
+}
+
+fn set_bits(items: &mut [u32], i: usize, x: u32) {
+    if i < items.len() {
+        items[i] = x;
+    }
+}
+
+// `v dim n v1 .. vn count m e1 .. em limit`: the enrolled vectors one after the other
+fn voice(text: &[u8], at: usize) {
+    let mut vector = [0u32; 256];
+    let mut enrolled = [0u32; 2048];
+    let dim = script::number(text, at, 16);
+    let n = script::number(text, dim.next, 16);
+    let p = read_bits(text, n.next, n.value, &mut vector);
+    let count = script::number(text, p, 16);
+    let m = script::number(text, count.next, 16);
+    let q = read_bits(text, m.next, m.value, &mut enrolled);
+    let limit = script::number(text, q, 16);
+    voice_in(
+        dim.value,
+        &vector,
+        n.value,
+        count.value,
+        &enrolled,
+        m.value,
+        script::float(limit.value),
+    );
+}
+
+fn voice_in(
+    dim: usize,
+    vector: &[u32],
+    n: usize,
+    count: usize,
+    enrolled: &[u32],
+    m: usize,
+    limit: f32,
+) {
+    if vector.len() < n {
+        too_large();
+        return;
+    }
+    if enrolled.len() < m {
+        too_large();
+        return;
+    }
+    print_voice(nearest_voice::nearest_voice(dim, &vector[..n], count, &enrolled[..m], limit));
+}
+
+fn print_voice(a: NearestVoice) {
+    match a {
+        NearestVoice::Voice { index, distance } => {
+            say(b"0 ");
+            io::print_decimal(STDOUT_FILENO, index as u64);
+            space();
+            print_f32(distance);
+        }
+        NearestVoice::Nobody => {
+            say(b"0 nobody");
+        }
+        NearestVoice::Refused(refusal) => {
+            io::print_decimal(STDOUT_FILENO, refusal as u64);
+        }
+    }
+    end_line();
+}
+
 fn one_number(letter: u8, text: &[u8], at: usize) {
     let x = script::number(text, at, 16);
     if letter == b'l' {
@@ -342,6 +420,7 @@ fn line(text: &[u8], at: usize) {
         b'g' => cgd(text, from),
         b'c' => chol(text, from),
         b't' => text_number(text, from),
+        b'v' => voice(text, from),
         _ => one_number(letter, text, from),
     }
 }

@@ -2,7 +2,8 @@
 -- both in Numbers.antt, at either width).
 use native.Mathlib.Omega.{arith}
 use lib.Ieee.{binary32}
-use Rattle.kaldi_io.proofs.Numbers.{finite-pattern, number-is, number-finite}
+use Rattle.floats.proofs.Finite.{finite-pattern}
+use Rattle.kaldi_io.proofs.Numbers.{number-is, number-finite}
 use Rattle.kaldi_io.proofs.f32_at.Statement.{statement}
 use Rattle.kaldi_io.proofs.f32_at.Tie as tie
 

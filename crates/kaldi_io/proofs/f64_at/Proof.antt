@@ -1,7 +1,8 @@
 -- `f64_at` meets its contract: `number-is` and `number-finite` of Numbers.antt, at the wider format.
 use native.Mathlib.Omega.{arith}
 use lib.Ieee.{binary64}
-use Rattle.kaldi_io.proofs.Numbers.{finite-pattern, number-is, number-finite}
+use Rattle.floats.proofs.Finite.{finite-pattern}
+use Rattle.kaldi_io.proofs.Numbers.{number-is, number-finite}
 use Rattle.kaldi_io.proofs.f64_at.Statement.{statement}
 use Rattle.kaldi_io.proofs.f64_at.Tie as tie
 

@@ -1,7 +1,8 @@
 -- `kept_f32` meets its contract: the test of the exponent's bits is the definition's `finite` by the laws of patterns, which hold at either
 -- width (`pattern-out`, `pattern-positive`, `pattern-any` in Numbers.antt).
 use lib.Ieee.{binary32}
-use Rattle.kaldi_io.proofs.Numbers.{finite-pattern, pattern-out, pattern-finite, pattern-any, pattern-positive}
+use Rattle.floats.proofs.Finite.{finite-pattern}
+use Rattle.kaldi_io.proofs.Numbers.{pattern-out, pattern-finite, pattern-any, pattern-positive}
 use Rattle.kaldi_io.proofs.kept_f32.Statement.{statement}
 use Rattle.kaldi_io.proofs.kept_f32.Tie as tie
 

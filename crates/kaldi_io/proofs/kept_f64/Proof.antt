@@ -1,6 +1,7 @@
 -- `kept_f64` meets its contract: the laws of patterns of Numbers.antt, at the wider format.
 use lib.Ieee.{binary64}
-use Rattle.kaldi_io.proofs.Numbers.{finite-pattern, pattern-out, pattern-finite, pattern-any, pattern-positive}
+use Rattle.floats.proofs.Finite.{finite-pattern}
+use Rattle.kaldi_io.proofs.Numbers.{pattern-out, pattern-finite, pattern-any, pattern-positive}
 use Rattle.kaldi_io.proofs.kept_f64.Statement.{statement}
 use Rattle.kaldi_io.proofs.kept_f64.Tie as tie
 

@@ -6,9 +6,10 @@ use native.Mathlib.Omega.{arith}
 use borrow.Author.Needs.{needs}
 use lib.Ieee.{binary64, ofBits}
 use lib.Ieee.Scale.{finite}
+use Rattle.floats.proofs.Finite.{finite-pattern}
 use Rattle.definition.specs.Kaldi.{single}
 use Rattle.kaldi_io.proofs.Bytes.{sized-none, sized-other, sized-short, sized-no, sized-yes}
-use Rattle.kaldi_io.proofs.Numbers.{finite-pattern, kept-is}
+use Rattle.kaldi_io.proofs.Numbers.{kept-is}
 use Rattle.kaldi_io.proofs.read_f64.Statement.{statement}
 use Rattle.kaldi_io.proofs.read_f64.Tie as tie
 

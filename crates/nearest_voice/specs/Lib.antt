@@ -1,0 +1,2 @@
+-- Request 7: whose voice it is.
+pub mod Voice
