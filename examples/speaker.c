@@ -70,6 +70,7 @@ static void print_vector(size_t frame) {
         printf(" %.6g", x);
     }
     printf("\n");
+    if (a.nan_likelihoods) printf("frame %zu: %zu likelihoods were NaN\n", frame, a.nan_likelihoods);
     take("forget", shofrakin_forget_before(&stream, frame + 1, RINGS));
 }
 

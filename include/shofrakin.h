@@ -147,12 +147,14 @@ typedef struct {
 } shofrakin_stream;
 
 /* The answer of a call on a stream: the refusal, frames and prefix rows held (0 with a refusal 10), and, of a fetch, how many elements
- * of its vector are not finite. */
+ * of its vector are not finite, and how many likelihoods of the frames that it brought in were NaN: one for each Gaussian and frame. A frame
+ * of weight 0 and a fetch that brings no frame in count 0; an infinite likelihood is not counted. Each fetch counts its own. */
 typedef struct {
     size_t refusal;
     size_t frames_held;
     size_t rows_held;
     size_t not_finite;
+    size_t nan_likelihoods;
 } shofrakin_stream_answer;
 
 /* The answer of a fresh stream: its numbers (no frame is held, and one row), and the record, which is one that every call refuses with 10 where the

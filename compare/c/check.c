@@ -103,6 +103,7 @@ static void took(const char *name, shofrakin_stream_answer a, size_t refusal, si
     is("frames held", a.frames_held, frames_held);
     is("rows held", a.rows_held, rows_held);
     is("not finite", a.not_finite, 0);
+    is("NaN likelihoods", a.nan_likelihoods, 0);
 }
 
 int main(void) {
@@ -180,6 +181,24 @@ int main(void) {
     is("next", shofrakin_num_frames_stats(&stream), 1);
     took("a frame too far", shofrakin_get_frame(&stream, 1, TABLES, RINGS, ESTIMATE, out, 1), 21, 1, 2);
     took("an output too long", shofrakin_get_frame(&stream, 0, TABLES, RINGS, ESTIMATE, out, 0), 20, 1, 2);
+
+    /* two frames so loud that three of them, spliced, have an infinite feature: the likelihood of the one Gaussian is NaN */
+    opts = (shofrakin_options){.left_context = 1, .right_context = 1, .cmn_window = 600, .global_frames = 200, .num_gselect = 5,
+        .num_cg_iters = 15, .min_post = 0.025f, .posterior_scale = 0.1f, .max_count = 100, .min_energy = 50};
+    model(3, 1.5);
+    m = shofrakin_load(opts, FILES, TABLES, scratch, 2);
+    a = shofrakin_new_stream(m.info, TABLES, RINGS, ESTIMATE);
+    is("a stream for loud frames", a.answer.refusal, 0);
+    stream = a.stream;
+    x = 3e38f;
+    took("a loud push", shofrakin_push_frame(&stream, &x, 1, RINGS), 0, 1, 2);
+    took("another", shofrakin_push_frame(&stream, &x, 1, RINGS), 0, 2, 3);
+    took("their finish", shofrakin_set_input_finished(&stream, RINGS), 0, 2, 3);
+    a.answer = shofrakin_get_frame(&stream, 1, TABLES, RINGS, ESTIMATE, out, 1);
+    is("a loud fetch", a.answer.refusal, 0);
+    is("its vector", out[0], 0);
+    is("its NaN likelihoods", a.answer.nan_likelihoods, 2);
+    took("the same fetch again", shofrakin_get_frame(&stream, 1, TABLES, RINGS, ESTIMATE, out, 1), 0, 2, 3);
 
     /* the scope's P12 */
     bool known[8] = {0}, is_silence[8] = {0};

@@ -528,7 +528,7 @@ pub fn frame(r: &mut Rng, o: &Options, base: usize, wild: bool) -> Vec<f32> {
     x
 }
 
-fn weight(r: &mut Rng) -> f32 {
+pub(crate) fn weight(r: &mut Rng) -> f32 {
     if r.1 && r.p(80) {
         return r.pick(&[0.0, 1.0, 1.0, -1.0, 2.0]);
     }
@@ -560,6 +560,8 @@ pub enum What {
     Silence,
     /// Rounds of an utterance: many frames through small rooms, silence weights as changes.
     Long,
+    /// Request 4: likelihoods that are NaN.
+    Nan,
     /// One dimension at or past its limit.
     Big,
     /// Every cut of every file of one model.
@@ -572,14 +574,14 @@ pub enum What {
 
 /// What `all` stands for (Big and Cuts are asked for by name).
 #[rustfmt::skip]
-pub const KINDS: [What; 10] = [
+pub const KINDS: [What; 11] = [
     What::Calls, What::Wild, What::Damage, What::Edges, What::Rooms, What::Forged, What::Silence, What::Long, What::Limit,
-    What::Exact,
+    What::Exact, What::Nan,
 ];
 #[rustfmt::skip]
-pub const NAMED: [What; 12] = [
+pub const NAMED: [What; 13] = [
     What::Calls, What::Wild, What::Damage, What::Edges, What::Rooms, What::Forged, What::Silence, What::Long, What::Limit,
-    What::Exact, What::Big, What::Cuts,
+    What::Exact, What::Nan, What::Big, What::Cuts,
 ];
 
 pub struct CallList {
@@ -600,6 +602,7 @@ pub fn call_list(seed: u64, what: What) -> CallList {
         What::Forged => calls(&mut r, &mut s, false, true),
         What::Silence => silence(&mut r, &mut s),
         What::Long => long(&mut r, &mut s),
+        What::Nan => crate::requests_nan::nan(&mut r, &mut s),
         What::Big => big(&mut r, &mut s),
         What::Cuts => cuts(&mut r, &mut s),
         What::Limit => crate::requests::limit(&mut r, &mut s),

@@ -9,6 +9,7 @@ pub mod nearest;
 pub mod original;
 pub mod rattle;
 pub mod requests;
+pub mod requests_nan;
 pub mod script;
 pub mod timed;
 #[allow(dead_code, warnings)]

@@ -447,8 +447,8 @@ fn library_call(t: &mut Tally, run: &Runner, s: &mut rattle::Stream, c: &Cmd, al
         return false;
     }
     let (held, bad) = (want.held.unwrap_or((0, 0)), want.vector.as_ref().map_or(0, |v| v.0));
-    let got = (a.refusal as u32, (a.frames_held as u64, a.rows_held as u64), a.not_finite as u64);
-    if got != (want.refusal, held, bad) {
+    let got = (a.refusal as u32, (a.frames_held as u64, a.rows_held as u64), a.not_finite as u64, a.nan_likelihoods as u64);
+    if got != (want.refusal, held, bad, want.nans) {
         t.diff(seed, what, i, format!("answer: machine {want:?}, library {a:?}"));
         return false;
     }

@@ -945,17 +945,18 @@ fn held(accepted: u64, mark: u64, window: u64) -> (u64, u64) {
     (accepted - mark, accepted + 1 - (mark + 1).saturating_sub(window))
 }
 
-/// An answer: refusal number, held counts unless the number stands alone, vector for a fetch.
+/// An answer: refusal number, held counts unless the number stands alone, vector for a fetch, NaN likelihoods of the frames it brought in.
 #[derive(Clone, Debug, PartialEq)]
 pub struct Answer {
     pub refusal: u32,
     pub held: Option<(u64, u64)>,
     pub vector: Option<(u64, Vec<u32>)>,
+    pub nans: u64,
 }
 
 impl Answer {
     pub fn alone(n: u32) -> Answer {
-        Answer { refusal: n, held: None, vector: None }
+        Answer { refusal: n, held: None, vector: None, nans: 0 }
     }
 }
 
@@ -1090,7 +1091,7 @@ impl Stream {
     }
 
     fn said(&self, r: &Record, n: u32) -> Answer {
-        Answer { refusal: n, held: Some(held(r.accepted, r.mark, r.opts.window)), vector: None }
+        Answer { refusal: n, held: Some(held(r.accepted, r.mark, r.opts.window)), vector: None, nans: 0 }
     }
     fn done(&self) -> Answer {
         self.said(&self.record(&[]), 0)
@@ -1202,6 +1203,7 @@ impl Stream {
         if n != 0 {
             return self.said(&r, n);
         }
+        let mut nans = 0;
         if f >= self.next {
             let batch: Vec<(u64, Option<f32>)> = if self.taken {
                 let mut b: Vec<(u64, Option<f32>)> = vec![];
@@ -1219,7 +1221,7 @@ impl Stream {
             } else {
                 (self.next..=f).map(|t| (t, None)).collect()
             };
-            self.update(&batch);
+            nans = self.update(&batch);
             self.current = self.stats.solve(&self.model, &self.current);
             self.next = f + 1;
         } else {
@@ -1231,15 +1233,23 @@ impl Stream {
         let bits = v.iter().map(|x| if x.is_nan() { 0x7FC0_0000 } else { x.to_bits() }).collect();
         let mut a = self.done();
         a.vector = Some((bad, bits));
+        a.nans = nans;
+        match (nans > 0, bad > 0) {
+            (true, false) => ev("fetch: NaN likelihoods, vector finite"),
+            (true, true) => ev("fetch: NaN likelihoods, vector not finite"),
+            (false, true) => ev("fetch: no NaN likelihood, vector not finite"),
+            (false, false) => (),
+        }
         a
     }
 
-    /// One batch of frames, each with its weight, or none.
-    fn update(&mut self, batch: &[(u64, Option<f32>)]) {
+    /// One batch of frames, each with its weight, or none. How many of the likelihoods selected from were NaN.
+    fn update(&mut self, batch: &[(u64, Option<f32>)]) -> u64 {
         if batch.is_empty() {
             ev("update: no change reached");
-            return;
+            return 0;
         }
+        let mut nans = 0;
         let o = self.model.opts;
         let mut out = vec![];
         for &(t, w) in batch {
@@ -1254,13 +1264,16 @@ impl Stream {
                     vec![]
                 }
                 Weighing::Weighed(floor, scale) => {
-                    select_posteriors(&loglikes(&self.model, &x), o.num_gselect, floor).into_iter().map(|(g, p)| (g, p * scale)).collect()
+                    let ll = loglikes(&self.model, &x);
+                    nans += ll.iter().filter(|l| l.is_nan()).count() as u64;
+                    select_posteriors(&ll, o.num_gselect, floor).into_iter().map(|(g, p)| (g, p * scale)).collect()
                 }
             };
             out.push((self.view(t as usize, false), post));
         }
         let m = self.model.clone();
         self.stats.acc(&m, &out);
+        nans
     }
 
     /// The CMVN fetch of frame t.

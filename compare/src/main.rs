@@ -4,7 +4,7 @@
 //! compare nearest-lines              the same on cases with their answers, on standard input (FORMAT.md)
 //! compare gen FIRST COUNT [KIND]     the lists as a script (FORMAT.md), on standard output
 //! compare answer                     the machine's answers to a script on standard input
-//! KIND: calls wild damage edges rooms forged silence long limit exact big cuts, or all (all but big and cuts). THREADS: how many (2).
+//! KIND: calls wild damage edges rooms forged silence long limit exact nan big cuts, or all (all but big and cuts). THREADS: how many (2).
 //! Exit status 1 on any difference.
 use compare::{day, gen, lists, nearest, script};
 use std::io::{BufRead, Write};

@@ -114,6 +114,7 @@ pub struct StreamAnswer {
     pub frames_held: usize,
     pub rows_held: usize,
     pub not_finite: usize,
+    pub nan_likelihoods: usize,
 }
 
 #[repr(C)]
@@ -607,7 +608,8 @@ impl Stream {
             return (n, None, wrong);
         }
         // no frame is held, and one row
-        let wrong = ((a.answer.frames_held, a.answer.rows_held, a.answer.not_finite) != (0, 1, 0)).then(|| format!("a fresh stream answers {:?}", a.answer));
+        let first = StreamAnswer { refusal: 0, frames_held: 0, rows_held: 1, not_finite: 0, nan_likelihoods: 0 };
+        let wrong = (a.answer != first).then(|| format!("a fresh stream answers {:?}", a.answer));
         (0, Some(Stream { model: m.clone(), rec: a.stream, rooms: z }), wrong)
     }
 

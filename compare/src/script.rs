@@ -177,7 +177,7 @@ pub fn show(a: &Answer) -> String {
         s.push_str(&format!(" {h} {r}"));
     }
     if let Some((n, v)) = &a.vector {
-        s.push_str(&format!(" {n}"));
+        s.push_str(&format!(" {n} {}", a.nans));
         for b in v {
             s.push_str(&format!(" {b:08x}"));
         }

@@ -26,8 +26,8 @@ use Rattle.definition.specs.Stream.{newRefusal, sameTables, isBroken, sameRooms
 use Rattle.definition.specs.Silence.{Table, input, decoder, segments, traced, settingsRefusal, newTable, tableBroken, tracebackTests, asked, askedTable, deltaTests}
 use Rattle.definition.proofs.Computed.{computed}
 
-abbrev said : ℕ → ℕ → ℕ → List ℕ → ℕ → Answer
-said r f n v c = record { told = record { refusal = r; «frames_held» = f; «rows_held» = n; «not_finite» = c }; vector = v }
+abbrev said : ℕ → ℕ → ℕ → List ℕ → ℕ → ℕ → Answer
+said r f n v c m = record { told = record { refusal = r; «frames_held» = f; «rows_held» = n; «not_finite» = c; «nan_likelihoods» = m }; vector = v }
 
 -- refusal 10 of a call on a stream: waiting frames, table lengths and room lengths are what is lent
 abbrev declined : IvectorStream → List ℕ → TableLengths → RoomLengths → Bool

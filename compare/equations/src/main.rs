@@ -295,7 +295,7 @@ impl<'a> Session<'a> {
             return;
         }
         let (mut rest, taken) = (&v[1..], q[0] == "0");
-        let (mut counts, mut vector) = (vec!["stream calls".to_string()], "[] 0".to_string());
+        let (mut counts, mut vector) = (vec!["stream calls".to_string()], "[] 0 0".to_string());
         let text = match v[0] {
             "p" => {
                 r.set("accepted", r.field("accepted") + taken as i128);
@@ -314,7 +314,8 @@ impl<'a> Session<'a> {
                 if taken {
                     counts.push("fetches".into());
                     counts.extend((q[3] != "0").then(|| "fetches not finite".into()));
-                    vector = format!("{} {}", list(q[4..].iter().map(|b| format!("0x{b}"))), q[3]);
+                    counts.extend((q[4] != "0").then(|| "fetches with NaN likelihoods".into()));
+                    vector = format!("{} {} {}", list(q[5..].iter().map(|b| format!("0x{b}"))), q[3], q[4]);
                 }
                 if taken && f >= r.field("next") {
                     r.set("next", f + 1);

@@ -13,7 +13,7 @@ use Rattle.loops.proofs.Build.{build-snoc}
 use Rattle.floats.specs.Operators.{_*₃₂_, at}
 use Rattle.definition.specs.declared.FrameWeight.{FrameWeight}
 use Rattle.definition.specs.declared.FrameWeight.the-variants.{Skipped, Weighed}
-use Rattle.definition.specs.Posteriors.{Post, selectPosteriors, posteriors}
+use Rattle.definition.specs.Posteriors.{Post, selectPosteriors, nanCount, posteriors, nansOf}
 use Rattle.definition.specs.Statistics.{Entry, seen}
 use Rattle.diag_gmm.specs.Steps.{held}
 use Rattle.diag_gmm.proofs.Rooms.{held-none, held-build}
@@ -77,3 +77,13 @@ module _ (k : ℕ) (ls raw : List Float) (es : List Entry) {w : FrameWeight} whe
   pub weighed-adds : (floor scale : Float) → w ≡ Weighed floor scale → es ++ map (scaledEntry scale raw) (selectPosteriors ls k floor) ≡ es ++ map (entryOf raw) (posteriors k w ls)
   unfolding posteriors
   weighed-adds floor scale e = rw e (ap (λ (l : List Entry). es ++ l) (sym (map-map (entryOf raw) (λ p. (p .0, p .1 *₃₂ scale)) (selectPosteriors ls k floor))))
+
+-- its NaNs
+module _ (ls : List Float) {w : FrameWeight} where
+  pub skipped-nans : w ≡ Skipped → 0 ≡ nansOf w ls
+  unfolding nansOf
+  skipped-nans e = rw e
+
+  pub weighed-nans : (floor scale : Float) → w ≡ Weighed floor scale → nanCount ls ≡ nansOf w ls
+  unfolding nansOf
+  weighed-nans floor scale e = rw e

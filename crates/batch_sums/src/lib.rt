@@ -9,7 +9,7 @@ ghost use Rattle.loops.specs.Lists.{build};
 ghost use Rattle.loops.specs.Steps.{fill};
 ghost use Rattle.loops.specs.Ring.{put};
 ghost use Rattle.floats.specs.Operators.{_+₆₄_, _*₆₄_, zero₆₄, at};
-ghost use Rattle.definition.specs.Posteriors.{loglikes, selectPosteriors, posteriors};
+ghost use Rattle.definition.specs.Posteriors.{loglikes, selectPosteriors, nanCount, posteriors, nansOf};
 ghost use Rattle.definition.specs.Statistics.{Entry};
 ghost use Rattle.diag_gmm.specs.Steps.{held};
 ghost use Rattle.batch_sums.specs.Batch.{entryOf, scaledEntry, Slots, Sums};
@@ -116,6 +116,12 @@ fn acc_posteriors(
     r
 }
 
+// Of a frame or a batch that went into the sums: how many Gaussians were seen so far, and how many of its likelihoods were NaN.
+pub struct Counts {
+    pub seen: usize,
+    pub nans: usize,
+}
+
 // A frame that is weighed: its posteriors by its normalised features, its part of the sums by its raw ones. The other rooms are scratch.
 fn acc_weighed(
     num_gselect: usize,
@@ -136,13 +142,14 @@ fn acc_weighed(
     seen: &mut [usize],
     tot: &mut [f64],
     sum: &mut [f64],
-) -> usize
+) -> Counts
     requires { ⌜ («num_gauss» * d ≤ length (now «means_invvars_t»)) × («num_gauss» * d ≤ length (now «inv_vars_t»)) × («num_gauss» ≤ length (now gconsts)) × (d ≤ length (now normalized)) × (d ≤ length (now raw)) ⌝ }
     requires { ⌜ (length (now ll) ≡ «num_gauss») × (length (now b) ≡ «num_gauss») × («num_gselect» ≤ length (now chosen)) × («num_gselect» ≤ length (now posts)) × Slots «num_gauss» d m (now seen) (now tot) (now sum) ⌝ }
-    ensures { λ r. ⌜ Slots «num_gauss» d r (now (seen .exit)) (now (tot .exit)) (now (sum .exit))
+    ensures { λ r. ⌜ Slots «num_gauss» d (r .seen) (now (seen .exit)) (now (tot .exit)) (now (sum .exit))
         × ((es : List Entry) → Sums d es m (now (seen .entry)) (now (tot .entry)) (now (sum .entry))
         → Sums d (es ++ map (scaledEntry scale (now (raw .entry)))
-        (selectPosteriors (loglikes «num_gauss» d (now (gconsts .entry)) (now («means_invvars_t» .entry)) (now («inv_vars_t» .entry)) (now (normalized .entry))) «num_gselect» floor)) r (now (seen .exit)) (now (tot .exit)) (now (sum .exit))) ⌝ }
+        (selectPosteriors (loglikes «num_gauss» d (now (gconsts .entry)) (now («means_invvars_t» .entry)) (now («inv_vars_t» .entry)) (now (normalized .entry))) «num_gselect» floor)) (r .seen) (now (seen .exit)) (now (tot .exit)) (now (sum .exit)))
+        × (r .nans ≡ nanCount (loglikes «num_gauss» d (now (gconsts .entry)) (now («means_invvars_t» .entry)) (now («inv_vars_t» .entry)) (now (normalized .entry)))) ⌝ }
 {
     diag_gmm::loglikes(
         num_gauss,
@@ -154,9 +161,9 @@ fn acc_weighed(
         ll,
         b,
     );
-    let n = diag_gmm::select_posteriors(ll, num_gselect, floor, chosen, posts);
-    acc_posteriors(
-        n,
+    let selection = diag_gmm::select_posteriors(ll, num_gselect, floor, chosen, posts);
+    let r = acc_posteriors(
+        selection.count,
         scale,
         chosen,
         posts,
@@ -167,11 +174,15 @@ fn acc_weighed(
         seen,
         tot,
         sum,
-    )
+    );
+    Counts {
+        seen: r,
+        nans: selection.nans,
+    }
 }
 
-// A frame of the batch goes into the running sums; m and the answer: how many Gaussians were seen. A skipped one adds nothing. With few Gaussians,
-// clearing rooms for as many as there can be would cost more than the work: they have rooms for 64.
+// A frame of the batch goes into the running sums; m: how many Gaussians were seen. A skipped one adds nothing, and its likelihoods are not asked
+// for. With few Gaussians, clearing rooms for as many as there can be would cost more than the work: they have rooms for 64.
 pub fn acc_frame(
     o: IvectorOptions,
     weight: FrameWeight,
@@ -186,16 +197,17 @@ pub fn acc_frame(
     seen: &mut [usize],
     tot: &mut [f64],
     sum: &mut [f64],
-) -> usize
+) -> Counts
     requires { ⌜ («num_gauss» * d ≤ length (now «means_invvars_t»)) × («num_gauss» * d ≤ length (now «inv_vars_t»)) × («num_gauss» ≤ length (now gconsts)) × (d ≤ length (now normalized)) × (d ≤ length (now raw)) ⌝ }
     requires { ⌜ (o .«num_gselect» ≤ 32) × («num_gauss» ≤ 1024) × Slots «num_gauss» d m (now seen) (now tot) (now sum) ⌝ }
-    ensures { λ r. ⌜ Slots «num_gauss» d r (now (seen .exit)) (now (tot .exit)) (now (sum .exit))
+    ensures { λ r. ⌜ Slots «num_gauss» d (r .seen) (now (seen .exit)) (now (tot .exit)) (now (sum .exit))
         × ((es : List Entry) → Sums d es m (now (seen .entry)) (now (tot .entry)) (now (sum .entry))
         → Sums d (es ++ map (entryOf (now (raw .entry)))
-        (posteriors (o .«num_gselect») weight (loglikes «num_gauss» d (now (gconsts .entry)) (now («means_invvars_t» .entry)) (now («inv_vars_t» .entry)) (now (normalized .entry))))) r (now (seen .exit)) (now (tot .exit)) (now (sum .exit))) ⌝ }
+        (posteriors (o .«num_gselect») weight (loglikes «num_gauss» d (now (gconsts .entry)) (now («means_invvars_t» .entry)) (now («inv_vars_t» .entry)) (now (normalized .entry))))) (r .seen) (now (seen .exit)) (now (tot .exit)) (now (sum .exit)))
+        × (r .nans ≡ nansOf weight (loglikes «num_gauss» d (now (gconsts .entry)) (now («means_invvars_t» .entry)) (now («inv_vars_t» .entry)) (now (normalized .entry)))) ⌝ }
 {
     match weight {
-        FrameWeight::Skipped => m,
+        FrameWeight::Skipped => Counts { seen: m, nans: 0 },
         FrameWeight::Weighed(floor, scale) => {
             let mut chosen = [0usize; 32];
             let mut posts = [0.0f32; 32];

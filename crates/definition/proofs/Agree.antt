@@ -1,5 +1,5 @@
 -- The arithmetic of a fetch is the same over two accessors that agree on what is held: so it serves a ring and a whole history.
--- One law for each stage; `updated-ext` is that of a whole fetch.
+-- One law for each stage; `updated-ext` is that of a whole fetch, `nans-ext` that of its count of NaN likelihoods.
 use mathlib.Core.Path.{_≡_, refl}
 use Prim.Native.Nat.{ℕ, _+_, _-_, _≤_, _<_}
 use native.Mathlib.Omega.{arith}
@@ -14,7 +14,7 @@ use Rattle.definition.specs.Options.{width}
 use Rattle.definition.specs.Model.{Model}
 use Rattle.definition.specs.Views.{Frames, windowed, cmvnState, cmvnFrame, spliceAt, rawRow, normalisedRow}
 use Rattle.definition.specs.Changes.{Batch}
-use Rattle.definition.specs.Estimate.{Estimate, entries, updated}
+use Rattle.definition.specs.Estimate.{Estimate, entries, nansOver, updated}
 
 -- two accessors that agree on the frames from mark on, and on the rows from mark + 1 - window on
 pub record Agree (F G : Frames) (dim mark window : ℕ) : Type 0 where
@@ -78,3 +78,12 @@ module _ (M : Model) (F G : Frames) (mark : ℕ) (some : 0 < M .info .dims .«ba
   pub updated-ext : (bs : Batch) (e : Estimate) → Inside (M .info .opts) mark (F .accepted) bs → updated M F bs e ≡ updated M G bs e
   unfolding updated
   updated-ext bs e h = rw (entries-ext bs (e .cmvn) h)
+
+  pub nans-ext : (bs : Batch) (c : List Float) → Inside (M .info .opts) mark (F .accepted) bs → nansOver M F bs c ≡ nansOver M G bs c
+  unfolding nansOver
+  nans-ext [] c h = refl
+  nans-ext (b ∷ bs) c h =
+      rw (
+        row-ext (M .info .opts) (M .info .dims .«base_dim») F G mark some a (b .0) (h .0) (h .1) (M .tables .global-mean-stats) c,
+        nans-ext bs (normalisedRow (M .info .opts) (M .info .dims .«base_dim») (M .tables .global-mean-stats) G (b .0) c .0) (h .2),
+      )

@@ -17,12 +17,12 @@ use Rattle.definition.specs.Kaldi.{binary, blank, word, token, dim, vect
 use Rattle.definition.specs.Text.{sign, digits, fraction, digitsValue, signedDigits, exponent, toNearest, number, space, stop, skip, row, line, byte, bracket, ending, cmvnRows, cmvn}
 use Rattle.definition.specs.Model.{gconst, transposed, packed, sigmaInvM, quadraticTerm, contentsAgree, tablesOf, tablesFit, judged, loading, load}
 use Rattle.definition.specs.Views.{smoothed, windowed, cmvnState, cmvnFrame, spliceAt, rawRow, normalisedRow, ldaFrame}
-use Rattle.definition.specs.Posteriors.{loglikes, insert, sorted, pruned, ranked, bestOf, renormalised, selectPosteriors, minPostFor, weighed, unweighted, posteriors}
+use Rattle.definition.specs.Posteriors.{loglikes, insert, sorted, pruned, ranked, bestOf, renormalised, selectPosteriors, nanCount, minPostFor, weighed, unweighted, posteriors, nansOf}
 use Rattle.definition.specs.Statistics.{addDiagonal, newStats, rescaled, seen, sumFor, accLinear, accQuadratic, acc}
 use Rattle.definition.specs.Solve.{dot, spMatVec, lessProducts, cell, factor, forward, backward, solvedOr, begun, turn, linearCgd, priorVector, getIvector}
 use Rattle.definition.specs.Changes.{insertChange, changed, reached, mergedFrom, merged, batch}
-use Rattle.definition.specs.Estimate.{entries, accumulated, updated}
-use Rattle.definition.specs.Machine.{allFrames, framesHeld, rowsHeld, framesReady, forgotten, pushTests, changeTests, fetchTests, notFinite, fresh, fetched, caughtUp, does, toldBy, answer, machineAfter, answersFrom, answers}
+use Rattle.definition.specs.Estimate.{entries, nansOver, accumulated, updated}
+use Rattle.definition.specs.Machine.{allFrames, framesHeld, rowsHeld, framesReady, forgotten, pushTests, changeTests, fetchTests, notFinite, fresh, fetched, caughtUp, nansMet, does, toldBy, answer, machineAfter, answersFrom, answers}
 use Rattle.definition.specs.Stream.{recordSound, infoSound, sameTables, streamScratch, roomsFit, newRefusal, rising, breaks, isBroken, sameRings, sameRooms}
 use Rattle.definition.specs.Silence.{infoAt, tableIn, segments, samePhone, marked, traced, before, carried, walked, weighted, decoderFrames, inputFrame, deltaWeights, settingsRefusal, newTable, active, tableBroken, tracebackTests, asked, askedTable, deltaTests, computeCurrentTraceback, getDeltaWeights, silenceAnswer}
 
@@ -32,11 +32,11 @@ unfolding add sub mul div neg lt le eq ne isNan ofInt ofBits toBits round iter l
     times bytes run here littleEndian numbers kept floats binary blank word token dim vector skipped matrix packedMatrix weightsHeading gmm rowless
     extractorHeading single alike extractor lda sign digits fraction digitsValue signedDigits exponent toNearest number space stop skip row line byte
     bracket ending cmvnRows cmvn gconst transposed packed sigmaInvM quadraticTerm contentsAgree tablesOf tablesFit judged loading load smoothed windowed
-    cmvnState cmvnFrame spliceAt rawRow normalisedRow ldaFrame loglikes insert sorted pruned ranked bestOf renormalised selectPosteriors minPostFor
-    weighed unweighted posteriors addDiagonal newStats rescaled seen sumFor accLinear accQuadratic acc dot spMatVec lessProducts cell factor forward
-    backward solvedOr begun turn linearCgd priorVector getIvector insertChange changed reached mergedFrom merged batch entries accumulated updated
-    allFrames framesHeld rowsHeld framesReady forgotten pushTests changeTests fetchTests notFinite fresh fetched caughtUp does toldBy answer machineAfter
-    answersFrom answers recordSound infoSound sameTables streamScratch roomsFit newRefusal rising breaks isBroken sameRings sameRooms infoAt tableIn
-    segments samePhone marked traced before carried walked weighted decoderFrames inputFrame deltaWeights settingsRefusal newTable active tableBroken
-    tracebackTests asked askedTable deltaTests computeCurrentTraceback getDeltaWeights silenceAnswer
+    cmvnState cmvnFrame spliceAt rawRow normalisedRow ldaFrame loglikes insert sorted pruned ranked bestOf renormalised selectPosteriors nanCount
+    minPostFor weighed unweighted posteriors nansOf addDiagonal newStats rescaled seen sumFor accLinear accQuadratic acc dot spMatVec lessProducts cell
+    factor forward backward solvedOr begun turn linearCgd priorVector getIvector insertChange changed reached mergedFrom merged batch entries nansOver
+    accumulated updated allFrames framesHeld rowsHeld framesReady forgotten pushTests changeTests fetchTests notFinite fresh fetched caughtUp nansMet
+    does toldBy answer machineAfter answersFrom answers recordSound infoSound sameTables streamScratch roomsFit newRefusal rising breaks isBroken
+    sameRings sameRooms infoAt tableIn segments samePhone marked traced before carried walked weighted decoderFrames inputFrame deltaWeights
+    settingsRefusal newTable active tableBroken tracebackTests asked askedTable deltaTests computeCurrentTraceback getDeltaWeights silenceAnswer
 computed = tt

@@ -1,10 +1,10 @@
--- P1 to P12 of the scope's "Examples": what the definitions say of them, computed. `P1-to-P12` gathers them.
+-- P1 to P12 of the scope's "Examples": what the definitions say of them, computed. `P1-to-P12` gathers them. Then examples of request 4.
 use mathlib.Core.Path.{_≡_, refl}
 use Prim.Native.Nat.{ℕ, _*_}
 use mathlib.Core.Bool.{true, false}
 use mathlib.Core.List.{List, [], _∷_, _++_}
 use lib.ListN.{replicate}
-use lib.Ieee.{Float, neg}
+use lib.Ieee.{Float, nan, inf, neg}
 use Rattle.loops.specs.Lists.{flat}
 use Rattle.floats.specs.Operators.{f32, f64, asF64, zero₃₂, zero₆₄, one₃₂, _+₆₄_}
 use Rattle.floats.specs.Narrow.{narrowed}
@@ -21,7 +21,7 @@ use Rattle.definition.specs.Reader.{read, refused, text}
 use Rattle.definition.specs.Text.{number}
 use Rattle.definition.specs.Model.{tablesFrom, Model, Files, load}
 use Rattle.definition.specs.Views.{cmvnState, cmvnFrame, normalisedRow}
-use Rattle.definition.specs.Posteriors.{minPostFor}
+use Rattle.definition.specs.Posteriors.{nanCount, minPostFor}
 use Rattle.definition.specs.Statistics.{newStats}
 use Rattle.definition.specs.Solve.{linearCgd}
 use Rattle.definition.specs.Machine.{Call, push, change, forget, fetch, Answer, Machine, machine, allFrames, fresh, toldBy, machineAfter, answersFrom, answers}
@@ -127,11 +127,15 @@ lengths =
       estimate = record { «cmvn_stats» = 2; linear = 1; quadratic = 1; current = 1; scratch = 1 };
     }
 
-abbrev told : ℕ → ℕ → ℕ → ℕ → StreamAnswer
-told r f n c = record { refusal = r; «frames_held» = f; «rows_held» = n; «not_finite» = c }
+-- an answer's numbers; the last is the count of likelihoods that were NaN
+abbrev told : ℕ → ℕ → ℕ → ℕ → ℕ → StreamAnswer
+told r f n c m = record { refusal = r; «frames_held» = f; «rows_held» = n; «not_finite» = c; «nan_likelihoods» = m }
+
+abbrev said-with : ℕ → ℕ → ℕ → List ℕ → ℕ → ℕ → Answer
+said-with r f n v c m = record { told = told r f n c m; vector = v }
 
 abbrev pub said : ℕ → ℕ → ℕ → List ℕ → ℕ → Answer
-said r f n v c = record { told = told r f n c; vector = v }
+said r f n v c = said-with r f n v c 0
 
 abbrev pair : Float → Float → List Float
 pair a b = a ∷ b ∷ []
@@ -197,7 +201,7 @@ pub record Examples : Type 0 where
   pub P8-loud : state 60 ≡ pair (asF64 160) (asF64 201)
   pub P8-quiet : state 50 ≡ pair (asF64 100) (asF64 200)
   pub P9-load : load (single 15) (files wide-two) tables 2 ≡ read (model (single 15) 2) 0
-  pub P9-fresh : toldBy (model (single 15) 2) 0 (fresh (model (single 15) 2)) 0 ≡ told 0 0 1 0
+  pub P9-fresh : toldBy (model (single 15) 2) 0 (fresh (model (single 15) 2)) 0 0 ≡ told 0 0 1 0 0
   pub P9-half : answers (model (single 15) 2) (lengths .rings) four ≡ said 0 1 2 [] 0 ∷ said 0 1 2 (0x3f00_0000 ∷ []) 0 ∷ []
   pub P9-none : answers (model (single 0) 2) (lengths .rings) four ≡ said 0 1 2 [] 0 ∷ said 0 1 2 (0 ∷ []) 0 ∷ []
   pub P10-load : load (single 15) (files wide-zero) tables 2 ≡ read (model (single 15) 0) 0
@@ -259,3 +263,27 @@ P1-to-P12 =
       P12-again-frames = refl;
       P12-again-weights = refl;
     }
+
+-- ---- request 4
+
+-- a frame so loud that the four of P11's splice sum to an infinite feature: its log-likelihood is NaN
+abbrev loud : Call
+loud = push (f32 0x7f61_b1e6 ∷ [])
+
+-- the prior, taken off itself
+abbrev plain : List ℕ
+plain = 0 ∷ []
+
+pub record Counted : Type 0 where
+  -- infinities are numbers
+  pub R4-inputs : nanCount (nan ∷ inf true ∷ one₃₂ ∷ inf false ∷ nan ∷ []) ≡ 2
+  -- a fetch counts those of its own batch: two frames, then none at all, then one
+  pub R4-fetches : answers late-model (lengths .rings) (loud ∷ loud ∷ fetch 1 1 ∷ fetch 1 1 ∷ loud ∷ fetch 2 1 ∷ [])
+      ≡ said 0 1 2 [] 0 ∷ said 0 2 3 [] 0 ∷ said-with 0 2 3 plain 0 2 ∷ said 0 2 3 plain 0 ∷ said 0 3 4 [] 0 ∷ said-with 0 3 4 plain 0 1 ∷ []
+  -- a skipped frame counts nothing; nor does a change to a frame that is in the statistics until a later fetch brings it in
+  pub R4-changes : answers late-model (lengths .rings) (loud ∷ change (0 ∷ []) (zero₃₂ ∷ []) ∷ fetch 0 1 ∷ change (0 ∷ []) (one₃₂ ∷ []) ∷ fetch 0 1 ∷ [])
+      ≡ said 0 1 2 [] 0 ∷ said 0 1 2 [] 0 ∷ said 0 1 2 plain 0 ∷ said 0 1 2 [] 0 ∷ said 0 1 2 plain 0 ∷ []
+
+pub request-4 : Counted
+unfolding computed
+request-4 = record { R4-inputs = refl; R4-fetches = refl; R4-changes = refl }

@@ -22,7 +22,7 @@ use Rattle.definition.specs.Views.{Frames}
 use Rattle.definition.specs.Statistics.{newStats}
 use Rattle.definition.specs.Solve.{priorVector}
 use Rattle.definition.specs.Changes.{Changes, changed, reached, batch}
-use Rattle.definition.specs.Estimate.{Estimate, updated}
+use Rattle.definition.specs.Estimate.{Estimate, updated, nansOver}
 
 pub data Call : Type 0 where
   push : List Float → Call
@@ -31,8 +31,8 @@ pub data Call : Type 0 where
   forget : ℕ → Call
   fetch : ℕ → ℕ → Call  -- a frame, and the output's length
 
--- the numbers of an answer (refusal, frames held, rows held, elements of the vector not finite), and the vector's bits: only a fetch that is
--- taken has a vector
+-- the numbers of an answer (refusal, frames held, rows held, elements of the vector not finite, likelihoods that were NaN), and the vector's
+-- bits: only a fetch that is taken has a vector
 pub record Answer : Type 0 where
   pub told : StreamAnswer
   pub vector : List ℕ
@@ -104,14 +104,16 @@ fetchTests d ready next called past-highest f n =
     ∷ (leb ready f, 21)
     ∷ (leb next f && called && leb past-highest f, 22) ∷ []
 
--- what a call does to the machine: its refusal number, and where that is 0 the machine afterwards and what is given out
+-- what a call does to the machine: its refusal number, and where that is 0 the machine afterwards, what is given out, and how many likelihoods
+-- were NaN (request 4)
 pub record Move : Type 0 where
   pub refusal : ℕ
   pub left : Machine
   pub gives : List Float
+  pub nans : ℕ
 
-abbrev pub move : List (Bool × ℕ) → Machine → List Float → Move
-move tests k v = record { refusal = firstOf tests; left = k; gives = v }
+abbrev pub move : List (Bool × ℕ) → Machine → List Float → ℕ → Move
+move tests k v n = record { refusal = firstOf tests; left = k; gives = v; nans = n }
 
 -- the machine after a call, refused or not
 abbrev pub moved : Machine → Move → Machine
@@ -145,32 +147,44 @@ module _ (M : Model) where
       let e = updated M (allFrames (k .history)) (batch o (k .changes) (k .next) f) (k .estimate) in
       if leb (k .next) f then machine (k .history) (f + 1) (reached (k .changes) f) (k .finished) e (k .mark) else k
 
+  -- request 4: how many likelihoods of a fetch of frame f that is taken are NaN, over the batch that it brings in; 0 where it does no update
+  unfoldable pub nansMet : Machine → ℕ → ℕ
+  nansMet k f =
+      let n = nansOver M (allFrames (k .history)) (batch o (k .changes) (k .next) f) (k .estimate .cmvn) in
+      if leb (k .next) f then n else 0
+
   -- the calls, with rings of lengths z
   unfoldable pub does : RingLengths → Machine → Call → Move
   does z k (push x) =
       move (pushTests o d z (accepted k) (k .mark) x)
-      (machine (k .history ++ (x ∷ [])) (k .next) (k .changes) (k .finished) (k .estimate) (k .mark)) []
-  does z k finish = move [] (machine (k .history) (k .next) (k .changes) true (k .estimate) (k .mark)) []
+      (machine (k .history ++ (x ∷ [])) (k .next) (k .changes) (k .finished) (k .estimate) (k .mark)) [] 0
+  does z k finish = move [] (machine (k .history) (k .next) (k .changes) true (k .estimate) (k .mark)) [] 0
   does z k (change fs ws) =
       move (changeTests o z (k .mark) (length (k .changes .waiting)) fs ws)
-      (machine (k .history) (k .next) (changed (k .changes) fs ws) (k .finished) (k .estimate) (k .mark)) []
+      (machine (k .history) (k .next) (changed (k .changes) fs ws) (k .finished) (k .estimate) (k .mark)) [] 0
   does z k (forget f) =
       let mark = forgotten left-context (k .next) (k .mark) (map (λ c. c .0) (k .changes .waiting)) f in
-      move [] (machine (k .history) (k .next) (k .changes) (k .finished) (k .estimate) mark) []
+      move [] (machine (k .history) (k .next) (k .changes) (k .finished) (k .estimate) mark) [] 0
   does z k (fetch f n) =
       move (fetchTests d (framesReady o (k .finished) (accepted k)) (k .next) (k .changes .called) (k .changes .past-highest) f n)
-      (caughtUp k f) (fetched (caughtUp k f .estimate .current))
+      (caughtUp k f) (fetched (caughtUp k f .estimate .current)) (nansMet k f)
 
-  -- the numbers of an answer: refusal r, the held counts of machine k, n elements not finite
-  unfoldable pub toldBy : ℕ → Machine → ℕ → StreamAnswer
-  toldBy r k n =
-      record { refusal = r; «frames_held» = framesHeld (accepted k) (k .mark); «rows_held» = rowsHeld window (accepted k) (k .mark); «not_finite» = n }
+  -- the numbers of an answer: refusal r, the held counts of machine k, n elements not finite, m likelihoods that were NaN
+  unfoldable pub toldBy : ℕ → Machine → ℕ → ℕ → StreamAnswer
+  toldBy r k n m =
+      record {
+        refusal = r;
+        «frames_held» = framesHeld (accepted k) (k .mark);
+        «rows_held» = rowsHeld window (accepted k) (k .mark);
+        «not_finite» = n;
+        «nan_likelihoods» = m;
+      }
 
   -- the answer to a call
   unfoldable pub answer : Machine → Move → Answer
   answer k x =
       let v = taken (x .refusal) (x .gives) [] in
-      record { told = toldBy (x .refusal) (moved k x) (notFinite v); vector = bitsOf v }
+      record { told = toldBy (x .refusal) (moved k x) (notFinite v) (taken (x .refusal) (x .nans) 0); vector = bitsOf v }
 
   -- the machine after a list of calls, and its answers to them
   unfoldable pub machineAfter : RingLengths → Machine → List Call → Machine

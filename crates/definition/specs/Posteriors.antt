@@ -76,6 +76,10 @@ renormalised min-post best =
 unfoldable pub selectPosteriors : List Float → ℕ → Float → List Post
 selectPosteriors ls num-gselect min-post = renormalised min-post (bestOf ls num-gselect min-post)
 
+-- request 4: how many of the log-likelihoods that a selection is made from are NaN; an infinite one is a number
+unfoldable pub nanCount : List Float → ℕ
+nanCount ls = length (those isNan ls)
+
 -- `min_post_for`, the prune floor of a weight; 3f7d70a4 is 0.99
 unfoldable pub minPostFor : IvectorOptions → Float → Float
 minPostFor o w = if eq w zero₃₂ then f32 0x3f7d_70a4 else smaller (o .«min_post» /₃₂ absolute w) (f32 0x3f7d_70a4)
@@ -90,3 +94,8 @@ unweighted o = Weighed (o .«min_post») (o .«posterior_scale»)
 unfoldable pub posteriors : ℕ → FrameWeight → List Float → List Post
 posteriors num-gselect Skipped ls = []
 posteriors num-gselect (Weighed floor scale) ls = map (λ p. (p .0, p .1 *₃₂ scale)) (selectPosteriors ls num-gselect floor)
+
+-- request 4: the NaNs among the log-likelihoods of a frame; a skipped one makes no selection
+unfoldable pub nansOf : FrameWeight → List Float → ℕ
+nansOf Skipped ls = 0
+nansOf (Weighed floor scale) ls = nanCount ls

@@ -101,13 +101,15 @@ pub struct IvectorStream {
     pub num_frames: f64,
 }
 
-// The answer of a call on a stream. A fetch's vector is in the output that it is lent.
+// The answer of a call on a stream. A fetch's vector is in the output that it is lent; how many of its numbers are not finite, and how many
+// likelihoods of the frames that it brought in were NaN.
 #[repr(C)]
 pub struct StreamAnswer {
     pub refusal: usize,
     pub frames_held: usize,
     pub rows_held: usize,
     pub not_finite: usize,
+    pub nan_likelihoods: usize,
 }
 
 // What a call on a stream returns: its answer, and the record for the next call.

@@ -8,5 +8,6 @@ pub mod Rooms
 mod Pruning
 mod Gathering
 mod Choosing
+mod Counting
 pub mod Apart
 pub mod Selecting

@@ -11,7 +11,7 @@ ghost use Rattle.loops.specs.Lists.{if_then_else_, those};
 ghost use Rattle.loops.specs.Steps.{fill};
 ghost use Rattle.floats.specs.Operators.{_+₃₂_, _-₃₂_, _*₃₂_, f32, zero₃₂, at, sum₃₂};
 ghost use Rattle.floats.specs.Exp.{expOf};
-ghost use Rattle.definition.specs.Posteriors.{loglikes as loglikesOf, ahead as isAhead, insert as insertOf, pruned, every, maxLike, ranked, bestOf, selectPosteriors, minPostFor, weighed as weighedOf, unweighted as unweightedOf};
+ghost use Rattle.definition.specs.Posteriors.{loglikes as loglikesOf, ahead as isAhead, insert as insertOf, pruned, every, maxLike, ranked, bestOf, selectPosteriors, nanCount, minPostFor, weighed as weighedOf, unweighted as unweightedOf};
 ghost use Rattle.diag_gmm.specs.Steps.{held, Fair, slid};
 
 fn clear(sum: &mut [f32])
@@ -262,7 +262,7 @@ fn scale(v: f32, n: usize, posts: &mut [f32])
 
 // The num_gselect most likely Gaussians as posteriors, pruned below min_post of the total, renormalised to one. The rooms hold as many as
 // the answer says.
-pub fn select_posteriors(
+fn select(
     loglikes: &[f32],
     num_gselect: usize,
     min_post: f32,
@@ -277,6 +277,41 @@ pub fn select_posteriors(
     let left = prune(n, posts, min_post * tot, tot);
     scale(1.0 / left.tot, left.count, posts);
     left.count
+}
+
+// How many of the log-likelihoods are NaN. One pass of its own with no branch in it, so that it is compiled to vector instructions.
+fn count_nans(loglikes: &[f32]) -> usize
+    ensures { λ r. ⌜ r ≡ nanCount (now (loglikes .entry)) ⌝ }
+{
+    let mut nans = 0;
+    for g in 0..loglikes.len() {
+        let l = loglikes[g];
+        nans += (l != l) as usize;
+    }
+    nans
+}
+
+// A selection: how many posteriors there are, and how many of the log-likelihoods that it was made from were NaN.
+pub struct Selection {
+    pub count: usize,
+    pub nans: usize,
+}
+
+// `select`, and the count of NaN.
+pub fn select_posteriors(
+    loglikes: &[f32],
+    num_gselect: usize,
+    min_post: f32,
+    chosen: &mut [usize],
+    posts: &mut [f32],
+) -> Selection
+    requires { ⌜ («num_gselect» ≤ length (now chosen)) × («num_gselect» ≤ length (now posts)) ⌝ }
+    ensures { λ r. ⌜ (held (r .count) (now (chosen .exit)) (now (posts .exit)) ≡ selectPosteriors (now (loglikes .entry)) «num_gselect» «min_post») × (r .count ≤ «num_gselect»)
+        × Fair (length (now (loglikes .entry))) (r .count) (now (chosen .exit)) × (r .nans ≡ nanCount (now (loglikes .entry))) ⌝ }
+{
+    let count = select(loglikes, num_gselect, min_post, chosen, posts);
+    let nans = count_nans(loglikes);
+    Selection { count, nans }
 }
 
 // The prune floor of a weight.

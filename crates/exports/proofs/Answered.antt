@@ -32,9 +32,9 @@ unfolding newStreamAnswer
 stream-made i e = sym (ap (newStreamAnswer i) e)
 
 pub stream-refused : (i : IvectorInfo) {a : NewStream} {n : ℕ} {s : IvectorStream} → a ≡ N.Refused n → s ≡ noStream i
-    → answered (record { refusal = n; «frames_held» = 0; «rows_held» = 0; «not_finite» = 0 }) s ≡ newStreamAnswer i a
+    → answered (record { refusal = n; «frames_held» = 0; «rows_held» = 0; «not_finite» = 0; «nan_likelihoods» = 0 }) s ≡ newStreamAnswer i a
 unfolding newStreamAnswer
-stream-refused i {n = n} e h = ap (answered (record { refusal = n; «frames_held» = 0; «rows_held» = 0; «not_finite» = 0 })) h ∙ sym (ap (newStreamAnswer i) e)
+stream-refused i {n = n} e h = ap (answered (record { refusal = n; «frames_held» = 0; «rows_held» = 0; «not_finite» = 0; «nan_likelihoods» = 0 })) h ∙ sym (ap (newStreamAnswer i) e)
 
 abbrev pub tableBeside : ℕ → SilenceWeighting → NewTableAnswer
 tableBeside n s = record { refusal = n; silence = s }

@@ -45,7 +45,7 @@ answered a s = record { answer = a; stream = s }
 
 unfoldable pub newStreamAnswer : IvectorInfo → NewStream → StreamCall
 newStreamAnswer i (N.Stream c) = c
-newStreamAnswer i (N.Refused n) = answered (answerFrom n 0 0 0) (noStream i)
+newStreamAnswer i (N.Refused n) = answered (answerFrom n 0 0 0 0) (noStream i)
 
 -- no subsampling is 0
 abbrev pub noTable : SilenceWeighting

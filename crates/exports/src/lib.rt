@@ -194,6 +194,7 @@ fn stream_answer(info: IvectorInfo, a: NewStream) -> StreamCall
                     frames_held: 0,
                     rows_held: 0,
                     not_finite: 0,
+                    nan_likelihoods: 0,
                 },
                 stream,
             };

@@ -20,19 +20,20 @@ use Rattle.definition.specs.declared.StreamCall.{StreamCall}
 use Rattle.definition.specs.Model.{Tables, tableLengthsOf, modelIn}
 use Rattle.definition.specs.Posteriors.{unweighted}
 use Rattle.definition.specs.Changes.{Change, Changes, reached, batch}
-use Rattle.definition.specs.Estimate.{Estimate, updated}
+use Rattle.definition.specs.Estimate.{Estimate, updated, nansOver}
 use Rattle.definition.specs.Machine.{bitsOf, notFinite}
 use Rattle.definition.specs.Stream.{rising}
 use Rattle.definition.proofs.Lengths.{Long, updated-long}
 use Rattle.definition.proofs.Ranges.{Fitting, fitting}
 use Rattle.program.specs.Rooms.{ringsFrom, EstimateRooms, estimateFrom, Rooms, roomsFrom, roomLengthsOf, waitingIn, framesOf, weightsOf, framesIn, changesIn, estimateIn}
-use Rattle.program.specs.Calls.{callOf, overWaiting, Step, fetchCall, fetchedOn, fetchRefusal, getFrame, catchesUp, fetchEstimate, fetchChanges, fetchStream, overEstimate, fetchRooms, fetchVector}
+use Rattle.program.specs.Calls.{callOf, overWaiting, Step, fetchCall, fetchedOn, fetchRefusal, getFrame, catchesUp, fetchEstimate, fetchChanges, fetchStream, overEstimate, fetchRooms, fetchVector, fetchNans}
 use Rattle.program.proofs.WaitingRooms.{length-waiting, frames-waiting, weights-waiting}
 use Rattle.program.proofs.InOrder.{waiting-early, waiting-late}
 use Rattle.program.proofs.Steps.{four}
 use Rattle.ivector_update.specs.Steps.{batchOf, changesBatch, run}
 use Rattle.ivector_fetch.specs.Steps.{fetchedAt}
 use Rattle.ivector_fetch.proofs.Vector.{fetched-is}
+use Rattle.ivector_fetch.proofs.Short.{batch-short}
 use Rattle.ivector_fetch.proofs.Refusals.{FetchTaken, rooms-fit}
 
 -- what passes a test passes it
@@ -71,6 +72,11 @@ module _ (s : IvectorStream) (z : Rooms) (f : ℕ) where
     unfolding batch
     batch-is =
         ap (λ (cs : List Change). if s .«delta_weights_provided» then changesBatch (s .info .opts) cs else run (s .«num_frames_stats») (unweighted (s .info .opts)) (f + 1 - s .«num_frames_stats»)) (sym early)
+
+    pub few-frames : length (batchOf (s .info .opts) (s .«delta_weights_provided») (s .«num_frames_stats») f (waitingIn k (z .rings .waiting-frames) (z .rings .waiting-weights))) ≤ f + 1
+    few-frames =
+        rw batch-is (batch-short f (s .info .opts) (changesIn s (z .rings)) (s .«num_frames_stats»)
+        (ap (rising 0) (frames-waiting (s .waiting) (z .rings .waiting-frames) (z .rings .waiting-weights) l) ∙ o))
 
     module _ (t : Tables) (h : s .«num_frames_stats» ≤ f) where
       abbrev E : Estimate
@@ -116,6 +122,12 @@ module _ (s : IvectorStream) (z : Rooms) (f : ℕ) where
       rooms-up p q r =
           rw (p ∙ ap (λ (c : List Change). over (framesOf c) (z .rings .waiting-frames)) left-up, q ∙ ap (λ (c : List Change). over (weightsOf c) (z .rings .waiting-weights)) left-up, r ∙ ap (λ (e : Estimate). overEstimate e (z .estimate)) estimate-up)
 
+      pub nans-up : {n : ℕ}
+          → n ≡ nansOver (modelIn (s .info) t) (framesIn s (z .rings)) (batchOf (s .info .opts) (s .«delta_weights_provided») (s .«num_frames_stats») f (waitingIn k (z .rings .waiting-frames) (z .rings .waiting-weights)))
+          (estimateIn s (z .estimate) .cmvn) → n ≡ fetchNans s t z f
+      unfolding fetchNans
+      nans-up g = g ∙ choose-true _ up (ap (λ (b : _). nansOver (modelIn (s .info) t) (framesIn s (z .rings)) b (estimateIn s (z .estimate) .cmvn)) batch-is)
+
 -- ---- once a fetch is taken
 
 module _ (s : IvectorStream) (t : Tables) (z : Rooms) (f : ℕ) {scratch n : ℕ} (T : FetchTaken s (tableLengthsOf t) z scratch f n) where
@@ -144,6 +156,10 @@ module _ (s : IvectorStream) (t : Tables) (z : Rooms) (f : ℕ) {scratch n : ℕ
     pub stream-same : s ≡ fetchStream s t z f
     unfolding fetchStream
     stream-same = rw (sym changes-same, sym estimate-same, in-already, length-waiting (s .waiting) (z .rings .waiting-frames) (z .rings .waiting-weights)) refl
+
+    pub nans-same : 0 ≡ fetchNans s t z f
+    unfolding fetchNans
+    nans-same = choose-false _ in-already refl
 
     waiting-same : z .rings ≡ overWaiting (changesIn s (z .rings)) (z .rings)
     waiting-same =
@@ -197,30 +213,30 @@ module _ (s : IvectorStream) (t : Tables) (z : Rooms) (f : ℕ) {scratch n : ℕ
 -- ---- what is returned, and the rooms and the output: of a step x on record s, rooms z and an output
 
 module _ (s : IvectorStream) (z : Rooms) (out : List ℕ) (x : Step) where
-  pub fetch-refused : (r : ℕ) {c : StreamCall} → c ≡ callOf r s 0 → r ≡ x .refusal → (r ≡ 0 → ⊥) → fetchCall c z out ≡ fetchedOn s z out x
+  pub fetch-refused : (r : ℕ) {c : StreamCall} → c ≡ callOf r s 0 0 → r ≡ x .refusal → (r ≡ 0 → ⊥) → fetchCall c z out ≡ fetchedOn s z out x
   fetch-refused r h e l =
       let g : x .refusal ≡ 0 → ⊥ = λ q. l (e ∙ q) in
       let n : ℕ = x .refusal in
-      rw (taken-old n (x .stream) s g, taken-old n (notFinite (x .vector)) 0 g, taken-old n (x .rooms) z g, taken-old n (over (bitsOf (x .vector)) out) out g, h, e)
+      rw (taken-old n (x .stream) s g, taken-old n (notFinite (x .vector)) 0 g, taken-old n (x .nans) 0 g, taken-old n (x .rooms) z g, taken-old n (over (bitsOf (x .vector)) out) out g, h, e)
 
-  fetch-done : {c : StreamCall} {s′ : IvectorStream} {b : ℕ} {z′ : Rooms} {out′ : List ℕ} → c ≡ callOf 0 s′ b → 0 ≡ x .refusal → s′ ≡ x .stream → b ≡ notFinite (x .vector)
-      → z′ ≡ x .rooms → out′ ≡ over (bitsOf (x .vector)) out → fetchCall c z′ out′ ≡ fetchedOn s z out x
-  fetch-done h e p q r o =
+  fetch-done : {c : StreamCall} {s′ : IvectorStream} {b m : ℕ} {z′ : Rooms} {out′ : List ℕ} → c ≡ callOf 0 s′ b m → 0 ≡ x .refusal → s′ ≡ x .stream → b ≡ notFinite (x .vector)
+      → m ≡ x .nans → z′ ≡ x .rooms → out′ ≡ over (bitsOf (x .vector)) out → fetchCall c z′ out′ ≡ fetchedOn s z out x
+  fetch-done h e p q u r o =
       let g : x .refusal ≡ 0 = sym e in
       let n : ℕ = x .refusal in
-      rw (taken-new n (x .stream) s g, taken-new n (notFinite (x .vector)) 0 g, taken-new n (x .rooms) z g, taken-new n (over (bitsOf (x .vector)) out) out g, h, p, q, r, o, g)
+      rw (taken-new n (x .stream) s g, taken-new n (notFinite (x .vector)) 0 g, taken-new n (x .nans) 0 g, taken-new n (x .rooms) z g, taken-new n (over (bitsOf (x .vector)) out) out g, h, p, q, u, r, o, g)
 
--- a fetch that is taken, by what code leaves: the record, the rooms, and the vector's bits and count
+-- a fetch that is taken, by what code leaves: the record, the rooms, the count of NaN likelihoods, and the vector's bits and count
 module _ (s : IvectorStream) (t : Tables) (z : Rooms) (f : ℕ) {scratch n : ℕ} (T : FetchTaken s (tableLengthsOf t) z scratch f n) where
   abbrev vectorOf : ℕ → Rooms → List Float
   vectorOf m y = build m (λ i. fetchedAt (s .info .«prior_offset») i (at (y .estimate .current) i))
 
-  pub fetch-made : (out : List ℕ) {c : StreamCall} {r : IvectorStream} {b : ℕ} {y : Rooms} {out′ : List ℕ}
+  pub fetch-made : (out : List ℕ) {c : StreamCall} {r : IvectorStream} {b m : ℕ} {y : Rooms} {out′ : List ℕ}
       → fetchRefusal s (tableLengthsOf t) (roomLengthsOf z scratch) (z .rings .waiting-frames) f (length out) ≡ 0 → length out ≡ s .info .dims .«ivector_dim»
-      → c ≡ callOf 0 r b → r ≡ fetchStream s t z f → y ≡ fetchRooms s t z f
+      → c ≡ callOf 0 r b m → r ≡ fetchStream s t z f → y ≡ fetchRooms s t z f → m ≡ fetchNans s t z f
       → (out′ ≡ over (bitsOf (vectorOf (length out) y)) out) × (b ≡ notFinite (vectorOf (length out) y))
       → fetchCall c y out′ ≡ fetchedOn s z out (getFrame s t z scratch f (length out))
   unfolding getFrame
-  fetch-made out none wide h p q (o, e) =
+  fetch-made out none wide h p q u (o, e) =
       let v = vector-is s t z f T (length out) wide (ap (λ (y : Rooms). y .estimate .current) q) in
-      fetch-done s z out (getFrame s t z scratch f (length out)) h (sym none) p (e ∙ ap notFinite v) q (o ∙ ap (λ (x : List Float). over (bitsOf x) out) v)
+      fetch-done s z out (getFrame s t z scratch f (length out)) h (sym none) p (e ∙ ap notFinite v) u q (o ∙ ap (λ (x : List Float). over (bitsOf x) out) v)

@@ -123,8 +123,9 @@ fn write_vector(prior_offset: f64, current: &[f64], n: usize, out: &mut [u32]) -
 }
 
 // The i-vector for `frame`: where that frame is not in the statistics yet, they are brought up to it, the estimate is refreshed and the
-// changes that were used wait no longer; the prior is taken off element 0. `out` takes the bits of its numbers. A refusal leaves every
-// room as it was; scratch is free once a fetch is taken.
+// changes that were used wait no longer; the prior is taken off element 0. `out` takes the bits of its numbers. The answer has the count of
+// those not finite, and of the NaN likelihoods of the frames that were brought in: 0 where there are none. A refusal leaves every room as it
+// was; scratch is free once a fetch is taken.
 pub fn get_frame(
     s: IvectorStream,
     frame: usize,
@@ -184,15 +185,15 @@ pub fn get_frame(
     let lengths = RoomLengths { rings, estimate };
     let refusal = fetch_refusal(s, tables, lengths, waiting_frames, frame, out.len());
     if refusal != 0 {
-        return ivector_stream::reply(refusal, s, 0);
+        return ivector_stream::reply(refusal, s, 0, 0);
     }
     let i = s.info;
     if frame < s.num_frames_stats {
         let bad = write_vector(i.prior_offset, current, out.len(), out);
-        return ivector_stream::reply(0, s, bad);
+        return ivector_stream::reply(0, s, bad, 0);
     }
     let n = delta_weights::up_to(waiting_frames, s.waiting, frame);
-    let num_frames = ivector_update::update_rooms(
+    let update = ivector_update::update_rooms(
         i,
         s.accepted,
         s.delta_weights_provided,
@@ -222,7 +223,7 @@ pub fn get_frame(
     let mut t = s;
     t.num_frames_stats = frame + 1;
     t.waiting = s.waiting - n;
-    t.num_frames = num_frames;
+    t.num_frames = update.num_frames;
     let bad = write_vector(i.prior_offset, current, out.len(), out);
-    ivector_stream::reply(0, t, bad)
+    ivector_stream::reply(0, t, bad, update.nans)
 }

@@ -30,35 +30,35 @@ use Rattle.program.proofs.InOrder.{length-inserts}
 
 -- ---- an answer
 
-abbrev answer : ℕ → ℕ → ℕ → ℕ → StreamAnswer
-answer r f w n = record { refusal = r; «frames_held» = f; «rows_held» = w; «not_finite» = n }
+abbrev answer : ℕ → ℕ → ℕ → ℕ → ℕ → StreamAnswer
+answer r f w n m = record { refusal = r; «frames_held» = f; «rows_held» = w; «not_finite» = n; «nan_likelihoods» = m }
 
 abbrev call : StreamAnswer → IvectorStream → StreamCall
 call a s = record { answer = a; stream = s }
 
-module _ (r n : ℕ) (s : IvectorStream) where
-  pub reply-10 : r ≡ 10 → call (answer r 0 0 0) s ≡ callOf r s n
+module _ (r n m : ℕ) (s : IvectorStream) where
+  pub reply-10 : r ≡ 10 → call (answer r 0 0 0 0) s ≡ callOf r s n m
   unfolding answerOf
   reply-10 e = ap (λ (a : StreamAnswer). call a s) (choose-true _ (eq-eqb r 10 e) refl)
 
   pub reply-held : {f w : ℕ} → (r ≡ 10 → ⊥) → f ≡ framesHeld (s .accepted) (s .mark) → w ≡ rowsHeld (s .info .opts .«cmn_window») (s .accepted) (s .mark)
-      → call (answer r f w n) s ≡ callOf r s n
+      → call (answer r f w n m) s ≡ callOf r s n m
   unfolding answerOf
   reply-held {f} {w} h p q =
       ap (λ (a : StreamAnswer). call a s)
-      (ap (λ (k : ℕ). answer r k w n) p ∙ ap (λ (k : ℕ). answer r (framesHeld (s .accepted) (s .mark)) k n) q ∙ choose-false _ (ne-eqb r 10 h) refl)
+      (ap (λ (k : ℕ). answer r k w n m) p ∙ ap (λ (k : ℕ). answer r (framesHeld (s .accepted) (s .mark)) k n m) q ∙ choose-false _ (ne-eqb r 10 h) refl)
 
 -- ---- a call on record s and rings z that does x: n is its refusal number, c what is returned
 
 module _ (s : IvectorStream) (z : Rings) (x : RingStep) {n : ℕ} (e : n ≡ x .refusal) where
-  pub refused : {c : StreamCall} → (n ≡ 0 → ⊥) → c ≡ callOf n s 0 → ringCall c z ≡ doneOn s z x
+  pub refused : {c : StreamCall} → (n ≡ 0 → ⊥) → c ≡ callOf n s 0 0 → ringCall c z ≡ doneOn s z x
   refused h g =
       let old : (x .refusal ≡ 0 → ⊥) = λ k. h (e ∙ k) in
       let stream : taken (x .refusal) (x .stream) s ≡ s = taken-old _ _ _ old in
       let rings : taken (x .refusal) (x .rings) z ≡ z = taken-old _ _ _ old in
       rw (g, e, stream, rings)
 
-  pub done : {c : StreamCall} {after : Rings} → n ≡ 0 → c ≡ callOf 0 (x .stream) 0 → after ≡ x .rings → ringCall c after ≡ doneOn s z x
+  pub done : {c : StreamCall} {after : Rings} → n ≡ 0 → c ≡ callOf 0 (x .stream) 0 0 → after ≡ x .rings → ringCall c after ≡ doneOn s z x
   done h g f = let new : x .refusal ≡ 0 = sym e ∙ h in rw (g, f, new)
 
 -- ---- rooms, part by part
@@ -118,6 +118,6 @@ module _ (i : IvectorInfo) (t : TableLengths) (z : RoomLengths) where
   unfolding newAnswer
   new-refused e h = ap N.Refused e ∙ untouched (newRefusal i t z) _ _ e h
 
-  pub new-done : {c : StreamCall} → 0 ≡ newRefusal i t z → c ≡ callOf 0 (freshStream i z) 0 → N.Stream c ≡ newAnswer i t z
+  pub new-done : {c : StreamCall} → 0 ≡ newRefusal i t z → c ≡ callOf 0 (freshStream i z) 0 0 → N.Stream c ≡ newAnswer i t z
   unfolding newAnswer
   new-done e g = written (newRefusal i t z) _ _ e (ap N.Stream g)

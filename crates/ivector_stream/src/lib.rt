@@ -33,9 +33,14 @@ ghost use Rattle.program.specs.Calls.{callOf, newAnswer, freshRooms, ringCall, 
 // ---- answers
 
 // What a call returns that leaves the record s. A refusal 10 is its number alone.
-pub fn reply(refusal: usize, s: IvectorStream, not_finite: usize) -> StreamCall
+pub fn reply(
+    refusal: usize,
+    s: IvectorStream,
+    not_finite: usize,
+    nan_likelihoods: usize,
+) -> StreamCall
     requires { ⌜ ((refusal ≡ 10 → ⊥) → (s .accepted ≤ 1000000000) × (s .mark ≤ 1000000000)) ⌝ }
-    ensures { λ r. ⌜ r ≡ callOf refusal s «not_finite» ⌝ }
+    ensures { λ r. ⌜ r ≡ callOf refusal s «not_finite» «nan_likelihoods» ⌝ }
 {
     if refusal == 10 {
         return StreamCall {
@@ -44,6 +49,7 @@ pub fn reply(refusal: usize, s: IvectorStream, not_finite: usize) -> StreamCall
                 frames_held: 0,
                 rows_held: 0,
                 not_finite: 0,
+                nan_likelihoods: 0,
             },
             stream: s,
         };
@@ -58,6 +64,7 @@ pub fn reply(refusal: usize, s: IvectorStream, not_finite: usize) -> StreamCall
             frames_held,
             rows_held,
             not_finite,
+            nan_likelihoods,
         },
         stream: s,
     }
@@ -208,7 +215,7 @@ pub fn new(
         input_finished: false,
         num_frames: 0.0,
     };
-    let call = reply(0, stream, 0);
+    let call = reply(0, stream, 0, 0);
     NewStream::Stream(call)
 }
 
@@ -321,7 +328,7 @@ pub fn push_frame(
 {
     let refusal = push_refusal(s, frame, frames, rows, waiting_frames, waiting_weights);
     if refusal != 0 {
-        return reply(refusal, s, 0);
+        return reply(refusal, s, 0, 0);
     }
     let i = s.info;
     let d = i.dims;
@@ -331,7 +338,7 @@ pub fn push_frame(
     let next = row_after(rows.len(), d.base_dim, last);
     add_frame(rows, last, next, frame);
     s.accepted += 1;
-    reply(0, s, 0)
+    reply(0, s, 0, 0)
 }
 
 // ---- finish
@@ -349,10 +356,10 @@ pub fn set_input_finished(
 {
     let refusal = plain_refusal(s, frames, rows, waiting_frames, waiting_weights);
     if refusal != 0 {
-        return reply(refusal, s, 0);
+        return reply(refusal, s, 0, 0);
     }
     s.input_finished = true;
-    reply(0, s, 0)
+    reply(0, s, 0, 0)
 }
 
 // ---- change
@@ -448,7 +455,7 @@ pub fn update_frame_weights(
         waiting_weights,
     );
     if refusal != 0 {
-        return reply(refusal, s, 0);
+        return reply(refusal, s, 0, 0);
     }
     let past_highest = delta_weights::update_frame_weights(
         waiting_frames,
@@ -461,7 +468,7 @@ pub fn update_frame_weights(
     s.waiting += delta_frames.len();
     s.past_highest = past_highest;
     s.delta_weights_provided = true;
-    reply(0, s, 0)
+    reply(0, s, 0, 0)
 }
 
 // ---- forget
@@ -492,7 +499,7 @@ pub fn forget_before(
 {
     let refusal = plain_refusal(s, frames, rows, waiting_frames, waiting_weights);
     if refusal != 0 {
-        return reply(refusal, s, 0);
+        return reply(refusal, s, 0, 0);
     }
     let i = s.info;
     let o = i.opts;
@@ -500,7 +507,7 @@ pub fn forget_before(
     let first = lowest(reached, waiting_frames, s.waiting);
     let kept = basics::less(first, o.left_context);
     s.mark = basics::larger(s.mark, kept);
-    reply(0, s, 0)
+    reply(0, s, 0, 0)
 }
 
 // ---- questions

@@ -1,4 +1,5 @@
--- Laws of a batch: its places, its statistics, and the lent rooms.
+-- Laws of a batch: its places, its NaNs, its statistics, and the lent rooms.
 mod Places
+mod Counted
 mod Updated
 mod Rooms

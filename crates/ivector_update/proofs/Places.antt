@@ -18,12 +18,12 @@ use Rattle.definition.specs.Views.{Frames}
 use Rattle.definition.specs.Statistics.{Entry}
 use Rattle.definition.specs.Posteriors.{weighed, unweighted}
 use Rattle.definition.specs.Changes.{merged, Batch}
-use Rattle.definition.specs.Estimate.{entries}
+use Rattle.definition.specs.Estimate.{entries, nansOver}
 use Rattle.program.specs.Rooms.{waitingIn}
 use Rattle.program.proofs.WaitingRooms.{length-waiting}
 use Rattle.batch_sums.specs.Batch.{Sums}
 use Rattle.batch_sums.proofs.Batches.{sums-on, sums-none}
-use Rattle.ivector_update.specs.Steps.{run, changesBatch, batchOf, batchLength, frameAt, batchFrom, Lined, frameState, frameEntries, Partway}
+use Rattle.ivector_update.specs.Steps.{run, changesBatch, batchOf, batchLength, frameAt, batchFrom, Lined, frameState, frameEntries, frameNans, Partway}
 
 -- ---- what is left of a batch
 
@@ -63,6 +63,19 @@ module _ (M : Model) (F : Frames) (whole : Batch) (c₀ : List Float) where
               ∙ ap (λ (x : List Float). p .so-far ++ (frameEntries M F t w c ++ gained rest′ x)) h
               ∙ ap (λ (b : Batch). p .so-far ++ gained b c) (sym e) ∙ p .gained-on;
         }
+
+-- the NaNs so far, n of them, and those of what is left are all of the batch
+module _ (M : Model) (F : Frames) (n : ℕ) (rest : Batch) (c : List Float) {whole : ℕ} (h : n + nansOver M F rest c ≡ whole) where
+  pub nans-none : rest ≡ [] → n ≡ whole
+  unfolding nansOver
+  nans-none e = let g : nansOver M F rest c ≡ 0 = rw e in omega (arith, g, h)
+
+  pub nans-less : {t : ℕ} {w : FrameWeight} {rest′ : Batch} {c′ : List Float} (k : ℕ) → rest ≡ (t, w) ∷ rest′ → c′ ≡ frameState M F t c → k ≡ frameNans M F t w c
+      → n + k + nansOver M F rest′ c′ ≡ whole
+  unfolding nansOver
+  nans-less {t} {w} {rest′} {c′} k e g u =
+      let v : nansOver M F rest c ≡ frameNans M F t w c + nansOver M F rest′ c′ = rw (e, g) in
+      omega (arith, v, u, h)
 
 -- ---- what stands at a place
 

@@ -22,7 +22,7 @@ use Rattle.definition.specs.Posteriors.{weighed, unweighted}
 use Rattle.definition.specs.Statistics.{Entry, Stats, acc}
 use Rattle.definition.specs.Changes.{Change, merged, mergedFrom, Batch}
 use Rattle.definition.specs.Solve.{getIvector}
-use Rattle.definition.specs.Estimate.{Estimate, entries, accumulated, updated}
+use Rattle.definition.specs.Estimate.{Estimate, entries, nansOver, accumulated, updated}
 use Rattle.program.specs.Rooms.{waitingIn}
 use Rattle.program.proofs.WaitingRooms.{length-waiting}
 use Rattle.ivector_update.specs.Steps.{run, changesBatch, batchOf, batchLength, viewTables, frameState, Ready}
@@ -56,6 +56,11 @@ module _ (M : Model) where
   unfolding entries
   entries-view F [] c = refl
   entries-view F (b ∷ bs) c = rw (entries-view F bs (frameState M F (b .0) c))
+
+  nans-view : (F : Frames) (bs : Batch) (c : List Float) → nansOver viewOf F bs c ≡ nansOver M F bs c
+  unfolding nansOver
+  nans-view F [] c = refl
+  nans-view F (b ∷ bs) c = rw (nans-view F bs (frameState M F (b .0) c))
 
   -- a batch of some frames
   module _ (es : List Entry) (st : Stats) where
@@ -103,6 +108,13 @@ module _ (M : Model) where
     pub stats-as : (st : Stats) {x : Stats} → x ≡ taken-in (entries viewOf F bs c .1) st
         → taken-in (entries M F bs′ c .1) st ≡ accumulated M bs′ (entries M F bs′ c .1) st → x ≡ accumulated M bs′ (entries M F bs′ c .1) st
     stats-as st h g = h ∙ ap (λ (p : List Float × List Entry). taken-in (p .1) st) as-model ∙ g
+
+    pub nans-as : {n : ℕ} → n ≡ nansOver viewOf F bs c → n ≡ nansOver M F bs′ c
+    nans-as h = h ∙ nans-view F bs c ∙ ap (λ (b : Batch). nansOver M F b c) e
+
+  pub nans-in-none : (F : Frames) (c : List Float) {bs : Batch} → bs ≡ [] → 0 ≡ nansOver M F bs c
+  unfolding nansOver
+  nans-in-none F c e = rw e
 
   pub state-none : (F : Frames) (c : List Float) {bs : Batch} → bs ≡ [] → c ≡ entries M F bs c .0
   unfolding entries

@@ -12,10 +12,10 @@ use Rattle.definition.specs.Options.{width}
 use Rattle.definition.specs.Kaldi.{triangle}
 use Rattle.definition.specs.Model.{Tables, tablesFrom, Model}
 use Rattle.definition.specs.Views.{Frames, rawRow, normalisedRow, ldaFrame}
-use Rattle.definition.specs.Posteriors.{loglikes, posteriors, weighed, unweighted}
+use Rattle.definition.specs.Posteriors.{loglikes, posteriors, nansOf, weighed, unweighted}
 use Rattle.definition.specs.Statistics.{Entry}
 use Rattle.definition.specs.Changes.{Change, merged, Batch}
-use Rattle.definition.specs.Estimate.{entries}
+use Rattle.definition.specs.Estimate.{entries, heard}
 use Rattle.loops.specs.Lists.{if_then_else_, build}
 use Rattle.program.specs.Rooms.{waitingIn}
 use Rattle.batch_sums.specs.Batch.{entryOf, Sums}
@@ -60,7 +60,7 @@ module _ (M : Model) (F : Frames) where
   open IvectorInfo (M .info) using (opts, dims)
   open Tables (M .tables) using (gconsts, means-invvars-t, inv-vars-t, lda-t, lda-offset, global-mean-stats)
 
-  -- the CMVN state after frame t, from the state c; the entries of the frame, of weight w
+  -- the CMVN state after frame t, from the state c; the entries of the frame, of weight w, and its NaNs
   abbrev pub frameState : ℕ → List Float → List Float
   frameState t c = normalisedRow opts (dims .«base_dim») global-mean-stats F t c .0
 
@@ -70,6 +70,9 @@ module _ (M : Model) (F : Frames) where
       let row = normalisedRow opts (dims .«base_dim») global-mean-stats F t c .1 in
       let ls = loglikes (dims .«num_gauss») d gconsts means-invvars-t inv-vars-t (ldaFrame d lda-t lda-offset row) in
       map (entryOf (ldaFrame d lda-t lda-offset (rawRow opts (dims .«base_dim») F t))) (posteriors (opts .«num_gselect») w ls)
+
+  abbrev pub frameNans : ℕ → FrameWeight → List Float → ℕ
+  frameNans t w c = nansOf w (heard M F t c .1)
 
 -- what the record and those tables have to meet
 pub record Ready (i : IvectorInfo) (t : Tables) : Type 0 where

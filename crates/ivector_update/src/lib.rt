@@ -1,5 +1,6 @@
 // A fetch's work on a batch of frames: each frame is fetched, weighed and added to the batch's sums, the statistics take them, and the
 // i-vector is solved for.
+use batch_sums::Counts;
 use definition::FrameWeight;
 use definition::IvectorInfo;
 use definition::IvectorOptions;
@@ -12,17 +13,17 @@ ghost use Rattle.definition.specs.Model.{Tables, tablesFrom, tableLengthsOf, ta
 ghost use Rattle.definition.specs.Views.{Frames};
 ghost use Rattle.definition.specs.Statistics.{Entry};
 ghost use Rattle.definition.specs.Changes.{Batch};
-ghost use Rattle.definition.specs.Estimate.{Estimate, entries, updated};
+ghost use Rattle.definition.specs.Estimate.{Estimate, entries, nansOver, updated};
 ghost use Rattle.definition.specs.Stream.{recordSound, roomsFit};
 ghost use Rattle.program.specs.Rooms.{ringsFrom, EstimateRooms, estimateFrom, Rooms, roomsFrom, roomLengthsOf, ringFrames, waitingIn, estimateAt};
 ghost use Rattle.program.specs.Calls.{overEstimate};
 ghost use Rattle.frame_views.specs.Rows.{Lent};
 ghost use Rattle.batch_sums.specs.Batch.{Slots, Sums};
 ghost use Rattle.ivector_stats.specs.Steps.{statsIn};
-ghost use Rattle.ivector_update.specs.Steps.{batchOf, batchLength, frameAt, batchFrom, Lined, viewTables, frameState, frameEntries, Ready, Solvable};
+ghost use Rattle.ivector_update.specs.Steps.{batchOf, batchLength, frameAt, batchFrom, Lined, viewTables, frameState, frameEntries, frameNans, Ready, Solvable};
 
-// Frame t of a batch goes into the batch's sums, by way of rooms for its normalised and its raw features; m and the answer: how many
-// Gaussians were seen. A skipped one is fetched all the same.
+// Frame t of a batch goes into the batch's sums, by way of rooms for its normalised and its raw features; m: how many Gaussians were seen. A
+// skipped one is fetched all the same.
 fn take_frame(
     info: IvectorInfo,
     accepted: usize,
@@ -43,7 +44,7 @@ fn take_frame(
     seen: &mut [usize],
     tot: &mut [f64],
     sum: &mut [f64],
-) -> usize
+) -> Counts
     requires { ⌜ Lent (info .dims .«base_dim») accepted (now global) (now frames) (now rows) (now cmvn) ⌝ }
     requires { ⌜ Ready info (viewTables (now gconsts) (now «means_invvars_t») (now «inv_vars_t») (now «lda_t») (now «lda_offset») (now global)) ⌝ }
     requires { ⌜ (t < accepted) × (length (now normalized) ≡ info .dims .«feat_dim») × (length (now raw) ≡ info .dims .«feat_dim»)
@@ -53,9 +54,10 @@ fn take_frame(
         let F : Frames = ringFrames (info .dims .«base_dim») accepted (now (frames .entry)) (now (rows .entry)) in
         let d = info .dims .«feat_dim» in
         (now (cmvn .exit) ≡ frameState M F t (now (cmvn .entry)))
-        × Slots (info .dims .«num_gauss») d r (now (seen .exit)) (now (tot .exit)) (now (sum .exit))
+        × Slots (info .dims .«num_gauss») d (r .seen) (now (seen .exit)) (now (tot .exit)) (now (sum .exit))
         × ((es : List Entry) → Sums d es m (now (seen .entry)) (now (tot .entry)) (now (sum .entry))
-        → Sums d (es ++ frameEntries M F t weight (now (cmvn .entry))) r (now (seen .exit)) (now (tot .exit)) (now (sum .exit)))) ⌝ }
+        → Sums d (es ++ frameEntries M F t weight (now (cmvn .entry))) (r .seen) (now (seen .exit)) (now (tot .exit)) (now (sum .exit)))
+        × (r .nans ≡ frameNans M F t weight (now (cmvn .entry)))) ⌝ }
 {
     let o = info.opts;
     let dims = info.dims;
@@ -156,7 +158,8 @@ fn batch_frame(
     BatchFrame { frame, weight, end }
 }
 
-// The frames of a batch of n places go into the sums of a batch that has none yet.
+// The frames of a batch of n places go into the sums of a batch that has none yet. The NaN likelihoods of all of them are added up: of at most
+// 10^9 frames, so that the sum is in range.
 fn take_batch(
     info: IvectorInfo,
     accepted: usize,
@@ -179,28 +182,32 @@ fn take_batch(
     seen: &mut [usize],
     tot: &mut [f64],
     sum: &mut [f64],
-) -> usize
+) -> Counts
     requires { ⌜ Lent (info .dims .«base_dim») accepted (now global) (now frames) (now rows) (now cmvn) ⌝ }
     requires { ⌜ Ready info (viewTables (now gconsts) (now «means_invvars_t») (now «inv_vars_t») (now «lda_t») (now «lda_offset») (now global)) ⌝ }
     requires { ⌜ Lined called n (now «waiting_frames») (now «waiting_weights») × ((j : ℕ) → j < n → frameAt called next (now «waiting_frames») j < accepted)
         × (length (now normalized) ≡ info .dims .«feat_dim») × (length (now raw) ≡ info .dims .«feat_dim»)
-        × Slots (info .dims .«num_gauss») (info .dims .«feat_dim») 0 (now seen) (now tot) (now sum) ⌝ }
+        × Slots (info .dims .«num_gauss») (info .dims .«feat_dim») 0 (now seen) (now tot) (now sum)
+        × (length (batchFrom (info .opts) called next n (now «waiting_frames») (now «waiting_weights») 0) ≤ 1000000000) ⌝ }
     ensures { λ r. ⌜ (
         let M : Model = model info (viewTables (now (gconsts .entry)) (now («means_invvars_t» .entry)) (now («inv_vars_t» .entry)) (now («lda_t» .entry)) (now («lda_offset» .entry)) (now (global .entry))) in
         let F : Frames = ringFrames (info .dims .«base_dim») accepted (now (frames .entry)) (now (rows .entry)) in
         let d = info .dims .«feat_dim» in
-        let x = entries M F (batchFrom (info .opts) called next n (now («waiting_frames» .entry)) (now («waiting_weights» .entry)) 0) (now (cmvn .entry)) in
+        let bs : Batch = batchFrom (info .opts) called next n (now («waiting_frames» .entry)) (now («waiting_weights» .entry)) 0 in
+        let x = entries M F bs (now (cmvn .entry)) in
         (now (cmvn .exit) ≡ x .0)
-        × Slots (info .dims .«num_gauss») d r (now (seen .exit)) (now (tot .exit)) (now (sum .exit))
-        × Sums d (x .1) r (now (seen .exit)) (now (tot .exit)) (now (sum .exit))) ⌝ }
+        × Slots (info .dims .«num_gauss») d (r .seen) (now (seen .exit)) (now (tot .exit)) (now (sum .exit))
+        × Sums d (x .1) (r .seen) (now (seen .exit)) (now (tot .exit)) (now (sum .exit))
+        × (r .nans ≡ nansOver M F bs (now (cmvn .entry)))) ⌝ }
 {
     let o = info.opts;
     let mut m = 0;
+    let mut nans = 0;
     let mut j = 0;
     while j < n {
         let b = batch_frame(o, called, next, n, waiting_frames, waiting_weights, j);
         let weight = b.weight;
-        m = take_frame(
+        let taken = take_frame(
             info,
             accepted,
             b.frame,
@@ -221,14 +228,22 @@ fn take_batch(
             tot,
             sum,
         );
+        m = taken.seen;
+        nans += taken.nans;
         j = b.end;
     }
-    m
+    Counts { seen: m, nans }
+}
+
+// What an update leaves: the statistics' frame count, and how many likelihoods of the frames that it brought in were NaN.
+pub struct Update {
+    pub num_frames: f64,
+    pub nans: usize,
 }
 
 // `update_stats_until`: what a fetch of f brings in goes into the statistics (frames next .. f, or, once a change call was taken, those of
-// the first n waiting changes; where there are none, nothing is added), and the current vector is solved for. The answer is the frame
-// count; scratch is free.
+// the first n waiting changes; where there are none, nothing is added), and the current vector is solved for. Scratch
+// is free.
 pub fn update_stats_until(
     info: IvectorInfo,
     accepted: usize,
@@ -254,20 +269,22 @@ pub fn update_stats_until(
     quadratic: &mut [f64],
     current: &mut [f64],
     scratch: &mut [f64],
-) -> f64
+) -> Update
     requires { ⌜ Lent (info .dims .«base_dim») accepted (now global) (now frames) (now rows) (now cmvn) ⌝ }
     requires { ⌜ (
         let t : Tables = tablesFrom (now gconsts) (now «means_invvars_t») (now «inv_vars_t») (now «sigma_inv_m») (now u) (now «lda_t») (now «lda_offset») (now global) in
         Ready info t × Solvable info t (now linear) (now quadratic) (length (now scratch))) ⌝ }
     requires { ⌜ (next ≤ f) × (f < accepted) × (n ≤ length (now «waiting_frames»)) × (n ≤ length (now «waiting_weights»)) × ((k : ℕ) → k < n → getD (now «waiting_frames») k 0 < accepted)
-        × (length (now current) ≡ info .dims .«ivector_dim») ⌝ }
+        × (length (now current) ≡ info .dims .«ivector_dim»)
+        × (length (batchOf (info .opts) called next f (waitingIn n (now «waiting_frames») (now «waiting_weights»))) ≤ 1000000000) ⌝ }
     ensures { λ r. ⌜ (
         let M : Model = model info (tablesFrom (now (gconsts .entry)) (now («means_invvars_t» .entry)) (now («inv_vars_t» .entry)) (now («sigma_inv_m» .entry)) (now (u .entry)) (now («lda_t» .entry)) (now («lda_offset» .entry)) (now (global .entry))) in
         let F : Frames = ringFrames (info .dims .«base_dim») accepted (now (frames .entry)) (now (rows .entry)) in
         let bs : Batch = batchOf (info .opts) called next f (waitingIn n (now («waiting_frames» .entry)) (now («waiting_weights» .entry))) in
         let e₀ : Estimate = record { cmvn = now (cmvn .entry); stats = statsIn «num_frames» (now (linear .entry)) (now (quadratic .entry)); current = now (current .entry) } in
         let e : Estimate = updated M F bs e₀ in
-        (now (cmvn .exit) ≡ e .cmvn) × (statsIn r (now (linear .exit)) (now (quadratic .exit)) ≡ e .stats) × (now (current .exit) ≡ e .current)) ⌝ }
+        (now (cmvn .exit) ≡ e .cmvn) × (statsIn (r .«num_frames») (now (linear .exit)) (now (quadratic .exit)) ≡ e .stats) × (now (current .exit) ≡ e .current)
+        × (r .nans ≡ nansOver M F bs (now (cmvn .entry)))) ⌝ }
 {
     let o = info.opts;
     let dims = info.dims;
@@ -283,14 +300,17 @@ pub fn update_stats_until(
             current,
             scratch,
         );
-        return num_frames;
+        return Update {
+            num_frames,
+            nans: 0,
+        };
     }
     let mut normalized = [0.0f32; 64];
     let mut raw = [0.0f32; 64];
     let mut seen = [0usize; 1024];
     let mut tot = [0.0f64; 1024];
     let d = dims.feat_dim;
-    let m = take_batch(
+    let taken = take_batch(
         info,
         accepted,
         called,
@@ -321,7 +341,7 @@ pub fn update_stats_until(
         sigma_inv_m,
         u,
         dims.num_gauss,
-        m,
+        taken.seen,
         &seen,
         &tot,
         scratch,
@@ -339,7 +359,10 @@ pub fn update_stats_until(
         current,
         scratch,
     );
-    count
+    Update {
+        num_frames: count,
+        nans: taken.nans,
+    }
 }
 
 // The same in lent tables and rooms, of which it reads and writes what the record says that they keep.
@@ -368,20 +391,22 @@ pub fn update_rooms(
     quadratic: &mut [f64],
     current: &mut [f64],
     scratch: &mut [f64],
-) -> f64
+) -> Update
     requires { ⌜ (
         let t : Tables = tablesFrom (now gconsts) (now «means_invvars_t») (now «inv_vars_t») (now «sigma_inv_m») (now u) (now «lda_t») (now «lda_offset») (now global) in
         let z : Rooms = roomsFrom (ringsFrom (now frames) (now rows) (now «waiting_frames») (now «waiting_weights»)) (estimateFrom (now cmvn) (now linear) (now quadratic) (now current)) in
         (recordSound info ≡ true) × (tablesFit (info .opts) (info .dims) (tableLengthsOf t) ≡ true) × (roomsFit (info .dims) (roomLengthsOf z (length (now scratch))) ≡ true)) ⌝ }
-    requires { ⌜ (next ≤ f) × (f < accepted) × (accepted ≤ 1000000000) × (n ≤ length (now «waiting_frames»)) × (n ≤ length (now «waiting_weights»)) × ((k : ℕ) → k < n → getD (now «waiting_frames») k 0 < accepted) ⌝ }
+    requires { ⌜ (next ≤ f) × (f < accepted) × (accepted ≤ 1000000000) × (n ≤ length (now «waiting_frames»)) × (n ≤ length (now «waiting_weights»)) × ((k : ℕ) → k < n → getD (now «waiting_frames») k 0 < accepted)
+        × (length (batchOf (info .opts) called next f (waitingIn n (now «waiting_frames») (now «waiting_weights»))) ≤ 1000000000) ⌝ }
     ensures { λ r. ⌜ (
         let t : Tables = tablesFrom (now (gconsts .entry)) (now («means_invvars_t» .entry)) (now («inv_vars_t» .entry)) (now («sigma_inv_m» .entry)) (now (u .entry)) (now («lda_t» .entry)) (now («lda_offset» .entry)) (now (global .entry)) in
         let e₀ : EstimateRooms = estimateFrom (now (cmvn .entry)) (now (linear .entry)) (now (quadratic .entry)) (now (current .entry)) in
         let F : Frames = ringFrames (info .dims .«base_dim») accepted (now (frames .entry)) (now (rows .entry)) in
         let bs : Batch = batchOf (info .opts) called next f (waitingIn n (now («waiting_frames» .entry)) (now («waiting_weights» .entry))) in
         let e : Estimate = updated (modelIn info t) F bs (estimateAt (info .dims) «num_frames» e₀) in
-        (r ≡ e .stats .num-frames)
-        × (estimateFrom (now (cmvn .exit)) (now (linear .exit)) (now (quadratic .exit)) (now (current .exit)) ≡ overEstimate e e₀)) ⌝ }
+        (r .«num_frames» ≡ e .stats .num-frames)
+        × (estimateFrom (now (cmvn .exit)) (now (linear .exit)) (now (quadratic .exit)) (now (current .exit)) ≡ overEstimate e e₀)
+        × (r .nans ≡ nansOver (modelIn info t) F bs (estimateAt (info .dims) «num_frames» e₀ .cmvn))) ⌝ }
 {
     let o = info.opts;
     let d = info.dims;

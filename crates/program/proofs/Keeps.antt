@@ -30,13 +30,13 @@ module _ (i : IvectorInfo) (t : Tables) (z : Rooms) (n : ℕ) (c : StreamCall) (
   -- the record that was made is that of a fresh machine
   pub record Begun : Type 0 where
     pub made-is : Made i t (roomLengthsOf z n)
-    pub answer-is : c .answer ≡ toldBy M 0 (fresh M) 0
+    pub answer-is : c .answer ≡ toldBy M 0 (fresh M) 0 0
     pub start-is : start ≡ program (streamOf i (roomLengthsOf z n) (fresh M)) (freshRooms i z)
 
   begun : Begun
   unfolding newAnswer fresh freshStream newStats answerOf toldBy
   begun =
-      let m = made-stream (newRefusal i (tableLengthsOf t) (roomLengthsOf z n)) (callOf 0 (freshStream i (roomLengthsOf z n)) 0) c e in
+      let m = made-stream (newRefusal i (tableLengthsOf t) (roomLengthsOf z n)) (callOf 0 (freshStream i (roomLengthsOf z n)) 0 0) c e in
       record {
         made-is = fresh-made i t z n (m .0);
         answer-is = ap (λ (q : StreamCall). q .answer) (sym (m .1));

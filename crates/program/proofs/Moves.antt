@@ -64,6 +64,7 @@ module _ (i : IvectorInfo) (z : RoomLengths) (n : ℕ) (t : Tables) (made : Made
     pub state-is : stepped (p k w) (x k w c) ≡ p (moved k (y k c)) rooms
     pub holds : Inv i z n (moved k (y k c)) rooms
     pub gives : taken (x k w c .refusal) (x k w c .vector) [] ≡ taken (y k c .refusal) (y k c .gives) []
+    pub counts : taken (x k w c .refusal) (x k w c .nans) 0 ≡ taken (y k c .refusal) (y k c .nans) 0
 
   pub moved-on : (k : Machine) (w : Rooms) → Inv i z n k w → (c : Call) → MovedOn k w c
   moved-on k w v c = go (y k c .refusal) refl
@@ -80,6 +81,7 @@ module _ (i : IvectorInfo) (z : RoomLengths) (n : ℕ) (t : Tables) (made : Made
             state-is = taken-new (x k w c .refusal) _ (p k w) (same ∙ e) ∙ m .1 ∙ ap (λ (q : Machine). p q (m .0)) (sym u);
             holds = subst (λ (q : Machine). Inv i z n q (m .0)) (sym u) (m .2);
             gives = taken-new (x k w c .refusal) _ [] (same ∙ e) ∙ m .3 ∙ sym (taken-new (y k c .refusal) _ [] e);
+            counts = taken-new (x k w c .refusal) _ 0 (same ∙ e) ∙ m .4 ∙ sym (taken-new (y k c .refusal) _ 0 e);
           }
       go (suc r) e =
           let no : y k c .refusal ≡ 0 → ⊥ = λ h. omega (arith, e, h) in
@@ -90,19 +92,21 @@ module _ (i : IvectorInfo) (z : RoomLengths) (n : ℕ) (t : Tables) (made : Made
             state-is = taken-old (x k w c .refusal) _ (p k w) no′ ∙ ap (λ (q : Machine). p q w) (sym u);
             holds = subst (λ (q : Machine). Inv i z n q w) (sym u) v;
             gives = taken-old (x k w c .refusal) (x k w c .vector) [] no′ ∙ sym (taken-old (y k c .refusal) (y k c .gives) [] no);
+            counts = taken-old (x k w c .refusal) (x k w c .nans) 0 no′ ∙ sym (taken-old (y k c .refusal) (y k c .nans) 0 no);
           }
 
   -- ---- the answer to any call
 
-  told-same : (r m : ℕ) (q : Machine) → (r ≡ 10 → ⊥) → answerOf r (streamOf i z q) m ≡ toldBy M r q m
+  told-same : (r m l : ℕ) (q : Machine) → (r ≡ 10 → ⊥) → answerOf r (streamOf i z q) m l ≡ toldBy M r q m l
   unfolding answerOf toldBy
-  told-same r m q h = rw (ne-eqb r 10 h)
+  told-same r m l q h = rw (ne-eqb r 10 h)
 
   reply-same : (k : Machine) (w : Rooms) → Inv i z n k w → (c : Call) → reply (p k w) (x k w c) ≡ answer M k (y k c)
   unfolding reply answer
   reply-same k w v c =
       let m : MovedOn k w c = moved-on k w v c in
-      rw (m .state-is, m .gives, refusal-same i z n t made k w v c, told-same (y k c .refusal) (notFinite (taken (y k c .refusal) (y k c .gives) [])) (moved k (y k c)) (not-ten M (z .rings) k c))
+      let r = y k c .refusal in
+      rw (m .state-is, m .gives, m .counts, refusal-same i z n t made k w v c, told-same r (notFinite (taken r (y k c .gives) [])) (taken r (y k c .nans) 0) (moved k (y k c)) (not-ten M (z .rings) k c))
 
   -- ---- any list of calls
 

@@ -28,14 +28,14 @@ use Rattle.definition.specs.Kaldi.{triangle}
 use Rattle.definition.specs.Model.{Tables, Model, modelIn}
 use Rattle.definition.specs.Posteriors.{weighed, unweighted}
 use Rattle.definition.specs.Changes.{Change, Changes, insertChange, changed, reached, merged, batch}
-use Rattle.definition.specs.Estimate.{Estimate, updated}
-use Rattle.definition.specs.Machine.{Call, push, finish, change, forget, fetch, Machine, machine, Move, accepted, allFrames, framesHeld, rowsHeld, framesReady, waitingRoom, forgotten, pushTests, changeTests, fetchTests, fetched, caughtUp, does}
+use Rattle.definition.specs.Estimate.{Estimate, updated, nansOver}
+use Rattle.definition.specs.Machine.{Call, push, finish, change, forget, fetch, Machine, machine, Move, accepted, allFrames, framesHeld, rowsHeld, framesReady, waitingRoom, forgotten, pushTests, changeTests, fetchTests, fetched, caughtUp, nansMet, does}
 use Rattle.definition.specs.Stream.{rising}
-use Rattle.definition.proofs.Agree.{Agree, Inside, updated-ext}
+use Rattle.definition.proofs.Agree.{Agree, Inside, updated-ext, nans-ext}
 use Rattle.definition.proofs.Lengths.{Long, updated-long}
 use Rattle.definition.proofs.Ranges.{fitting}
 use Rattle.program.specs.Rooms.{Rings, ringsFrom, Rooms, roomsFrom, ringLengthsOf, roomLengthsOf, ringAt, ringFrames, framesIn, framesOf, weightsOf, changesIn}
-use Rattle.program.specs.Calls.{Step, withAccepted, withChanges, pushedFrames, pushedRows, pushFrame, setInputFinished, overWaiting, updateFrameWeights, forgetMark, forgetBefore, overEstimate, fetchEstimate, fetchChanges, fetchStream, fetchRooms, fetchVector, getFrame}
+use Rattle.program.specs.Calls.{Step, withAccepted, withChanges, pushedFrames, pushedRows, pushFrame, setInputFinished, overWaiting, updateFrameWeights, forgetMark, forgetBefore, overEstimate, fetchEstimate, fetchChanges, fetchStream, fetchRooms, fetchVector, fetchNans, getFrame}
 use Rattle.program.specs.Session.{Program, program, stepOf}
 use Rattle.program.proofs.Pushed.{pushed-agrees}
 use Rattle.program.proofs.WaitingRooms.{waiting-over}
@@ -102,7 +102,7 @@ module _ (i : IvectorInfo) (z : RoomLengths) (n : ℕ) (t : Tables) (made : Made
   -- a step of the program and a move of the machine that are taken: the record and the rooms are those of the machine afterwards, and both give
   -- the same
   abbrev pub Next : Step → Move → Type 0
-  Next x y = (w′ : Rooms) × (program (x .stream) (x .rooms) ≡ program (streamOf i z (y .left)) w′) × Inv i z n (y .left) w′ × (x .vector ≡ y .gives)
+  Next x y = (w′ : Rooms) × (program (x .stream) (x .rooms) ≡ program (streamOf i z (y .left)) w′) × Inv i z n (y .left) w′ × (x .vector ≡ y .gives) × (x .nans ≡ y .nans)
 
   abbrev p : Machine → Rooms → Program
   p k w = program (streamOf i z k) w
@@ -134,6 +134,7 @@ module _ (i : IvectorInfo) (z : RoomLengths) (n : ℕ) (t : Tables) (made : Made
         long = v .long;
         agrees = v .agrees;
       },
+      refl,
       refl,
     )
 
@@ -180,6 +181,7 @@ module _ (i : IvectorInfo) (z : RoomLengths) (n : ℕ) (t : Tables) (made : Made
             };
           },
           refl,
+          refl,
         )
 
     -- ---- change
@@ -218,6 +220,7 @@ module _ (i : IvectorInfo) (z : RoomLengths) (n : ℕ) (t : Tables) (made : Made
             long = v .long;
             agrees = v .agrees;
           },
+          refl,
           refl,
         )
 
@@ -260,6 +263,7 @@ module _ (i : IvectorInfo) (z : RoomLengths) (n : ℕ) (t : Tables) (made : Made
             long = v .long;
             agrees = subst (λ (m : ℕ). Agree (ringFrames dim m frames′ rows′) (allFrames (k .history ++ (x ∷ []))) dim (k .mark) window) (sym len) (pushed-agrees (k .history) x dim (k .mark) window fs rs wide (omega (arith, h .some-window, v .mark-is, v .next-is)) (rw f room) (rw r more) (v .agrees));
           },
+          refl,
           refl,
         )
 
@@ -359,6 +363,18 @@ module _ (i : IvectorInfo) (z : RoomLengths) (n : ℕ) (t : Tables) (made : Made
     unfolding fetchVector
     vector-same f l = rw (fetch-same f l)
 
+    -- and the count
+    nans-same : (f : ℕ) → f < accepted k → fetchNans s t w f ≡ nansMet M k f
+    unfolding fetchNans nansMet
+    nans-same f l =
+        let now = batch (i .opts) (k .changes) (k .next) f in
+        by-test (leb (k .next) f)
+        (λ e. rw e
+        (ap₂ (λ (c : Changes) (x : Estimate). nansOver M (framesIn s (w .rings)) (batch (i .opts) c (k .next) f) (x .cmvn)) changes-are (v .estimate-is)
+        ∙ nans-ext M (framesIn s (w .rings)) (allFrames (k .history)) (k .mark) (ranges i (made .info-is) .some-base) (v .agrees) now (k .estimate .cmvn)
+        (inside-batch (i .opts) (k .mark) (accepted k) (k .changes) (k .next) f (v .mark-is) l (v .held-back))))
+        (λ e. rw e)
+
     -- the state
     state-same : (f : ℕ) → f < accepted k → (w′ : Rooms) × (program (fetchStream s t w f) (fetchRooms s t w f) ≡ program (streamOf i z (caughtUp M k f)) w′) × Inv i z n (caughtUp M k f) w′
     unfolding caughtUp
@@ -378,7 +394,7 @@ module _ (i : IvectorInfo) (z : RoomLengths) (n : ℕ) (t : Tables) (made : Made
 
     fetch-next : (f m : ℕ) → f < accepted k → Next (stepOf t n (p k w) (fetch f m)) (does M (z .rings) k (fetch f m))
     unfolding stepOf getFrame does
-    fetch-next f m l = let h = state-same f l in (h .0, h .1, h .2, vector-same f l)
+    fetch-next f m l = let h = state-same f l in (h .0, h .1, h .2, vector-same f l, nans-same f l)
 
     -- ---- any call that is taken
 

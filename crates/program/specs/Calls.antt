@@ -22,7 +22,7 @@ use Rattle.definition.specs.Model.{Tables, tableLengthsOf, modelIn}
 use Rattle.definition.specs.Statistics.{newStats}
 use Rattle.definition.specs.Solve.{priorVector}
 use Rattle.definition.specs.Changes.{Changes, changed, reached, batch}
-use Rattle.definition.specs.Estimate.{Estimate, updated}
+use Rattle.definition.specs.Estimate.{Estimate, updated, nansOver}
 use Rattle.definition.specs.Machine.{framesHeld, rowsHeld, framesReady, forgotten, pushTests, changeTests, fetchTests, fetched, bitsOf, notFinite}
 use Rattle.definition.specs.Stream.{newRefusal, sameTables, isBroken, sameRings, sameRooms}
 use Rattle.program.specs.Rooms.{Rings, ringsFrom, EstimateRooms, estimateFrom, Rooms, roomsFrom, ringLengthsOf, roomLengthsOf, ringAt, framesIn, framesOf, weightsOf, changesIn, estimateIn}
@@ -48,17 +48,17 @@ streamFrom i z accepted next mark waiting past-highest called finished n =
 
 -- ---- answers
 
-abbrev pub answerFrom : ℕ → ℕ → ℕ → ℕ → StreamAnswer
-answerFrom r frames rows n = record { refusal = r; «frames_held» = frames; «rows_held» = rows; «not_finite» = n }
+abbrev pub answerFrom : ℕ → ℕ → ℕ → ℕ → ℕ → StreamAnswer
+answerFrom r frames rows n m = record { refusal = r; «frames_held» = frames; «rows_held» = rows; «not_finite» = n; «nan_likelihoods» = m }
 
--- refusal r, on a record s, with n elements not finite; a refusal 10 is its number alone
-unfoldable pub answerOf : ℕ → IvectorStream → ℕ → StreamAnswer
-answerOf r s n =
-    if eqb r 10 then answerFrom r 0 0 0 else answerFrom r (framesHeld (s .accepted) (s .mark)) (rowsHeld (s .info .opts .«cmn_window») (s .accepted) (s .mark)) n
+-- refusal r, on a record s, with n elements not finite and m likelihoods that were NaN; a refusal 10 is its number alone
+unfoldable pub answerOf : ℕ → IvectorStream → ℕ → ℕ → StreamAnswer
+answerOf r s n m =
+    if eqb r 10 then answerFrom r 0 0 0 0 else answerFrom r (framesHeld (s .accepted) (s .mark)) (rowsHeld (s .info .opts .«cmn_window») (s .accepted) (s .mark)) n m
 
 -- what a call returns, s being the record that it leaves
-abbrev pub callOf : ℕ → IvectorStream → ℕ → StreamCall
-callOf r s n = record { answer = answerOf r s n; stream = s }
+abbrev pub callOf : ℕ → IvectorStream → ℕ → ℕ → StreamCall
+callOf r s n m = record { answer = answerOf r s n m; stream = s }
 
 -- ---- a fresh stream
 
@@ -67,7 +67,7 @@ freshStream i z = streamFrom i z 0 0 0 0 0 false false zero₆₄
 
 -- on tables and rooms of these lengths
 unfoldable pub newAnswer : IvectorInfo → TableLengths → RoomLengths → NewStream
-newAnswer i t z = let r = newRefusal i t z in taken r (N.Stream (callOf 0 (freshStream i z) 0)) (N.Refused r)
+newAnswer i t z = let r = newRefusal i t z in taken r (N.Stream (callOf 0 (freshStream i z) 0 0)) (N.Refused r)
 
 -- the rooms of a fresh stream: prefix row 0, the CMVN state, the statistics, the current vector
 unfoldable pub freshRooms : IvectorInfo → Rooms → Rooms
@@ -120,7 +120,7 @@ ringCall c z = record { call = c; rings = z }
 
 -- of a step on record s and rings z
 abbrev pub doneOn : IvectorStream → Rings → RingStep → RingCall
-doneOn s z x = ringCall (callOf (x .refusal) (taken (x .refusal) (x .stream) s) 0) (taken (x .refusal) (x .rings) z)
+doneOn s z x = ringCall (callOf (x .refusal) (taken (x .refusal) (x .stream) s) 0 0) (taken (x .refusal) (x .rings) z)
 
 -- 10 of every call
 abbrev pub recordTests : IvectorStream → Rings → List (Bool × ℕ)
@@ -161,12 +161,13 @@ forgetBefore s z f = ringStep (recordTests s z) (withMark s (forgetMark s (z .wa
 
 -- ---- fetch
 
--- its refusal number, and where that is 0 the record and the rooms that it leaves, and the vector
+-- its refusal number, and where that is 0 the record and the rooms that it leaves, the vector, and how many likelihoods were NaN
 pub record Step : Type 0 where
   pub refusal : ℕ
   pub stream : IvectorStream
   pub rooms : Rooms
   pub vector : List Float
+  pub nans : ℕ
 
 -- what is returned, the rooms and the output afterwards
 pub record FetchCall : Type 0 where
@@ -181,7 +182,8 @@ fetchCall c z out = record { call = c; rooms = z; output = out }
 abbrev pub fetchedOn : IvectorStream → Rooms → List ℕ → Step → FetchCall
 fetchedOn s z out x =
     let r = x .refusal in
-    fetchCall (callOf r (taken r (x .stream) s) (taken r (notFinite (x .vector)) 0)) (taken r (x .rooms) z) (taken r (over (bitsOf (x .vector)) out) out)
+    fetchCall (callOf r (taken r (x .stream) s) (taken r (notFinite (x .vector)) 0) (taken r (x .nans) 0)) (taken r (x .rooms) z)
+    (taken r (over (bitsOf (x .vector)) out) out)
 
 -- over lent tables t, with scratch of n numbers and an output of m numbers
 unfoldable pub fetchRefusal : IvectorStream → TableLengths → RoomLengths → List ℕ → ℕ → ℕ → ℕ
@@ -219,6 +221,12 @@ fetchRooms s t z f = roomsFrom (overWaiting (fetchChanges s (z .rings) f) (z .ri
 unfoldable pub fetchVector : IvectorStream → Tables → Rooms → ℕ → List Float
 fetchVector s t z f = fetched (modelIn (s .info) t) (fetchEstimate s t z f .current)
 
+-- request 4
+unfoldable pub fetchNans : IvectorStream → Tables → Rooms → ℕ → ℕ
+fetchNans s t z f =
+    let n = nansOver (modelIn (s .info) t) (framesIn s (z .rings)) (batch (s .info .opts) (changesIn s (z .rings)) (s .«num_frames_stats») f) (estimateIn s (z .estimate) .cmvn) in
+    if catchesUp s f then n else 0
+
 unfoldable pub getFrame : IvectorStream → Tables → Rooms → ℕ → ℕ → ℕ → Step
 getFrame s t z n f m =
     record {
@@ -226,4 +234,5 @@ getFrame s t z n f m =
       stream = fetchStream s t z f;
       rooms = fetchRooms s t z f;
       vector = fetchVector s t z f;
+      nans = fetchNans s t z f;
     }

@@ -24,7 +24,7 @@ Keeps =
     → newAnswer i (tableLengthsOf t) (roomLengthsOf z n) ≡ N.Stream c
     → (cs : List Call)
     → let M = modelIn i t in
-    (c .answer ≡ toldBy M 0 (fresh M) 0)
+    (c .answer ≡ toldBy M 0 (fresh M) 0 0)
     × (programAnswers t n (program (c .stream) (freshRooms i z)) cs ≡ answers M (ringLengthsOf (z .rings)) cs)
 
 -- the frames of the pushes that were taken, by the calls and their answers

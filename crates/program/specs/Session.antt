@@ -19,7 +19,7 @@ program s z = record { stream = s; rooms = z }
 
 -- a call on the rings leaves the other rooms as they are, and gives no vector
 abbrev pub onRings : Rooms → RingStep → Step
-onRings z x = record { refusal = x .refusal; stream = x .stream; rooms = roomsFrom (x .rings) (z .estimate); vector = [] }
+onRings z x = record { refusal = x .refusal; stream = x .stream; rooms = roomsFrom (x .rings) (z .estimate); vector = []; nans = 0 }
 
 -- the program after a step, refused or not, and its answer
 abbrev pub stepped : Program → Step → Program
@@ -28,7 +28,7 @@ stepped p x = taken (x .refusal) (program (x .stream) (x .rooms)) p
 unfoldable pub reply : Program → Step → Answer
 reply p x =
     let v : List Float = taken (x .refusal) (x .vector) [] in
-    record { told = answerOf (x .refusal) (stepped p x .stream) (notFinite v); vector = bitsOf v }
+    record { told = answerOf (x .refusal) (stepped p x .stream) (notFinite v) (taken (x .refusal) (x .nans) 0); vector = bitsOf v }
 
 -- over lent tables t, and scratch of n numbers
 module _ (t : Tables) (n : ℕ) where

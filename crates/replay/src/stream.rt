@@ -382,6 +382,7 @@ fn fetched(session: Session, call: StreamCall, vector: &[u32]) -> Session {
     print_answer(a);
     if a.refusal == 0 {
         print_next(a.not_finite);
+        print_next(a.nan_likelihoods);
         print_vector(vector);
     }
     say(b"\n");

@@ -32,7 +32,7 @@ module _ (p : Program) (out : List ℕ) where
   unfolding reply notFinite those over
   fetched-is x = by (x .refusal)
     where
-      by : (r : ℕ) → let y : Step = record { refusal = r; stream = x .stream; rooms = x .rooms; vector = x .vector } in
+      by : (r : ℕ) → let y : Step = record { refusal = r; stream = x .stream; rooms = x .rooms; vector = x .vector; nans = x .nans } in
           fetchedOn (p .stream) (p .rooms) out y ≡ left p out y
       by zero = refl
       by (suc r) = refl

@@ -64,15 +64,16 @@ module _ {A : Type 0} where
 
 -- ---- the numbers of an answer
 
-pub put-four : (f a b c d : ℕ) (l : List ℕ) → f + 4 ≤ length l
-    → set (set (set (set l f a) (f + 1) b) (f + 2) c) (f + 3) d ≡ put f (a ∷ b ∷ c ∷ d ∷ []) l
+pub put-five : (f a b c d e : ℕ) (l : List ℕ) → f + 5 ≤ length l
+    → set (set (set (set (set l f a) (f + 1) b) (f + 2) c) (f + 3) d) (f + 4) e ≡ put f (a ∷ b ∷ c ∷ d ∷ e ∷ []) l
 unfolding build
-put-four f a b c d l h =
-    let g : ℕ → ℕ = λ k. getD (a ∷ b ∷ c ∷ d ∷ []) k 0 in
+put-five f a b c d e l h =
+    let g : ℕ → ℕ = λ k. getD (a ∷ b ∷ c ∷ d ∷ e ∷ []) k 0 in
     let e0 : set l f a ≡ put f (build 1 g) l = ap (λ (k : ℕ). set l k a) (sym (add-zero f)) ∙ put-turn f g 0 l (omega arith) (put-none f g l) refl in
     let e1 : set (set l f a) (f + 1) b ≡ put f (build 2 g) l = put-turn f g 1 l (omega arith) e0 refl in
     let e2 : set (set (set l f a) (f + 1) b) (f + 2) c ≡ put f (build 3 g) l = put-turn f g 2 l (omega arith) e1 refl in
-    put-turn f g 3 l (omega arith) e2 refl
+    let e3 : set (set (set (set l f a) (f + 1) b) (f + 2) c) (f + 3) d ≡ put f (build 4 g) l = put-turn f g 3 l (omega arith) e2 refl in
+    put-turn f g 4 l (omega arith) e3 refl
 
 -- ---- the outputs: with no vector; and where k numbers from a on were lent, with v at their front
 

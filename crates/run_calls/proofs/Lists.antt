@@ -84,7 +84,7 @@ module _ (k : CodedCall) (lists : List ℕ) (samples : List Float) (t : Tables) 
 
 -- the record s and the answers after a call that returned r
 abbrev Handed : ℕ → StreamCall → List ℕ → IvectorStream → List ℕ → Type 0
-Handed i r answers s answers′ = (s ≡ r .stream) × (answers′ ≡ put (i * 4) (numbersOf (r .answer)) answers)
+Handed i r answers s answers′ = (s ≡ r .stream) × (answers′ ≡ put (i * 5) (numbersOf (r .answer)) answers)
 
 module _ (kinds numbers lists : List ℕ) (samples : List Float) (i : ℕ) (t : Tables) (n : ℕ) (p : Program) (o : Written) where
   call-at : {k : CodedCall} → k ≡ codedAt kinds numbers i → decoded k lists samples (length (o .outs)) ≡ callAt kinds numbers lists samples (length (o .outs)) i
@@ -102,9 +102,9 @@ module _ (kinds numbers lists : List ℕ) (samples : List Float) (i : ℕ) (t : 
     wrote-on : written answers′ outs′ ≡ write numbers i (done (callAt kinds numbers lists samples (length (o .outs)) i)) o
     unfolding write
     wrote-on =
-        ap₂ written (a .1 ∙ ap (λ (x : StreamAnswer). put (i * 4) (numbersOf x) (o .answers)) (sym (u .told-is))) (u .outs-are)
+        ap₂ written (a .1 ∙ ap (λ (x : StreamAnswer). put (i * 5) (numbersOf x) (o .answers)) (sym (u .told-is))) (u .outs-are)
         ∙ ap₂
-        (λ (b : ℕ) (c : Call). written (put (i * 4) (numbersOf (done c .told)) (o .answers)) (put (min b (length (o .outs))) (done c .vector) (o .outs)))
+        (λ (b : ℕ) (c : Call). written (put (i * 5) (numbersOf (done c .told)) (o .answers)) (put (min b (length (o .outs))) (done c .vector) (o .outs)))
         (ap (λ (k : CodedCall). k .b) e) (call-at e)
 
 -- ---- the calls of a list

@@ -3,7 +3,7 @@
 use mathlib.Core.Path.{_≡_, sym, ap, ap₂, _∙_}
 use mathlib.Core.List.{List}
 use Prim.Native.Nat.{ℕ, zero, suc, _*_, _/_, _≤_, _<_}
-use native.Mathlib.Nat.{div-mul-le-self, mul-le-mul-right}
+use native.Mathlib.Nat.{div-mul-le-self, le-trans, mul-le-mul-right}
 use native.Mathlib.Omega.{arith}
 use borrow.Author.Tests.{lt-ltb, le-ltb, ltb-false}
 use Rattle.loops.specs.Refusal.{taken}
@@ -24,28 +24,28 @@ use Rattle.run_calls.specs.Listed.{Written, writes, listTests, listRefus
 
 -- ---- the refusal of a list
 
--- n rows of 4 numbers are within a room of as many whole rows
-rows-within : (n l : ℕ) → n ≤ l / 4 → n * 4 ≤ l
-rows-within n l h = omega (arith, mul-le-mul-right 4 h, div-mul-le-self l 4)
+-- n rows of k numbers are within a room of as many whole rows
+rows-within : (k n l : ℕ) → n ≤ l / k → n * k ≤ l
+rows-within k n l h = le-trans (mul-le-mul-right k h) (div-mul-le-self l k)
 
 module _ (n a b : ℕ) where
   pub list-1 : a / 4 < n → 99 ≡ listRefusal n a b
   unfolding listRefusal
   list-1 h = first-is 0 (listTests n a b) (lt-ltb (a / 4) n h)
 
-  pub list-2 : n ≤ a / 4 → b / 4 < n → 99 ≡ listRefusal n a b
+  pub list-2 : n ≤ a / 4 → b / 5 < n → 99 ≡ listRefusal n a b
   unfolding listRefusal
-  list-2 g h = first-is 1 (listTests n a b) (le-ltb (a / 4) n g, lt-ltb (b / 4) n h)
+  list-2 g h = first-is 1 (listTests n a b) (le-ltb (a / 4) n g, lt-ltb (b / 5) n h)
 
-  pub list-0 : n ≤ a / 4 → n ≤ b / 4 → 0 ≡ listRefusal n a b
+  pub list-0 : n ≤ a / 4 → n ≤ b / 5 → 0 ≡ listRefusal n a b
   unfolding listRefusal
-  list-0 g h = first-none (listTests n a b) (le-ltb (a / 4) n g, (le-ltb (b / 4) n h, tt))
+  list-0 g h = first-none (listTests n a b) (le-ltb (a / 4) n g, (le-ltb (b / 5) n h, tt))
 
-  pub list-taken : listRefusal n a b ≡ 0 → (n * 4 ≤ a) × (n * 4 ≤ b)
+  pub list-taken : listRefusal n a b ≡ 0 → (n * 4 ≤ a) × (n * 5 ≤ b)
   unfolding listRefusal
   list-taken e =
       let h = none-first (listTests n a b) tt e in
-      (rows-within n a (ltb-false (a / 4) n (h .0)), rows-within n b (ltb-false (b / 4) n (h .1 .0)))
+      (rows-within 4 n a (ltb-false (a / 4) n (h .0)), rows-within 5 n b (ltb-false (b / 5) n (h .1 .0)))
 
 -- ---- the ways out
 
@@ -79,14 +79,14 @@ module _ (i : IvectorInfo) (t : Tables) (z : Rooms) (n : ℕ) (numbers : List �
     pub run-refused : {r : ℕ} → a ≡ N.Refused r → Ran r o y × (r ≡ 0 → ⊥)
     unfolding runRefusal newAnswer
     run-refused {r} b =
-        let h = made-refused fresh (callOf 0 (freshStream i (roomLengthsOf z n)) 0) r (sym new-is ∙ b) in
+        let h = made-refused fresh (callOf 0 (freshStream i (roomLengthsOf z n)) 0 0) r (sym new-is ∙ b) in
         ((h .0 ∙ sym (taken-new listed _ listed e), sym (taken-old r _ o (h .1)), y-is ∙ taken-old fresh _ z (λ x. h .1 (h .0 ∙ x)) ∙ sym (taken-old r _ z (h .1))), h .1)
 
     -- a stream that is made: the program is the fresh one
     module _ (s : StreamCall) (b : a ≡ N.Stream s) where
-      made : (fresh ≡ 0) × (callOf 0 (freshStream i (roomLengthsOf z n)) 0 ≡ s)
+      made : (fresh ≡ 0) × (callOf 0 (freshStream i (roomLengthsOf z n)) 0 0 ≡ s)
       unfolding newAnswer
-      made = made-stream fresh (callOf 0 (freshStream i (roomLengthsOf z n)) 0) s (sym new-is ∙ b)
+      made = made-stream fresh (callOf 0 (freshStream i (roomLengthsOf z n)) 0 0) s (sym new-is ∙ b)
 
       made-fresh : program (s .stream) y ≡ freshProgram
       made-fresh = ap₂ program (ap (λ (c : StreamCall). c .stream) (sym (made .1))) (y-is ∙ taken-new fresh _ z (made .0))

@@ -42,7 +42,7 @@ calls kinds numbers lists samples n = build (length kinds) (callAt kinds numbers
 
 -- ---- the answers
 
--- the rooms for the answers: four numbers of each call, and the outputs
+-- the rooms for the answers: five numbers of each call, and the outputs
 pub record Written : Type 0 where
   pub answers : List ℕ
   pub outs : List ℕ
@@ -51,12 +51,12 @@ abbrev pub written : List ℕ → List ℕ → Written
 written a o = record { answers = a; outs = o }
 
 abbrev pub numbersOf : StreamAnswer → List ℕ
-numbersOf a = a .refusal ∷ a .«frames_held» ∷ a .«rows_held» ∷ a .«not_finite» ∷ []
+numbersOf a = a .refusal ∷ a .«frames_held» ∷ a .«rows_held» ∷ a .«not_finite» ∷ a .«nan_likelihoods» ∷ []
 
 -- answer i, its vector where the output of call i begins
 unfoldable pub write : List ℕ → ℕ → Answer → Written → Written
 write numbers i a o =
-    written (put (i * 4) (numbersOf (a .told)) (o .answers)) (put (min (getD numbers (i * 4 + 1) 0) (length (o .outs))) (a .vector) (o .outs))
+    written (put (i * 5) (numbersOf (a .told)) (o .answers)) (put (min (getD numbers (i * 4 + 1) 0) (length (o .outs))) (a .vector) (o .outs))
 
 -- answers i, i + 1, ..
 unfoldable pub writes : List ℕ → ℕ → List Answer → Written → Written
@@ -67,7 +67,7 @@ writes numbers i (a ∷ rest) o = writes numbers (i + 1) rest (write numbers i a
 
 -- 99: the numbers of n calls, or the room for their answers, are too short. It is no number of the scope: the list itself is malformed
 abbrev pub listTests : ℕ → ℕ → ℕ → List (Bool × ℕ)
-listTests n numbers answers = (ltb (numbers / 4) n, 99) ∷ (ltb (answers / 4) n, 99) ∷ []
+listTests n numbers answers = (ltb (numbers / 4) n, 99) ∷ (ltb (answers / 5) n, 99) ∷ []
 
 unfoldable pub listRefusal : ℕ → ℕ → ℕ → ℕ
 listRefusal n numbers answers = firstOf (listTests n numbers answers)

@@ -37,7 +37,7 @@ fn frame_part(lists: &[usize], a: usize, b: usize) -> &[usize]
 
 // The numbers of a call's answer from index `first` on. The record that the call left is handed on.
 fn put_answer(answers: &mut [usize], first: usize, r: StreamCall) -> IvectorStream
-    requires { ⌜ first + 4 ≤ length (now answers) ⌝ }
+    requires { ⌜ first + 5 ≤ length (now answers) ⌝ }
     ensures { λ s. ⌜ (s ≡ r .stream) × (now (answers .exit) ≡ put first (numbersOf (r .answer)) (now (answers .entry))) ⌝ }
 {
     let a = r.answer;
@@ -45,6 +45,7 @@ fn put_answer(answers: &mut [usize], first: usize, r: StreamCall) -> IvectorStre
     answers[first + 1] = a.frames_held;
     answers[first + 2] = a.rows_held;
     answers[first + 3] = a.not_finite;
+    answers[first + 4] = a.nan_likelihoods;
     r.stream
 }
 
@@ -196,14 +197,14 @@ fn list_refusal(n: usize, numbers: usize, answers: usize) -> usize
     if numbers / 4 < n {
         return 99;
     }
-    if answers / 4 < n {
+    if answers / 5 < n {
         return 99;
     }
     0
 }
 
 // A fresh stream, and a list of calls on it. Call i has the kind kinds[i] and four numbers of `numbers`, from index 4 i on; its answer is
-// written to `answers` from index 4 i on, and the vector of a fetch to the part of `outs` that its numbers name. The result is 0, or the
+// written to `answers` from index 5 i on, and the vector of a fetch to the part of `outs` that its numbers name. The result is 0, or the
 // number of what is refused: then nothing is played.
 pub fn run(
     info: IvectorInfo,
@@ -301,7 +302,7 @@ pub fn run(
                     scratch,
                     outs,
                 );
-                t = put_answer(answers, i * 4, r);
+                t = put_answer(answers, i * 5, r);
             }
             0
         }

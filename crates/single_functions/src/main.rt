@@ -123,11 +123,11 @@ fn select_in(
         too_large();
         return;
     }
-    let m = diag_gmm::select_posteriors(&loglikes[..count], most, floor, chosen, posts);
-    print_selected(m, chosen, posts);
+    let s = diag_gmm::select_posteriors(&loglikes[..count], most, floor, chosen, posts);
+    print_selected(s.count, s.nans, chosen, posts);
 }
 
-fn print_selected(m: usize, chosen: &[usize], posts: &[f32]) {
+fn print_selected(m: usize, nans: usize, chosen: &[usize], posts: &[f32]) {
     io::print_decimal(STDOUT_FILENO, m as u64);
     for i in 0..m {
         if i < chosen.len() {
@@ -139,6 +139,8 @@ fn print_selected(m: usize, chosen: &[usize], posts: &[f32]) {
             print_f32(posts[i]);
         }
     }
+    space();
+    io::print_decimal(STDOUT_FILENO, nans as u64);
     end_line();
 }
 

@@ -1,10 +1,10 @@
 -- `batch_sums::acc_frame` meets its contract, by the frame's kind: a skipped frame adds no entry (`skipped-adds`), a weighed one its scaled posteriors
--- (`weighed-adds`, both in Batches.antt), whether the rooms are for 64 Gaussians or for 1,024: their fronts are as long as `acc_weighed` asks.
+-- (`weighed-adds`, both in Batches.antt, as are the laws of its NaNs), whether the rooms are for 64 Gaussians or for 1,024: their fronts are as long as `acc_weighed` asks.
 use borrow.Author.Needs.{needs}
-use mathlib.Core.Path.{sym}
+use mathlib.Core.Path.{sym, _∙_}
 use native.Mathlib.Omega.{arith}
 use lib.Seq.{length-take-le}
-use Rattle.batch_sums.proofs.Batches.{sums-on, skipped-adds, weighed-adds}
+use Rattle.batch_sums.proofs.Batches.{sums-on, skipped-adds, weighed-adds, skipped-nans, weighed-nans}
 use Rattle.batch_sums.proofs.acc_frame.Statement.{statement}
 use Rattle.batch_sums.proofs.acc_frame.Tie as tie
 
@@ -41,7 +41,7 @@ returns c =
     let at-weight = few at-acc-weighed .before .before in
     let args = before-weight at-weight .args in
     let e = at-acc-weighed .acc-weighed .ensures in
-    (e .0, λ es h. sums-on (weighed-adds (args .o .«num_gselect») _ (args .raw .now) es _ _ (at-weight .weight .given .1)) (e .1 es h))
+    (e .0, λ es h. sums-on (weighed-adds (args .o .«num_gselect») _ (args .raw .now) es _ _ (at-weight .weight .given .1)) (e .1 es h), e .2 ∙ weighed-nans _ _ _ (at-weight .weight .given .1))
 
 -- ---- in rooms for 1,024
 
@@ -64,14 +64,14 @@ returns-3 c =
     let at-weight = many at-acc-weighed2 .before .before in
     let args = before-weight at-weight .args in
     let e = at-acc-weighed2 .acc-weighed2 .ensures in
-    (e .0, λ es h. sums-on (weighed-adds (args .o .«num_gselect») _ (args .raw .now) es _ _ (at-weight .weight .given .1)) (e .1 es h))
+    (e .0, λ es h. sums-on (weighed-adds (args .o .«num_gselect») _ (args .raw .now) es _ _ (at-weight .weight .given .1)) (e .1 es h), e .2 ∙ weighed-nans _ _ _ (at-weight .weight .given .1))
 
 -- ---- a skipped frame
 
 returns-2 : tie.Need-returns-2
 returns-2 c =
     let start = c .before .before .before .before .before .before .before .before .before .before in
-    (start .pre .1 .2, λ es h. sums-on (skipped-adds (start .args .o .«num_gselect») _ (start .args .raw .now) es (c .enum-told .given .1)) h)
+    (start .pre .1 .2, λ es h. sums-on (skipped-adds (start .args .o .«num_gselect») _ (start .args .raw .now) es (c .enum-told .given .1)) h, skipped-nans _ (c .enum-told .given .1))
 
 pub acc-frame-spec : {M : Type 1} → statement M
 acc-frame-spec =

@@ -5,7 +5,7 @@ use mathlib.Core.Path.{ap, _∙_}
 use mathlib.Core.List.{List, _++_, map}
 use native.Mathlib.Omega.{arith}
 use lib.Ieee.{Float}
-use Rattle.definition.specs.Posteriors.{Post, selectPosteriors}
+use Rattle.definition.specs.Posteriors.{Post, selectPosteriors, nanCount}
 use Rattle.batch_sums.specs.Batch.{scaledEntry}
 use Rattle.batch_sums.proofs.Batches.{sums-on}
 use Rattle.batch_sums.proofs.acc_weighed.Statement.{statement}
@@ -59,7 +59,7 @@ returns c =
     let loglikes = at-loglikes .loglikes in
     let a = start .args in
     let e = acc-posteriors .ensures in
-    (e .0, λ es h. sums-on (ap (λ (l : List Post). es ++ map (scaledEntry (a .scale) (a .raw .now)) l) (select-posteriors .ensures .0 ∙ ap (λ (l : List Float). selectPosteriors l (a .num-gselect) (a .floor)) (loglikes .ensures))) (e .1 es h))
+    (e .0, λ es h. sums-on (ap (λ (l : List Post). es ++ map (scaledEntry (a .scale) (a .raw .now)) l) (select-posteriors .ensures .0 ∙ ap (λ (l : List Float). selectPosteriors l (a .num-gselect) (a .floor)) (loglikes .ensures))) (e .1 es h), select-posteriors .ensures .3 ∙ ap nanCount (loglikes .ensures))
 
 pub acc-weighed-spec : {M : Type 1} → statement M
 acc-weighed-spec =

@@ -1,6 +1,7 @@
 -- The fetch: refused, it leaves everything as it was (`fetch-refused`). Taken, a frame that is in the statistics already changes nothing (`stream-same`,
 -- `rooms-same`); for another `up_to` counts the changes, `update_rooms` does the work and `remove_first` drops the changes that it used (`stream-up`,
--- `rooms-up`); either way `write_vector` writes the bits and counts (`fetch-made`). The laws are those of Fetched.antt, the step is `getFrame`.
+-- `rooms-up`); either way `write_vector` writes the bits and counts (`fetch-made`). The NaN likelihoods are those that `update_rooms` counted, or none (`nans-up`,
+-- `nans-same`). The laws are those of Fetched.antt, the step is `getFrame`.
 use borrow.Author.Needs.{needs}
 use mathlib.Core.Path.{_≡_, refl, sym, _∙_}
 use Prim.Native.Nat.{ℕ, _≤_}
@@ -12,7 +13,7 @@ use Rattle.definition.proofs.Ranges.{Fitting, fitting}
 use Rattle.program.specs.Rooms.{ringsFrom, estimateFrom, Rooms, roomsFrom, roomLengthsOf}
 use Rattle.program.specs.Calls.{Step, fetchRefusal, getFrame, fetchStream, fetchRooms}
 use Rattle.ivector_fetch.proofs.Refusals.{FetchTaken, fetch-taken, fetch-few, record-is, tables-fit, rooms-fit}
-use Rattle.ivector_fetch.proofs.Fetched.{frames-in, weights-in, early-at, stream-up, rooms-up, stream-same, rooms-same, still-few, fetch-refused, fetch-made}
+use Rattle.ivector_fetch.proofs.Fetched.{frames-in, weights-in, early-at, few-frames, stream-up, rooms-up, nans-up, stream-same, rooms-same, nans-same, still-few, fetch-refused, fetch-made}
 use Rattle.ivector_fetch.proofs.get_frame.Statement.{statement}
 use Rattle.ivector_fetch.proofs.get_frame.Tie as tie
 
@@ -149,7 +150,7 @@ returns-2 c =
     let f = start .args .frame in
     let T = known at-if1 in
     let rooms-are : held start ≡ fetchRooms s (lent start) (held start) f = rooms-same s (lent start) (held start) f T (at-if2 .if2 .taken) in (
-      fetch-made s (lent start) (held start) f T (start .args .out .now) (none at-if1) (T .wide) (c .reply2 .ensures) (same-record at-if2) rooms-are (at-write-vector .write-vector .ensures),
+      fetch-made s (lent start) (held start) f T (start .args .out .now) (none at-if1) (T .wide) (c .reply2 .ensures) (same-record at-if2) rooms-are (nans-same s (lent start) (held start) f T (at-if2 .if2 .taken)) (at-write-vector .write-vector .ensures),
       λ h. absurd (h (step-number start ∙ none at-if1)),
     )
 
@@ -182,6 +183,7 @@ update-rooms-requires c κs =
         omega (arith, k .ensures .1, fits),
         omega (arith, k .ensures .1, weights-in s (lent start) z f T),
         λ j p. omega (arith, early-at s z f (k .result) fits (T .passed .whole-is .in-order) (k .ensures .0) (k .ensures .1) j p, T .below),
+        omega (arith, few-frames s z f (k .result) fits (T .passed .whole-is .in-order) (k .ensures .0) (k .ensures .1), T .below, T .passed .whole-is .few),
       ),
     )
 
@@ -259,8 +261,9 @@ returns-3 c =
     let left = at-remove-first .remove-first .ensures in
     let worked = at-update-rooms .update-rooms .ensures in
     let stream-is = stream-up s z f (k .result) fits in-order (k .ensures .0) (k .ensures .1) (lent start) late (worked .0) in
-    let rooms-are = rooms-up s z f (k .result) fits in-order (k .ensures .0) (k .ensures .1) (lent start) late (left .0) (left .1) (worked .1) in (
-      fetch-made s (lent start) z f T (start .args .out .now) (none at-if1) (T .wide) (c .reply3 .ensures) stream-is rooms-are (at-write-vector .write-vector2 .ensures),
+    let rooms-are = rooms-up s z f (k .result) fits in-order (k .ensures .0) (k .ensures .1) (lent start) late (left .0) (left .1) (worked .1) in
+    let nans-are = nans-up s z f (k .result) fits in-order (k .ensures .0) (k .ensures .1) (lent start) late (worked .2) in (
+      fetch-made s (lent start) z f T (start .args .out .now) (none at-if1) (T .wide) (c .reply3 .ensures) stream-is rooms-are nans-are (at-write-vector .write-vector2 .ensures),
       λ h. absurd (h (step-number start ∙ none at-if1)),
     )
 

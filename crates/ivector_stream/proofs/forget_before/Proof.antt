@@ -75,7 +75,7 @@ returns-2 c =
     let start = begun at-plain-refusal in
     let a = start .args in
     let mark = forget-is (a .s) (a .waiting-frames .now) (a .frame) (at-smaller .smaller .ensures) (c .before .before .before .lowest .ensures) (c .before .before .less .ensures) (c .before .larger .ensures) in
-    done (a .s) (lent start) (step start) (at-plain-refusal .plain-refusal .ensures) (at-if1 .if1 .left) (c .reply2 .ensures ∙ ap (λ (m : ℕ). callOf 0 (withMark (a .s) m) 0) mark) refl
+    done (a .s) (lent start) (step start) (at-plain-refusal .plain-refusal .ensures) (at-if1 .if1 .left) (c .reply2 .ensures ∙ ap (λ (m : ℕ). callOf 0 (withMark (a .s) m) 0 0) mark) refl
 
 pub forget-before-spec : {M : Type 1} → statement M
 forget-before-spec =

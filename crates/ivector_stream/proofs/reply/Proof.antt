@@ -9,7 +9,7 @@ abbrev to-if1 : tie.After-frames-held → tie.Else1
 to-if1 c = c .before .before .before
 
 returns : tie.Need-returns
-returns c = reply-10 _ _ _ (c .if1 .taken)
+returns c = reply-10 _ _ _ _ (c .if1 .taken)
 
 frames-held-requires : tie.Need-frames-held-requires
 frames-held-requires c κs = search needs
@@ -22,7 +22,7 @@ rows-held-requires c κs =
 returns-2 : tie.Need-returns-2
 returns-2 c =
     let at-if1 = c .before .before .before .before in
-    reply-held _ _ _ (at-if1 .if1 .left) (c .before .frames-held .ensures) (c .rows-held .ensures)
+    reply-held _ _ _ _ (at-if1 .if1 .left) (c .before .frames-held .ensures) (c .rows-held .ensures)
 
 pub reply-spec : {M : Type 1} → statement M
 reply-spec =

@@ -89,7 +89,7 @@ returns-2 c =
     let s = start .args .s in
     let z = lent start in
     let next = changed-stream s z (start .args .delta-frames .now) (start .args .delta-weights .now) (at-update-frame-weights .update-frame-weights .ensures .2) in
-    done s z (step start) (at-change-refusal .change-refusal .ensures) (at-if1 .if1 .left) (c .reply2 .ensures ∙ ap (λ (t : IvectorStream). callOf 0 t 0) next)
+    done s z (step start) (at-change-refusal .change-refusal .ensures) (at-if1 .if1 .left) (c .reply2 .ensures ∙ ap (λ (t : IvectorStream). callOf 0 t 0 0) next)
     (rings-are refl refl (at-update-frame-weights .update-frame-weights .ensures .0) (at-update-frame-weights .update-frame-weights .ensures .1))
 
 pub update-frame-weights-spec : {M : Type 1} → statement M

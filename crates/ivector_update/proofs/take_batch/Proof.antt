@@ -2,22 +2,25 @@
 -- their lengths. The laws of a batch partway are those of Places.antt.
 use borrow.Author.Needs.{needs}
 use mathlib.Core.Path.{_≡_, refl, sym, subst, _∙_}
-use Prim.Native.Nat.{ℕ, _-_, _≤_, _<_}
+use Prim.Native.Nat.{ℕ, _+_, _-_, _≤_, _<_}
+use native.Mathlib.Nat.{zero-add}
 use native.Mathlib.Omega.{arith}
 use lib.ListN.{length}
 use Rattle.definition.specs.Model.{Model, model}
 use Rattle.definition.specs.Views.{Frames}
 use Rattle.definition.specs.Changes.{Batch}
+use Rattle.definition.specs.Estimate.{nansOver}
 use Rattle.program.specs.Rooms.{ringFrames}
 use Rattle.batch_sums.specs.Batch.{Slots}
 use Rattle.ivector_update.specs.Steps.{batchFrom, viewTables, Partway}
-use Rattle.ivector_update.proofs.Places.{left-all, left-none, left-less, none-left}
+use Rattle.ivector_update.proofs.Places.{left-all, left-none, left-less, nans-none, nans-less, none-left}
+use Rattle.ivector_update.proofs.Counted.{nans-few}
 use Rattle.ivector_update.proofs.Rooms.{lent-on}
 use Rattle.ivector_update.proofs.take_batch.Statement.{statement}
 use Rattle.ivector_update.proofs.take_batch.Tie as tie
 
 abbrev Inv-loop : tie.InvT-loop
-Inv-loop info accepted called next n wf ww gconsts means invs ldat ldao global frames rows cmvn₀ norm₀ raw₀ seen₀ tot₀ sum₀ o m₀ j₀ cmvn norm raw seen tot sum m j =
+Inv-loop info accepted called next n wf ww gconsts means invs ldat ldao global frames rows cmvn₀ norm₀ raw₀ seen₀ tot₀ sum₀ o m₀ nans₀ j₀ cmvn norm raw seen tot sum m nans j =
     let M : Model = model info (viewTables gconsts means invs ldat ldao global) in
     let F : Frames = ringFrames (info .dims .«base_dim») accepted frames rows in
     let left : ℕ → Batch = batchFrom (info .opts) called next n wf ww in
@@ -30,9 +33,10 @@ Inv-loop info accepted called next n wf ww gconsts means invs ldat ldao global f
     × (length sum ≡ length sum₀)
     × Slots (info .dims .«num_gauss») (info .dims .«feat_dim») m seen tot sum
     × Partway M F (left 0) cmvn₀ (left j) cmvn m seen tot sum
+    × (nans + nansOver M F (left j) cmvn ≡ nansOver M F (left 0) cmvn₀)
 
 abbrev μ-loop : tie.MeasureT-loop
-μ-loop info accepted called next n wf ww gconsts means invs ldat ldao global frames rows cmvn₀ norm₀ raw₀ seen₀ tot₀ sum₀ o m₀ j₀ cmvn norm raw seen tot sum m j = n - j
+μ-loop info accepted called next n wf ww gconsts means invs ldat ldao global frames rows cmvn₀ norm₀ raw₀ seen₀ tot₀ sum₀ o m₀ nans₀ j₀ cmvn norm raw seen tot sum m nans j = n - j
 
 abbrev view : (c : tie.Start Inv-loop μ-loop) → Model
 view c =
@@ -56,15 +60,15 @@ to-batch-frame c = c .before .before .before .before .before .before
 abbrev to-start : tie.After-o Inv-loop μ-loop → tie.Start Inv-loop μ-loop
 to-start c = c .before .before .before .before .before .before .before .before .before .before .before .before .before .before .before .before .before
 
-abbrev to-take-frame : tie.After-slice-known12 Inv-loop μ-loop → tie.After-take-frame Inv-loop μ-loop
-to-take-frame c = c .before .before .before .before .before .before .before .before .before .before .before .before
+abbrev to-take-frame : tie.After-struct-known Inv-loop μ-loop → tie.After-take-frame Inv-loop μ-loop
+to-take-frame c = c .before .before .before .before .before .before .before .before .before .before .before .before .before
 
 loop-holds : tie.Need-loop-holds Inv-loop μ-loop
 loop-holds c =
     let start = to-start c in
     let a = start .args in
     let all = left-all (view start) (seen-frames start) (left start 0) (a .cmvn .now) (a .seen .now) (a .tot .now) (a .sum .now) in
-    (omega arith, refl, refl, refl, refl, refl, refl, start .pre .1 .1 .4, all)
+    (omega arith, refl, refl, refl, refl, refl, refl, start .pre .1 .1 .4, all, zero-add _)
 
 batch-frame-requires : tie.Need-batch-frame-requires Inv-loop μ-loop
 batch-frame-requires c κs =
@@ -79,9 +83,31 @@ take-frame-requires c κs =
     let at-loop = at-loop-test .before in
     let start = to-start (at-loop .before) in
     let was = at-loop .loop .inv in
-    let (lends, (r, (_, reach, norm-long, raw-long, _))) = start .pre in
+    let (lends, (r, (_, reach, norm-long, raw-long, _, _))) = start .pre in
     let below = subst (λ (t : ℕ). t < start .args .accepted) (sym (at-batch-frame .batch-frame .ensures .0)) (reach (at-loop .loop .j) (at-loop-test .loop-test .taken)) in
     (lent-on lends (was .1), (r, (below, was .2 ∙ norm-long, was .3 ∙ raw-long, was .7)))
+
+-- the NaNs so far with those of this frame, and those of what is left
+counted : (c : tie.After-struct-known Inv-loop μ-loop) →
+    let at-take-frame = to-take-frame c in
+    let at-batch-frame = to-batch-frame (at-take-frame .before) in
+    let at-loop = at-batch-frame .before .before in
+    let start = to-start (at-loop .before) in
+    at-loop .loop .nans + at-take-frame .take-frame .result .nans + nansOver (view start) (seen-frames start) (left start (at-batch-frame .batch-frame .result .end)) (at-take-frame .take-frame .last .1 .1 .1 .1 .1 .1 .1 .1 .1 .1 .1 .1 .0)
+    ≡ nansOver (view start) (seen-frames start) (left start 0) (start .args .cmvn .now)
+counted c =
+    let at-take-frame = to-take-frame c in
+    let at-batch-frame = to-batch-frame (at-take-frame .before) in
+    let at-loop = at-batch-frame .before .before in
+    let start = to-start (at-loop .before) in
+    let done = at-take-frame .take-frame in
+    nans-less (view start) (seen-frames start) (at-loop .loop .nans) (left start (at-loop .loop .j)) (at-loop .loop .cmvn) (at-loop .loop .inv .9) (done .result .nans) (at-batch-frame .batch-frame .ensures .3) (done .ensures .0) (done .ensures .3)
+
+add-nans : tie.Need-add-nans Inv-loop μ-loop
+add-nans c =
+    let start = to-start (to-batch-frame (to-take-frame c .before) .before .before .before) in
+    let few = nans-few (view start) (seen-frames start) (left start 0) (start .args .cmvn .now) (start .pre .1 .0 .gauss-in) (start .pre .1 .1 .5) in
+    omega (arith, counted c, few)
 
 loop-less : tie.Need-loop-less Inv-loop μ-loop
 loop-less c =
@@ -108,6 +134,7 @@ loop-again c =
       kept .1 .1 .1 .1 .1 .1 .0 ∙ was .6,
       done .ensures .1,
       left-less (view start) (seen-frames start) (left start 0) (start .args .cmvn .now) (was .8) (group .3) (done .ensures .0) (done .ensures .2),
+      counted c,
     )
 
 same-length : tie.Need-same-length Inv-loop μ-loop
@@ -136,7 +163,7 @@ returns c =
     let was = at-loop .loop .inv in
     let none = none-left (a .info .opts) (a .called) (a .next) (a .n) (a .waiting-frames .now) (a .waiting-weights .now) (at-loop .loop .j) (c .loop-test .left) in
     let all = left-none (view start) (seen-frames start) (left start 0) (a .cmvn .now) (was .8) none in
-    (all .0, was .7, all .1)
+    (all .0, was .7, all .1, nans-none (view start) (seen-frames start) (at-loop .loop .nans) (left start (at-loop .loop .j)) (at-loop .loop .cmvn) (was .9) none)
 
 pub take-batch-spec : {M : Type 1} → statement M
 take-batch-spec =
@@ -147,6 +174,7 @@ take-batch-spec =
     loop-holds
     batch-frame-requires
     take-frame-requires
+    add-nans
     loop-less
     loop-again
     same-length

@@ -63,7 +63,7 @@ returns c =
     let at-acc-frame = c .before .before .before .before .before .before in
     let at-lda-frame2 = to-lda-frame2 (at-acc-frame .before) in
     let at-lda-frame = to-lda-frame (at-lda-frame2 .before) in
-    (at-lda-frame2 .lda-frame2 .ensures .0 ∙ at-lda-frame .lda-frame .ensures .0, at-acc-frame .acc-frame .ensures .0, λ es h. rw (← at-lda-frame .lda-frame .ensures .1, ← at-lda-frame2 .lda-frame2 .ensures .1) (at-acc-frame .acc-frame .ensures .1 es h))
+    (at-lda-frame2 .lda-frame2 .ensures .0 ∙ at-lda-frame .lda-frame .ensures .0, at-acc-frame .acc-frame .ensures .0, λ es h. rw (← at-lda-frame .lda-frame .ensures .1, ← at-lda-frame2 .lda-frame2 .ensures .1) (at-acc-frame .acc-frame .ensures .1 es h), rw (← at-lda-frame .lda-frame .ensures .1) (at-acc-frame .acc-frame .ensures .2))
 
 pub take-frame-spec : {M : Type 1} → statement M
 take-frame-spec =

@@ -202,8 +202,8 @@ update-stats-until-requires : tie.Need-update-stats-until-requires
 update-stats-until-requires c κs =
     let start = to-start (to-struct-known (to-struct-known5 (to-update-stats-until-arg (to-update-stats-until-arg5 (to-update-stats-until-arg9 c))))) in
     let x = held start in
-    let (up, below, few, frames-in, weights-in, in-reach) = start .pre .1 in
-    (lent x (start .args .accepted) few, ((ready x, solvable x), (up, below, frames-in, weights-in, in-reach, length-take-le _ _ (x .rooms-fit .current-fits))))
+    let (up, below, few, frames-in, weights-in, in-reach, short) = start .pre .1 in
+    (lent x (start .args .accepted) few, ((ready x, solvable x), (up, below, frames-in, weights-in, in-reach, length-take-le _ _ (x .rooms-fit .current-fits), short)))
 
 same-length : tie.Need-same-length
 same-length c =
@@ -257,6 +257,7 @@ returns c =
           (lent-over _ _ _ (kept .1 .1 .0 ∙ length-take-le _ _ (fits .linear-fits)) (ap (λ (x : Stats). x .linear) (left .1)))
           (lent-over _ _ _ (kept .1 .1 .1 .0 ∙ length-take-le _ _ (fits .quadratic-fits)) (ap (λ (x : Stats). x .quadratic) (left .1)))
           (lent-over _ _ _ (kept .1 .1 .1 .1 .0 ∙ length-take-le _ _ (fits .current-fits)) (left .2)),
+      left .3,
     )
 
 pub update-rooms-spec : {M : Type 1} → statement M

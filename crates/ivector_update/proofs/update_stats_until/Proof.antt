@@ -2,9 +2,10 @@
 -- count. The sums are by the tables that a frame needs, the statistics by all of them (Updated.antt); that the places are those of `batchOf` is in
 -- Places.antt.
 use borrow.Author.Needs.{needs}
-use mathlib.Core.Path.{sym, _∙_}
+use mathlib.Core.Path.{sym, ap, _∙_}
 use Prim.Native.Nat.{_<_}
 use native.Mathlib.Omega.{arith}
+use lib.ListN.{length}
 use lib.Seq.{length-take-le}
 use Rattle.definition.specs.Model.{tablesFrom, Model, model}
 use Rattle.definition.specs.Views.{Frames}
@@ -16,7 +17,7 @@ use Rattle.batch_sums.proofs.Batches.{slots-none}
 use Rattle.ivector_stats.specs.Steps.{statsIn}
 use Rattle.ivector_update.specs.Steps.{batchOf, batchLength}
 use Rattle.ivector_update.proofs.Places.{whole-batch, no-batch, lined, in-reach}
-use Rattle.ivector_update.proofs.Updated.{ready-view, batch-taken, none-taken, state-as, stats-as, state-none, estimated}
+use Rattle.ivector_update.proofs.Updated.{ready-view, batch-taken, none-taken, state-as, stats-as, nans-as, nans-in-none, state-none, estimated}
 use Rattle.ivector_update.proofs.update_stats_until.Statement.{statement}
 use Rattle.ivector_update.proofs.update_stats_until.Tie as tie
 
@@ -67,7 +68,7 @@ to-take-batch c = c .before .before .before .before .before .before .before .bef
 batch-length-requires : tie.Need-batch-length-requires
 batch-length-requires c κs =
     let start = to-start c in
-    let (lends, (_, (up, below, _, _, _, _))) = start .pre in
+    let (lends, (_, (up, below, _, _, _, _, _))) = start .pre in
     (up, omega (arith, below, lends .few))
 
 -- ---- a batch of no place
@@ -75,7 +76,7 @@ batch-length-requires c κs =
 get-ivector-requires : tie.Need-get-ivector-requires
 get-ivector-requires c κs =
     let start = to-start (to-if1-from-get-ivector-arg4 c .before .before) in
-    let (_, ((_, s), (_, _, _, _, _, long))) = start .pre in
+    let (_, ((_, s), (_, _, _, _, _, long, _))) = start .pre in
     (s .some, s .few, s .linear-long, s .quadratic-long, long, s .factor-fits)
 
 same-length : tie.Need-same-length
@@ -97,8 +98,9 @@ returns c =
     let start = to-start (to-if1-from-get-ivector-arg4 (to-get-ivector c .before) .before .before) in
     let a = start .args in
     let none = no-batch (a .called) (a .next) (a .f) (a .n) (a .waiting-frames .now) (a .waiting-weights .now) (at-if1 .before .batch-length .ensures) (a .info .opts) (at-if1 .if1 .taken) in
-    estimated (whole start) (seen-frames start) (batch start) (first start)
-    (state-none (whole start) (seen-frames start) (a .cmvn .now) none) (none-taken (whole start) _ (stats start) none) (at-get-ivector .get-ivector .ensures)
+    let e = estimated (whole start) (seen-frames start) (batch start) (first start)
+    (state-none (whole start) (seen-frames start) (a .cmvn .now) none) (none-taken (whole start) _ (stats start) none) (at-get-ivector .get-ivector .ensures) in
+    (e .0, e .1, e .2, nans-in-none (whole start) (seen-frames start) (a .cmvn .now) none)
 
 -- ---- a batch of some
 
@@ -133,12 +135,13 @@ take-batch-requires c κs =
     let at-batch-length = to-if1 c .before in
     let start = to-start (to-if1 c .before .before) in
     let a = start .args in
-    let (lends, ((r, s), (up, below, frames-in, weights-in, reach, _))) = start .pre in
+    let (lends, ((r, s), (up, below, frames-in, weights-in, reach, _, few))) = start .pre in
     let places = at-batch-length .batch-length .ensures in
     let in-line = lined (a .called) (a .next) (a .f) (a .n) (a .waiting-frames .now) (a .waiting-weights .now) places frames-in weights-in in
     let reached = in-reach (a .called) (a .next) (a .f) (a .n) (a .waiting-frames .now) (a .waiting-weights .now) places (a .accepted) up below reach in
+    let same = whole-batch (a .called) (a .next) (a .f) (a .n) (a .waiting-frames .now) (a .waiting-weights .now) places (a .info .opts) in
     let slots = slots-none _ _ _ _ _ (r .gauss-in) (r .gauss-in) (s .sums-fit) in
-    (lends, (ready-view r, (in-line, reached, length-take-le _ _ (r .feat-in), length-take-le _ _ (r .feat-in), slots)))
+    (lends, (ready-view r, (in-line, reached, length-take-le _ _ (r .feat-in), length-take-le _ _ (r .feat-in), slots, omega (arith, ap length same, few))))
 
 slice-aggregate-acc : tie.Need-slice-aggregate-acc
 slice-aggregate-acc c = search needs
@@ -158,7 +161,7 @@ get-ivector-requires-2 c κs =
     let at-acc = to-acc c in
     let at-take-batch = to-take-batch (to-acc c .before) in
     let start = to-start (to-if1 (to-take-batch (to-acc c .before) .before) .before .before) in
-    let (_, ((_, s), (_, _, _, _, _, long))) = start .pre in
+    let (_, ((_, s), (_, _, _, _, _, long, _))) = start .pre in
     let linear-kept = at-acc .acc .kept .1 .1 .1 .1 .1 .1 .1 .1 .1 .1 .1 .1 .0 in
     let quadratic-kept = at-acc .acc .kept .1 .1 .1 .1 .1 .1 .1 .1 .1 .1 .1 .1 .1 .0 in
     let scratch-kept = at-take-batch .take-batch .kept .1 .1 .1 .1 .1 .1 .1 .1 .1 .1 .1 .1 .1 .1 .1 .1 .1 .1 .1 .1 .0 in
@@ -195,7 +198,8 @@ returns-2 c =
     let added = batch-taken M _ (stats start) (a .info .opts) (a .called) (a .next) (a .f) (a .n) (a .waiting-frames .now) (a .waiting-weights .now) some in
     let state-is = state-as M F (a .cmvn .now) same (at-take-batch .take-batch .ensures .0) in
     let stats-are = stats-as M F (a .cmvn .now) same (stats start) (at-acc .acc .ensures _ (at-take-batch .take-batch .ensures .2)) added in
-    estimated M F (batch start) (first start) state-is stats-are (at-get-ivector .get-ivector2 .ensures)
+    let e = estimated M F (batch start) (first start) state-is stats-are (at-get-ivector .get-ivector2 .ensures) in
+    (e .0, e .1, e .2, nans-as M F (a .cmvn .now) same (at-take-batch .take-batch .ensures .3))
 
 pub update-stats-until-spec : {M : Type 1} → statement M
 update-stats-until-spec =

@@ -1,9 +1,9 @@
--- `put_answer` meets its contract: four numbers written one by one are the list of them put there (`put-four` in Cut.antt).
+-- `put_answer` meets its contract: five numbers written one by one are the list of them put there (`put-five` in Cut.antt).
 use borrow.Author.Needs.{needs}
 use mathlib.Core.Path.{refl}
 use native.Mathlib.Omega.{arith}
 use lib.ListN.{length-set}
-use Rattle.run_calls.proofs.Cut.{put-four}
+use Rattle.run_calls.proofs.Cut.{put-five}
 use Rattle.run_calls.proofs.put_answer.Statement.{statement}
 use Rattle.run_calls.proofs.put_answer.Tie as tie
 
@@ -40,11 +40,20 @@ mul-answers-4 c = search needs
 slice-write-answers-4 : tie.Need-slice-write-answers-4
 slice-write-answers-4 c = simp length-set (omega (arith, c .before .pre))
 
+add-answers-4 : tie.Need-add-answers-4
+add-answers-4 c = search needs
+
+mul-answers-5 : tie.Need-mul-answers-5
+mul-answers-5 c = search needs
+
+slice-write-answers-5 : tie.Need-slice-write-answers-5
+slice-write-answers-5 c = simp length-set (omega (arith, c .before .pre))
+
 same-length : tie.Need-same-length
 same-length c = search needs
 
 returns : tie.Need-returns
-returns c = (refl, put-four _ _ _ _ _ _ (c .before .before .pre))
+returns c = (refl, put-five _ _ _ _ _ _ _ (c .before .before .pre))
 
 pub put-answer-spec : {M : Type 1} → statement M
 put-answer-spec =
@@ -61,5 +70,8 @@ put-answer-spec =
     add-answers-3
     mul-answers-4
     slice-write-answers-4
+    add-answers-4
+    mul-answers-5
+    slice-write-answers-5
     same-length
     returns)

@@ -93,7 +93,7 @@ returns c =
     (h .0, h .1, h .2, λ _. refl)
 
 -- its numbers and the room for its answers are long enough
-enough : (c : tie.Else1 Inv-loop μ-loop) → let a = begun (c .before) .args in (length (a .kinds .now) * 4 ≤ length (a .numbers .now)) × (length (a .kinds .now) * 4 ≤ length (a .answers .now))
+enough : (c : tie.Else1 Inv-loop μ-loop) → let a = begun (c .before) .args in (length (a .kinds .now) * 4 ≤ length (a .numbers .now)) × (length (a .kinds .now) * 5 ≤ length (a .answers .now))
 enough c = list-taken _ _ _ (sym (c .before .list-refusal .ensures) ∙ c .if1 .left)
 
 -- ---- the stream
@@ -126,7 +126,7 @@ mul-put-answer c =
     let at-loop-test = test-from c in
     let at-loop = at-loop-test .before in
     let at-if1 = taken-at (made-from (at-loop .before)) in
-    omega (arith, at-loop-test .loop-test .taken, at-loop .loop .inv .0, enough at-if1 .0, begun (at-if1 .before) .good .1 .1 .1 .1 .1 .1 .1 .1 .1 .1 .1 .1 .1 .1 .1 .1 .1 .1 .1 .0)
+    omega (arith, at-loop-test .loop-test .taken, at-loop .loop .inv .0, enough at-if1 .1, begun (at-if1 .before) .good .1 .1 .1 .1 .1 .1 .1 .1 .1 .1 .1 .1 .1 .1 .1 .1 .1 .1 .1 .1 .1 .1 .0)
 
 put-answer-requires : tie.Need-put-answer-requires Inv-loop μ-loop
 put-answer-requires c κs =

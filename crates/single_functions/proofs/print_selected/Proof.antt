@@ -5,11 +5,11 @@ use Rattle.single_functions.proofs.print_selected.Statement.{statement}
 use Rattle.single_functions.proofs.print_selected.Tie as tie
 
 abbrev Inv-loop : tie.InvT-loop
-Inv-loop m chosen posts i₀ i =
+Inv-loop m nans chosen posts i₀ i =
     i ≤ m
 
 abbrev μ-loop : tie.MeasureT-loop
-μ-loop m chosen posts i₀ i = m - i
+μ-loop m nans chosen posts i₀ i = m - i
 
 print-decimal-requires : tie.Need-print-decimal-requires Inv-loop μ-loop
 print-decimal-requires c κs = tt
@@ -50,6 +50,12 @@ loop-less c = search needs
 loop-again : tie.Need-loop-again Inv-loop μ-loop
 loop-again c = search needs
 
+space-requires-3 : tie.Need-space-requires-3 Inv-loop μ-loop
+space-requires-3 c κs = tt
+
+print-decimal-requires-3 : tie.Need-print-decimal-requires-3 Inv-loop μ-loop
+print-decimal-requires-3 c κs = tt
+
 end-line-requires : tie.Need-end-line-requires Inv-loop μ-loop
 end-line-requires c κs = tt
 
@@ -75,5 +81,7 @@ print-selected-spec =
     add-i
     loop-less
     loop-again
+    space-requires-3
+    print-decimal-requires-3
     end-line-requires
     returns)

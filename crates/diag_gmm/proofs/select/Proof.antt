@@ -1,9 +1,9 @@
--- `diag_gmm::select_posteriors` meets its contract: the four stages in turn are the definition's selection (`selection-is` in Selecting.antt).
+-- `diag_gmm::select` meets its contract: the four stages in turn are the definition's selection (`selection-is` in Selecting.antt).
 use native.Mathlib.Omega.{arith}
 use borrow.Author.Needs.{needs}
 use Rattle.diag_gmm.proofs.Selecting.{selection-is}
-use Rattle.diag_gmm.proofs.select_posteriors.Statement.{statement}
-use Rattle.diag_gmm.proofs.select_posteriors.Tie as tie
+use Rattle.diag_gmm.proofs.select.Statement.{statement}
+use Rattle.diag_gmm.proofs.select.Tie as tie
 
 returns : tie.Need-returns
 returns c =
@@ -16,7 +16,7 @@ returns c =
     let q = start .pre in
     selection-is _ _ _ _ _ _ (omega (arith, b .kept .1 .1 .1 .0, q)) (omega (arith, b .kept .1 .1 .1 .1 .0, q)) (b .ensures .1) (b .ensures .0) (at-total .total .ensures) (p .0) (p .1) (c .before .before .scale .ensures)
 
-pub select-posteriors-spec : {M : Type 1} → statement M
-select-posteriors-spec =
+pub select-spec : {M : Type 1} → statement M
+select-spec =
     tie.close
     (tie.spec (λ c κs. search needs) (λ c κs. search needs) (λ c κs. search needs) (λ c κs. search needs) (λ c. search needs) (λ c. search needs) returns)
