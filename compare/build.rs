@@ -1,7 +1,7 @@
 //! Reads the original Rust from the folder UTTER_SRC at build time, patches it and writes two variants into OUT_DIR: `orig.rs` (as
 //! published, with the scope's exponential and logarithm, sums from -0.0, and a start on the solution kept) and `orig_nan.rs` (the same with NaN ordered last
 //! instead of a panic). No original text is kept here; each patch asserts how often it applies. Then it links the static library
-//! that `rt staticlib exports` writes (another folder: SHOFRAKIN_LIB).
+//! that `rt staticlib exports` writes (another folder: SHOFRAKIN_LIB; another crate's: SHOFRAKIN_CRATE).
 use std::{env, fs, path::Path};
 
 /// Replace `from` by `to`, which must occur exactly `n` times.
@@ -23,11 +23,13 @@ fn main() {
     let dir = env::var("UTTER_SRC").expect("UTTER_SRC names the folder of the original's sources");
     println!("cargo:rerun-if-env-changed=SHOFRAKIN_LIB");
     let lib = env::var("SHOFRAKIN_LIB").unwrap_or_else(|_| format!("{}/../target/staticlib", env!("CARGO_MANIFEST_DIR")));
-    let archive = format!("{lib}/libexports.a");
+    println!("cargo:rerun-if-env-changed=SHOFRAKIN_CRATE");
+    let name = env::var("SHOFRAKIN_CRATE").unwrap_or_else(|_| "exports".into());
+    let archive = format!("{lib}/lib{name}.a");
     println!("cargo:rerun-if-changed={archive}");
-    assert!(Path::new(&archive).exists(), "no {archive}: run `rt staticlib exports` first");
+    assert!(Path::new(&archive).exists(), "no {archive}: run `rt staticlib {name}` first");
     println!("cargo:rustc-link-search=native={lib}");
-    println!("cargo:rustc-link-lib=static=exports");
+    println!("cargo:rustc-link-lib=static={name}");
     let read = |n: &str| -> String {
         let p = format!("{dir}/{n}.rs");
         println!("cargo:rerun-if-changed={p}");
