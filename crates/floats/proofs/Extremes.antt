@@ -1,4 +1,4 @@
--- The arms of `max` and `min`, of `abs`, and of `is_finite`. What holds of an f32 and of an f64 is said once.
+-- The arms of `max` and `min`, of `abs`, and of `is_finite`; the exponential of a zero. What holds of an f32 and of an f64 is said once.
 use mathlib.Core.Path.{_≡_, refl, sym, ap, _∙_, subst}
 use mathlib.Core.Bool.{Bool, true, false, not, _&&_, _||_, Bool·beq, cond, true≢false, false≢true}
 use Prim.Native.Nat.{ℕ, zero, suc, _+_, _-_, _*_, _^_, _≤_, _<_}
@@ -6,11 +6,13 @@ use native.Mathlib.Nat.{zero-mul, mul-one, one-mul, mul-pos, lt-irrefl, zero-lt-
 use native.Mathlib.Omega.{arith}
 use lib.Dec.{T, ltb, eqb, eqb→eq}
 use lib.IntN.{ℤ, pos, negsuc}
-use lib.Ieee.{Float, nan, inf, fin, Format, binary32, up, down, neg, sum, sub, round, lt, eq, ne, fits, isNan, ofBits}
+use lib.Ieee.{Float, nan, inf, fin, Format, binary32, up, down, neg, sum, add, sub, mul, div, round, lt, eq, ne, fits, isNan, ofInt, ofBits}
 use lib.Ieee.Fits.{up-pos}
 use lib.Ieee.Scale.{finite}
 use borrow.Author.Tests.{ltb-true, ltb-false, eqb-true, eq-eqb}
 use Rattle.loops.proofs.Choose.{and-holds}
+use Rattle.floats.specs.Narrow.{narrowed}
+use Rattle.floats.specs.Exp.{series, squares, expOf}
 use Rattle.floats.specs.Extremes.{absolute}
 use Rattle.floats.proofs.Rounding.{round-no-nan}
 use Rattle.floats.proofs.Patterns.{is-nan, no-nan}
@@ -53,12 +55,23 @@ plain (negsuc a) h = absurd (no-power (2 ^ suc a) (2 ^ a) (pow-succ' 2 a) (sym (
 positive : (m u v : ℕ) → 0 < u → suc m * u * 1 ≡ 0 * v → ⊥
 positive m u v U h = lt-irrefl 0 (subst (λ (x : ℕ). 0 < x) (sym (mul-one (suc m * u)) ∙ h ∙ zero-mul v) (mul-pos (zero-lt-suc m) U))
 
+-- an f32 that equals 0 is one of the two zeros
+zero-cases : (C : Float → Type 0) → C (fin true 0 (pos 0)) → C (fin false 0 (pos 0)) → (x : Float) → T (fits binary32 x) → eq x (ofBits binary32 0) ≡ true → C x
+unfolding eq ofBits fits
+zero-cases C a b nan f h = absurd (false≢true h)
+zero-cases C a b (inf s) f h = absurd (false≢true h)
+zero-cases C a b (fin true zero e) f h = subst (λ (d : ℤ). C (fin true 0 d)) (sym (plain e (eqb→eq (up e * down e) 1 f))) a
+zero-cases C a b (fin false zero e) f h = subst (λ (d : ℤ). C (fin false 0 d)) (sym (plain e (eqb→eq (up e * down e) 1 f))) b
+zero-cases C a b (fin s (suc m) e) f h = absurd (positive m (up e) (down e) (up-pos e) (eqb-true (suc m * up e * 1) (0 * down e) (and-holds (eqb (suc m * up e * 1) (0 * down e)) (Bool·beq s false || eqb (suc m * up e * 1) 0) h .0)))
+
 pub abs-zero : (x : Float) → T (fits binary32 x) → eq x (ofBits binary32 0) ≡ true → ofBits binary32 0 ≡ absolute x
-unfolding eq ofBits absolute fits
-abs-zero nan f h = absurd (false≢true h)
-abs-zero (inf s) f h = absurd (false≢true h)
-abs-zero (fin s zero e) f h = ap (λ (d : ℤ). fin false 0 d) (sym (plain e (eqb→eq (up e * down e) 1 f)))
-abs-zero (fin s (suc m) e) f h = absurd (positive m (up e) (down e) (up-pos e) (eqb-true (suc m * up e * 1) (0 * down e) (and-holds (eqb (suc m * up e * 1) (0 * down e)) (Bool·beq s false || eqb (suc m * up e * 1) 0) h .0)))
+unfolding ofBits absolute
+abs-zero = zero-cases (λ (x : Float). ofBits binary32 0 ≡ absolute x) refl refl
+
+-- the exponential of both is 1
+pub exp-zero : (x : Float) → T (fits binary32 x) → eq x (ofBits binary32 0) ≡ true → ofBits binary32 0x3f80_0000 ≡ expOf x
+unfolding add mul div lt ofInt ofBits round narrowed series squares expOf
+exp-zero = zero-cases (λ (x : Float). ofBits binary32 0x3f80_0000 ≡ expOf x) refl refl
 
 pub abs-else : (x : Float) → lt x (ofBits binary32 0) ≡ false → eq x (ofBits binary32 0) ≡ false → x ≡ absolute x
 unfolding lt eq ofBits absolute

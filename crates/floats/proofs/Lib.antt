@@ -14,5 +14,6 @@ pub mod Correct
 pub mod Series
 pub mod Logs
 pub mod Extremes
+pub mod Order
 pub mod Tens
 pub mod Finite
