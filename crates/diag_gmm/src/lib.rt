@@ -3,16 +3,16 @@ use definition::FrameWeight;
 use definition::IvectorOptions;
 ghost use mathlib.Core.Path.{_≡_};
 ghost use mathlib.Core.Bool.{_||_, true, false};
-ghost use mathlib.Core.List.{List};
-ghost use Prim.Native.Nat.{ℕ, _+_, _*_, _<_, _≤_};
-ghost use lib.ListN.{length, take};
+ghost use mathlib.Core.List.{List, [], _∷_};
+ghost use Prim.Native.Nat.{ℕ, _+_, _-_, _*_, _<_, _≤_};
+ghost use lib.ListN.{length, take, drop};
 ghost use lib.Ieee.{lt, neg};
 ghost use Rattle.loops.specs.Lists.{if_then_else_, those};
 ghost use Rattle.loops.specs.Steps.{fill};
 ghost use Rattle.floats.specs.Operators.{_+₃₂_, _-₃₂_, _*₃₂_, f32, zero₃₂, at, sum₃₂};
 ghost use Rattle.floats.specs.Exp.{expOf};
 ghost use Rattle.definition.specs.Posteriors.{loglikes as loglikesOf, ahead as isAhead, insert as insertOf, pruned, every, maxLike, ranked, bestOf, selectPosteriors, nanCount, minPostFor, weighed as weighedOf, unweighted as unweightedOf};
-ghost use Rattle.diag_gmm.specs.Steps.{held, Fair, slid};
+ghost use Rattle.diag_gmm.specs.Steps.{held, Fair, Falling, Place, Next, slid, above as aboveOf, least, top, joined};
 
 fn clear(sum: &mut [f32])
     ensures { λ _. ⌜ now (sum .exit) ≡ fill (length (now (sum .entry))) (λ m. zero₃₂) (now (sum .entry)) ⌝ }
@@ -66,21 +66,6 @@ fn ahead(p: f32, q: f32) -> bool
     p > q
 }
 
-// Where p belongs among the first n, behind its equals.
-fn place(p: f32, n: usize, posts: &[f32]) -> usize
-    requires { ⌜ n ≤ length (now posts) ⌝ }
-    ensures { λ r. ⌜ (r ≤ n) × ((k : ℕ) → k < r → isAhead (0, p) (0, at (now (posts .entry)) k) ≡ false) × (r < n → isAhead (0, p) (0, at (now (posts .entry)) r) ≡ true) ⌝ }
-{
-    let mut j = 0;
-    while j < n {
-        if ahead(p, posts[j]) {
-            return j;
-        }
-        j += 1;
-    }
-    j
-}
-
 // Gaussian g and its posterior p put down at `first`, what stood there at the next place, and so on up to n.
 fn slide(g: usize, p: f32, first: usize, n: usize, chosen: &mut [usize], posts: &mut [f32])
     requires { ⌜ (n ≤ length (now chosen)) × (n ≤ length (now posts)) ⌝ }
@@ -100,6 +85,56 @@ fn slide(g: usize, p: f32, first: usize, n: usize, chosen: &mut [usize], posts: 
     }
 }
 
+// Whether p belongs in front of the first n.
+fn leads(p: f32, n: usize, posts: &[f32]) -> bool
+    requires { ⌜ n ≤ length (now posts) ⌝ }
+    ensures { λ r. ⌜ (r ≡ true → 0 < n → isAhead (0, p) (0, at (now (posts .entry)) 0) ≡ true) ⌝ }
+{
+    if n == 0 {
+        return true;
+    }
+    ahead(p, posts[0])
+}
+
+// Whether p is ahead of the last of n, and so of one of them.
+fn enters(p: f32, n: usize, posts: &[f32]) -> bool
+    requires { ⌜ (n ≤ length (now posts)) × Falling n (now posts) ⌝ }
+    ensures { λ r. ⌜ (r ≡ true → (0 < n) × (isAhead (0, p) (0, at (now (posts .entry)) (n - 1)) ≡ true)) × (r ≡ false → (k : ℕ) → k < n → isAhead (0, p) (0, at (now (posts .entry)) k) ≡ false) ⌝ }
+{
+    if n == 0 {
+        return false;
+    }
+    ahead(p, posts[n - 1])
+}
+
+// Gaussian g and its posterior p put down where p belongs among the first `last`, behind its equals; those behind it move up by one, to `last` at most.
+// At the front, or by a walk from the last on, which moves those that it passes. The answer is the place.
+fn settle(g: usize, p: f32, last: usize, chosen: &mut [usize], posts: &mut [f32]) -> usize
+    requires { ⌜ (last < length (now chosen)) × (last < length (now posts)) × Falling last (now posts) ⌝ }
+    ensures { λ r. ⌜ (now (chosen .exit) ≡ slid r (last + 1) g (now (chosen .entry))) × (now (posts .exit) ≡ slid r (last + 1) p (now (posts .entry))) × Place p last (now (posts .entry)) r ⌝ }
+{
+    if leads(p, last, posts) {
+        slide(g, p, 0, last + 1, chosen, posts);
+        return 0;
+    }
+    let mut j = last;
+    while j > 0 {
+        let q = posts[j - 1];
+        if ahead(p, q) {
+            chosen[j] = chosen[j - 1];
+            posts[j] = q;
+            j -= 1;
+        } else {
+            chosen[j] = g;
+            posts[j] = p;
+            return j;
+        }
+    }
+    chosen[j] = g;
+    posts[j] = p;
+    j
+}
+
 // Put in among the first n; past num_gselect the last falls off.
 fn insert(
     g: usize,
@@ -109,40 +144,87 @@ fn insert(
     chosen: &mut [usize],
     posts: &mut [f32],
 ) -> usize
-    requires { ⌜ (n ≤ «num_gselect») × («num_gselect» ≤ length (now chosen)) × («num_gselect» ≤ length (now posts)) ⌝ }
+    requires { ⌜ (n ≤ «num_gselect») × («num_gselect» ≤ length (now chosen)) × («num_gselect» ≤ length (now posts)) × Falling n (now posts) ⌝ }
     ensures { λ r. ⌜ (held r (now (chosen .exit)) (now (posts .exit)) ≡ take «num_gselect» (insertOf (g, p) (held n (now (chosen .entry)) (now (posts .entry))))) × (r ≤ «num_gselect») ⌝ }
 {
-    let first = place(p, n, posts);
     if n < num_gselect {
-        slide(g, p, first, n + 1, chosen, posts);
+        settle(g, p, n, chosen, posts);
         return n + 1;
     }
-    slide(g, p, first, n, chosen, posts);
-    n
-}
-
-// Gaussian g of log-likelihood l is put in if it is above the cutoff, or if all are.
-fn offer(
-    all: bool,
-    cutoff: f32,
-    max_like: f32,
-    g: usize,
-    l: f32,
-    n: usize,
-    num_gselect: usize,
-    chosen: &mut [usize],
-    posts: &mut [f32],
-) -> usize
-    requires { ⌜ (n ≤ «num_gselect») × («num_gselect» ≤ length (now chosen)) × («num_gselect» ≤ length (now posts)) ⌝ }
-    ensures { λ r. ⌜ (held r (now (chosen .exit)) (now (posts .exit)) ≡ (if all || lt cutoff l then take «num_gselect» (insertOf (g, expOf (l -₃₂ «max_like»)) (held n (now (chosen .entry)) (now (posts .entry)))) else held n (now (chosen .entry)) (now (posts .entry)))) × (r ≤ «num_gselect») ⌝ }
-{
-    if all || l > cutoff {
-        return insert(g, floats::exp(l - max_like), n, num_gselect, chosen, posts);
+    if enters(p, n, posts) {
+        settle(g, p, n - 1, chosen, posts);
+        return n;
     }
     n
 }
 
-// The most likely of the Gaussians above the cutoff, or of all.
+// The likelihood of a difference d from the largest log-likelihood; the largest itself has one of the two zeros.
+fn likelihood(d: f32) -> f32
+    ensures { λ r. ⌜ r ≡ expOf d ⌝ }
+{
+    if d == 0.0 {
+        return 1.0;
+    }
+    floats::exp(d)
+}
+
+// Whether one of four is above the cutoff.
+fn any_above(cutoff: f32, a: f32, b: f32, c: f32, d: f32) -> bool
+    ensures { λ r. ⌜ r ≡ (lt cutoff a || (lt cutoff b || (lt cutoff c || lt cutoff d))) ⌝ }
+{
+    if a > cutoff {
+        return true;
+    }
+    if b > cutoff {
+        return true;
+    }
+    if c > cutoff {
+        return true;
+    }
+    d > cutoff
+}
+
+// From g on past fours of which none is above the cutoff.
+fn skip(cutoff: f32, g: usize, loglikes: &[f32]) -> usize
+    requires { ⌜ g ≤ length (now loglikes) ⌝ }
+    ensures { λ r. ⌜ (g ≤ r) × (r ≤ length (now (loglikes .entry))) × ((k : ℕ) → k < r → g ≤ k → lt cutoff (at (now (loglikes .entry)) k) ≡ false) ⌝ }
+{
+    let mut k = g;
+    while loglikes.len() - k >= 4 {
+        if any_above(
+            cutoff,
+            loglikes[k],
+            loglikes[k + 1],
+            loglikes[k + 2],
+            loglikes[k + 3],
+        ) {
+            return k;
+        }
+        k += 4;
+    }
+    k
+}
+
+// The first from g on that is above the cutoff, or g itself where all are taken; the length where there is none.
+fn next(all: bool, cutoff: f32, g: usize, loglikes: &[f32]) -> usize
+    requires { ⌜ g ≤ length (now loglikes) ⌝ }
+    ensures { λ r. ⌜ Next (λ k. all || lt cutoff (at (now (loglikes .entry)) k)) g (length (now (loglikes .entry))) r ⌝ }
+{
+    if all {
+        return g;
+    }
+    let mut k = skip(cutoff, g, loglikes);
+    while k < loglikes.len() {
+        if loglikes[k] > cutoff {
+            return k;
+        }
+        k += 1;
+    }
+    k
+}
+
+// The most likely of the Gaussians above the cutoff, or of all. A Gaussian's likelihood is computed before the one found before it is put in: that
+// one's place then waits for no exponential.
 fn gather(
     all: bool,
     cutoff: f32,
@@ -155,35 +237,120 @@ fn gather(
     requires { ⌜ («num_gselect» ≤ length (now chosen)) × («num_gselect» ≤ length (now posts)) ⌝ }
     ensures { λ r. ⌜ (held r (now (chosen .exit)) (now (posts .exit)) ≡ ranked «num_gselect» «max_like» (those (λ p. all || lt cutoff (p .1)) (every (now (loglikes .entry))))) × (r ≤ «num_gselect») ⌝ }
 {
-    let mut n = 0;
-    for g in 0..loglikes.len() {
-        n = offer(
-            all,
-            cutoff,
-            max_like,
-            g,
-            loglikes[g],
-            n,
-            num_gselect,
-            chosen,
-            posts,
-        );
+    let mut g = next(all, cutoff, 0, loglikes);
+    if g >= loglikes.len() {
+        return 0;
     }
-    n
+    let mut p = likelihood(loglikes[g] - max_like);
+    let mut n = 0;
+    let mut after = next(all, cutoff, g + 1, loglikes);
+    while after < loglikes.len() {
+        let q = likelihood(loglikes[after] - max_like);
+        n = insert(g, p, n, num_gselect, chosen, posts);
+        g = after;
+        p = q;
+        after = next(all, cutoff, g + 1, loglikes);
+    }
+    insert(g, p, n, num_gselect, chosen, posts)
 }
 
-// The largest, a NaN passed over: `<` is false of it, and max_like never is one.
+// The larger of m and l; m, which is no NaN, where l is one.
+fn above(m: f32, l: f32) -> f32
+    ensures { λ r. ⌜ r ≡ aboveOf m l ⌝ }
+{
+    if m < l {
+        return l;
+    }
+    m
+}
+
+// Part k of the parts that are h long.
+fn part(h: usize, k: usize, loglikes: &[f32]) -> &[f32]
+    requires { ⌜ k * h + h ≤ length (now loglikes) ⌝ }
+    ensures { λ r. ⌜ (now r ≡ take h (drop (k * h) (now (loglikes .entry)))) × (length (now r) ≡ h) ⌝ }
+{
+    let start = k * h;
+    let end = start + h;
+    &loglikes[start..end]
+}
+
+// What is behind eight such parts.
+fn behind(h: usize, loglikes: &[f32]) -> &[f32]
+    requires { ⌜ 8 * h ≤ length (now loglikes) ⌝ }
+    ensures { λ r. ⌜ now r ≡ drop (8 * h) (now (loglikes .entry)) ⌝ }
+{
+    let start = 8 * h;
+    &loglikes[start..]
+}
+
+// The largest of each of eight parts at once, so that no comparison waits for the last; then of those, in the order of the parts.
+fn eight(
+    a: &[f32],
+    b: &[f32],
+    c: &[f32],
+    d: &[f32],
+    e: &[f32],
+    f: &[f32],
+    g: &[f32],
+    h: &[f32],
+) -> f32
+    requires { ⌜ (length (now b) ≡ length (now a)) × (length (now c) ≡ length (now a)) × (length (now d) ≡ length (now a)) × (length (now e) ≡ length (now a)) × (length (now f) ≡ length (now a)) × (length (now g) ≡ length (now a)) × (length (now h) ≡ length (now a)) ⌝ }
+    ensures { λ r. ⌜ r ≡ joined (top least (now (a .entry))) (now (b .entry) ∷ now (c .entry) ∷ now (d .entry) ∷ now (e .entry) ∷ now (f .entry) ∷ now (g .entry) ∷ now (h .entry) ∷ []) ⌝ }
+{
+    let mut ma = -1.0 / 0.0;
+    let mut mb = -1.0 / 0.0;
+    let mut mc = -1.0 / 0.0;
+    let mut md = -1.0 / 0.0;
+    let mut me = -1.0 / 0.0;
+    let mut mf = -1.0 / 0.0;
+    let mut mg = -1.0 / 0.0;
+    let mut mh = -1.0 / 0.0;
+    for i in 0..a.len() {
+        ma = above(ma, a[i]);
+        mb = above(mb, b[i]);
+        mc = above(mc, c[i]);
+        md = above(md, d[i]);
+        me = above(me, e[i]);
+        mf = above(mf, f[i]);
+        mg = above(mg, g[i]);
+        mh = above(mh, h[i]);
+    }
+    let m = above(ma, mb);
+    let m = above(m, mc);
+    let m = above(m, md);
+    let m = above(m, me);
+    let m = above(m, mf);
+    let m = above(m, mg);
+    above(m, mh)
+}
+
+// The largest of m and the others.
+fn rest(m: f32, loglikes: &[f32]) -> f32
+    ensures { λ r. ⌜ r ≡ top m (now (loglikes .entry)) ⌝ }
+{
+    let mut max_like = m;
+    for g in 0..loglikes.len() {
+        max_like = above(max_like, loglikes[g]);
+    }
+    max_like
+}
+
+// The largest, a NaN passed over. Parts and joins keep the order: of equal ones the first is the answer.
 fn largest(loglikes: &[f32]) -> f32
     ensures { λ r. ⌜ r ≡ maxLike (now (loglikes .entry)) ⌝ }
 {
-    let mut max_like = -1.0 / 0.0;
-    for g in 0..loglikes.len() {
-        let l = loglikes[g];
-        if max_like < l {
-            max_like = l;
-        }
-    }
-    max_like
+    let h = loglikes.len() / 8;
+    let front = eight(
+        part(h, 0, loglikes),
+        part(h, 1, loglikes),
+        part(h, 2, loglikes),
+        part(h, 3, loglikes),
+        part(h, 4, loglikes),
+        part(h, 5, loglikes),
+        part(h, 6, loglikes),
+        part(h, 7, loglikes),
+    );
+    rest(front, behind(h, loglikes))
 }
 
 // The most likely Gaussians, before they are pruned.
@@ -197,9 +364,10 @@ fn best(
     requires { ⌜ («num_gselect» ≤ length (now chosen)) × («num_gselect» ≤ length (now posts)) ⌝ }
     ensures { λ r. ⌜ (held r (now (chosen .exit)) (now (posts .exit)) ≡ bestOf (now (loglikes .entry)) «num_gselect» «min_post») × (r ≤ «num_gselect») ⌝ }
 {
+    let ln = floats::ln_f32(min_post);
     let max_like = largest(loglikes);
     if min_post != 0.0 {
-        let cutoff = max_like + floats::ln_f32(min_post);
+        let cutoff = max_like + ln;
         let n = gather(
             false,
             cutoff,

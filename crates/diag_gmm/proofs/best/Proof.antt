@@ -19,24 +19,24 @@ before-slice-known6 c = c .before .before .before .before
 returns : tie.Need-returns
 returns c =
     let at-gather = c .before .before .before .before .before in
-    let at-ln-f32 = at-gather .before .before .before in
-    let at-if1 = at-ln-f32 .before in
+    let at-if1 = at-gather .before .before .before in
     let at-largest = at-if1 .before in
+    let at-ln-f32 = at-largest .before in
     let g = at-gather .gather in
     (best-some _ _ _ (at-largest .largest .ensures) (at-if1 .if1 .taken) (at-ln-f32 .ln-f32 .ensures) _ _ _ (g .ensures .0) (omega arith) (omega arith) (c .if2 .taken), g .ensures .1)
 
 gather-requires-2 : tie.Need-gather-requires-2
-gather-requires-2 c κs = ⊎-elim (λ w. let e = ap length (w .10) in let f = ap length (w .11) in search needs) (λ w. let e = ap length (w .1) in let f = ap length (w .2) in search needs) (c .before .before .if1 .came)
+gather-requires-2 c κs = ⊎-elim (λ w. let e = ap length (w .9) in let f = ap length (w .10) in search needs) (λ w. let e = ap length (w .1) in let f = ap length (w .2) in search needs) (c .before .before .if1 .came)
 
 same-length-3 : tie.Need-same-length-3
 same-length-3 c =
     let at-if1 = before-gather2 (before-slice-known6 c) in
-    ⊎-elim (λ w. let e = ap length (w .10) in search needs) (λ w. let e = ap length (w .1) in search needs) (at-if1 .if1 .came)
+    ⊎-elim (λ w. let e = ap length (w .9) in search needs) (λ w. let e = ap length (w .1) in search needs) (at-if1 .if1 .came)
 
 same-length-4 : tie.Need-same-length-4
 same-length-4 c =
     let at-if1 = before-gather2 (before-slice-known6 c) in
-    ⊎-elim (λ w. let e = ap length (w .11) in search needs) (λ w. let e = ap length (w .2) in search needs) (at-if1 .if1 .came)
+    ⊎-elim (λ w. let e = ap length (w .10) in search needs) (λ w. let e = ap length (w .2) in search needs) (at-if1 .if1 .came)
 
 returns-2 : tie.Need-returns-2
 returns-2 c =
@@ -45,7 +45,7 @@ returns-2 c =
     let at-largest = at-if1 .before in
     let o = at-largest .largest .ensures in
     let d = at-gather2 .gather2 .ensures in
-    (⊎-elim (λ w. best-none _ _ _ o (w .0 .taken) (w .1 .ensures) _ _ _ (w .4 .ensures .0) (omega arith) (omega arith) (w .9 .left) (d .0)) (λ w. best-all _ _ _ o (w .0 .left) (d .0)) (at-if1 .if1 .came), d .1)
+    (⊎-elim (λ w. best-none _ _ _ o (w .0 .taken) (at-largest .before .ln-f32 .ensures) _ _ _ (w .3 .ensures .0) (omega arith) (omega arith) (w .8 .left) (d .0)) (λ w. best-all _ _ _ o (w .0 .left) (d .0)) (at-if1 .if1 .came), d .1)
 
 pub best-spec : {M : Type 1} → statement M
 best-spec =

@@ -1,41 +1,43 @@
--- `diag_gmm::largest` meets its contract. The loop's invariant: the largest so far, folded over what is left, is the fold over all, and it is no NaN
--- (`larger-first`, `larger-second` in Comparing.antt).
-use mathlib.Core.Path.{_≡_, refl}
-use mathlib.Core.Bool.{false}
-use mathlib.Core.List.{foldl}
-use mathlib.Core.Logic.{⊎-elim}
-use Prim.Native.Nat.{_-_}
-use native.Mathlib.Omega.{arith}
+-- `diag_gmm::largest` meets its contract: the parts lie within the list (`row-in` in loops/proofs/Cells.antt), and joined in their order they give the
+-- definition's largest (`eight-parts` in Maximum.antt).
 use borrow.Author.Needs.{needs}
-use lib.ListN.{length, drop}
-use lib.Ieee.{nan, isNan, div, neg, ofBits}
-use Rattle.loops.proofs.Folds.{fold-turn, fold-end}
-use Rattle.floats.specs.Extremes.{larger}
-use Rattle.definition.specs.Posteriors.{maxLike}
-use Rattle.diag_gmm.proofs.Comparing.{larger-second, larger-first}
+use mathlib.Core.Path.{sym, ap, _∙_}
+use Prim.Native.Nat.{_/_}
+use native.Mathlib.Omega.{arith}
+use lib.ListN.{length}
+use Rattle.loops.proofs.Cells.{row-in}
+use Rattle.diag_gmm.specs.Steps.{top}
+use Rattle.diag_gmm.proofs.Maximum.{eight-parts}
 use Rattle.diag_gmm.proofs.largest.Statement.{statement}
 use Rattle.diag_gmm.proofs.largest.Tie as tie
 
-abbrev Inv-loop : tie.InvT-loop
-Inv-loop loglikes max-like₀ g₀ g-end max-like g = (g-end ≡ length loglikes) × (isNan max-like ≡ false) × (foldl larger max-like (drop g loglikes) ≡ maxLike loglikes)
+eight-requires : tie.Need-eight-requires
+eight-requires c κs =
+    let at-part4 = c .before .before .before .before in
+    let at-part3 = at-part4 .before in
+    let at-part2 = at-part3 .before in
+    let at-part = at-part2 .before in
+    let e = sym (at-part .part .ensures .1) in
+    (at-part2 .part2 .ensures .1 ∙ e, at-part3 .part3 .ensures .1 ∙ e, at-part4 .part4 .ensures .1 ∙ e, c .before .before .before .part5 .ensures .1 ∙ e, c .before .before .part6 .ensures .1 ∙ e, c .before .part7 .ensures .1 ∙ e, c .part8 .ensures .1 ∙ e)
 
-abbrev μ-loop : tie.MeasureT-loop
-μ-loop loglikes max-like₀ g₀ g-end max-like g = g-end - g
-
-loop-holds : tie.Need-loop-holds Inv-loop μ-loop
-unfolding div neg ofBits isNan
-loop-holds c = (search needs, refl, refl)
-
-loop-again : tie.Need-loop-again Inv-loop μ-loop
-loop-again c = let l = c .before .before .before .loop in
-    let a = c .before .before .before .before .args in
-    let e = ⊎-elim (λ w. larger-second (l .max-like) _ (l .inv .1) (w .1) (w .0 .taken)) (λ w. larger-first (l .max-like) _ (l .inv .1) (w .1) (w .0 .left)) (c .if1 .came) in
-    (search needs, e .0, fold-turn larger nan (a .loglikes .now) (l .g) (omega arith) (e .1) (l .inv .2))
-
-returns : tie.Need-returns Inv-loop μ-loop
-returns c = fold-end larger (c .before .before .args .loglikes .now) (c .before .loop .g) (omega arith) (c .before .loop .inv .2)
+returns : tie.Need-returns
+returns c =
+    let at-eight = c .before .before in
+    let at-part7 = at-eight .before .before in
+    let at-part6 = at-part7 .before in
+    let at-part5 = at-part6 .before in
+    let at-part4 = at-part5 .before in
+    let at-part3 = at-part4 .before in
+    let at-part2 = at-part3 .before in
+    let at-part = at-part2 .before in
+    let start = at-part .before .before in
+    let ls = start .args .loglikes .now in
+    eight-parts (length ls / 8) ls (at-part .part .ensures .0) (at-part2 .part2 .ensures .0) (at-part3 .part3 .ensures .0) (at-part4 .part4 .ensures .0) (at-part5 .part5 .ensures .0) (at-part6 .part6 .ensures .0)
+    (at-part7 .part7 .ensures .0) (c .before .before .before .part8 .ensures .0) (at-eight .eight .ensures) (c .rest .ensures ∙ ap (top (at-eight .eight .result)) (c .before .behind .ensures))
 
 pub largest-spec : {M : Type 1} → statement M
 largest-spec =
     tie.close
-    (tie.spec Inv-loop μ-loop loop-holds (λ c. search needs) (λ c. search needs) (λ c. search needs) (λ c. search needs) loop-again returns)
+    (tie.spec (λ c κs. row-in 0 8 _ _ (omega arith) (omega arith)) (λ c κs. row-in 1 8 _ _ (omega arith) (omega arith)) (λ c κs. row-in 2 8 _ _ (omega arith) (omega arith))
+    (λ c κs. row-in 3 8 _ _ (omega arith) (omega arith)) (λ c κs. row-in 4 8 _ _ (omega arith) (omega arith)) (λ c κs. row-in 5 8 _ _ (omega arith) (omega arith))
+    (λ c κs. row-in 6 8 _ _ (omega arith) (omega arith)) (λ c κs. row-in 7 8 _ _ (omega arith) (omega arith)) eight-requires (λ c κs. omega arith) (λ c κs. search needs) returns)
