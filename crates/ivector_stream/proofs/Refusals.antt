@@ -64,6 +64,7 @@ module _ (s : IvectorStream) (z : Rings) (x : List Float) where
   pub record PushTaken : Type 0 where
     pub passed : Passed s z
     pub wide : length x ≡ s .info .dims .«base_dim»
+    pub all-finite : anyOf (λ v. not (finite v)) x ≡ false
     pub more : s .accepted < 1000000000
 
   pub push-taken : {r : ℕ} → r ≡ pushFrame s z x .refusal → r ≡ 0 → PushTaken
@@ -72,7 +73,7 @@ module _ (s : IvectorStream) (z : Rings) (x : List Float) where
       let h = none-first (recordTests s z ++ push-tests) tt (sym e ∙ g) in
       let p = tests-passed s z (h .0) (h .1 .0) in
       let f = eqb-false (s .accepted) 1000000000 (h .1 .1 .1 .1 .0) in
-      record { passed = p; wide = eqb-true _ _ (not-false _ (h .1 .1 .0)); more = omega (arith, p .whole-is .few) }
+      record { passed = p; wide = eqb-true _ _ (not-false _ (h .1 .1 .0)); all-finite = h .1 .1 .1 .0; more = omega (arith, p .whole-is .few) }
 
   pub push-few : {r : ℕ} → r ≡ pushFrame s z x .refusal → (r ≡ 10 → ⊥) → (s .accepted ≤ 1000000000) × (s .mark ≤ 1000000000)
   unfolding pushFrame

@@ -1,14 +1,15 @@
 -- Rooms that the calls write: a frame and a prefix row in their rings.
 use mathlib.Core.Path.{_≡_, sym, ap, _∙_}
-use mathlib.Core.Bool.{true}
+use mathlib.Core.Bool.{true, false, not, true≢false}
 use mathlib.Core.List.{List, foldl}
 use mathlib.Core.Logic.{_⊎_, ⊎-elim}
 use Prim.Native.Nat.{ℕ, _+_, _-_, _≤_, _<_, min, max}
 use native.Mathlib.Omega.{arith}
-use lib.Dec.{leb}
+use lib.Dec.{T, leb}
 use lib.ListN.{length, getD, set, take}
 use lib.Seq.{length-take-le, getD-take}
-use lib.Ieee.{Float, nan}
+use lib.Ieee.{Float, nan, inf, fin, isNan}
+use lib.Ieee.Scale.{finite}
 use Rattle.loops.specs.Lists.{if_then_else_, build}
 use Rattle.loops.specs.Ring.{rowsIn, put, place}
 use Rattle.loops.proofs.Build.{length-build, build-list}
@@ -39,9 +40,16 @@ module _ (last next : ℕ) (frame rows : List Float) (fits : next + length frame
       (λ (h : last + length frame ≤ next). put-before nan next (build i sums) rows (omega arith) (last + i) (omega arith))
       (λ (h : next + length frame ≤ last). put-past nan next (build i sums) rows (omega arith) (last + i) (omega (arith, length-build i sums))) apart
 
-  pub sums-turn : (i : ℕ) {s : List Float} {v : Float} → i < length frame → s ≡ put next (build i sums) rows → v ≡ at frame i
-      → set s (next + i) (at s (last + i) +₆₄ v) ≡ put next (build (i + 1) sums) rows
-  sums-turn i {v = v} l e h = put-turn next sums i rows (omega arith) e (ap (λ (x : Float). x +₆₄ v) (row-stays i l e) ∙ ap (λ (x : Float). at rows (last + i) +₆₄ x) h)
+  pub sums-turn : (i : ℕ) {s : List Float} → i < length frame → s ≡ put next (build i sums) rows
+      → set s (next + i) (at s (last + i) +₆₄ at frame i) ≡ put next (build (i + 1) sums) rows
+  sums-turn i l e = put-turn next sums i rows (omega arith) e (ap (λ (x : Float). x +₆₄ at frame i) (row-stays i l e))
+
+-- what is finite is no NaN: its cast to an f64 is defined
+pub no-nan : (x : Float) → not (finite x) ≡ false → T (not (isNan x))
+unfolding isNan
+no-nan nan e = absurd (true≢false e)
+no-nan (inf s) e = tt
+no-nan (fin s m k) e = tt
 
 -- ---- a push: row t of a ring, and the row after it
 

@@ -10,7 +10,7 @@ use definition::StreamAnswer;
 use definition::StreamCall;
 use definition::TableLengths;
 ghost use mathlib.Core.Path.{_≡_};
-ghost use mathlib.Core.Bool.{true, not, _||_};
+ghost use mathlib.Core.Bool.{true, false, not, _||_};
 ghost use mathlib.Core.Logic.{_⊎_};
 ghost use mathlib.Core.List.{foldl};
 ghost use Prim.Native.Nat.{_+_, _-_, _<_, _≤_, min};
@@ -303,13 +303,14 @@ fn put_frame(frames: &mut [f32], a: usize, frame: &[f32])
     }
 }
 
-// The prefix row at `last` and a frame, summed into the row at `next`.
+// The prefix row at `last` and a frame, summed into the row at `next`. The frame is finite: so the cast needs no test of a NaN.
 fn add_frame(rows: &mut [f64], last: usize, next: usize, frame: &[f32])
-    requires { ⌜ (last + length (now frame) ≤ length (now rows)) × (next + length (now frame) ≤ length (now rows)) × ((last + length (now frame) ≤ next) ⊎ (next + length (now frame) ≤ last)) ⌝ }
+    requires { ⌜ (last + length (now frame) ≤ length (now rows)) × (next + length (now frame) ≤ length (now rows))
+        × ((last + length (now frame) ≤ next) ⊎ (next + length (now frame) ≤ last)) × (anyOf (λ v. not (finite v)) (now frame) ≡ false) ⌝ }
     ensures { λ _. ⌜ now (rows .exit) ≡ put next (build (length (now (frame .entry))) (λ d. at (now (rows .entry)) (last + d) +₆₄ at (now (frame .entry)) d)) (now (rows .entry)) ⌝ }
 {
     for d in 0..frame.len() {
-        rows[next + d] = rows[last + d] + std::num::f32_to_f64_with_nan(frame[d]);
+        rows[next + d] = rows[last + d] + frame[d] as f64;
     }
 }
 

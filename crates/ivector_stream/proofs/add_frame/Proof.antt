@@ -1,14 +1,20 @@
 -- `ivector_stream::add_frame` meets its contract: after d turns the first d sums are put. The row that is read lies apart from the one that is written.
+-- The frame has no NaN, so that the cast of each number is defined, and leaves it as it is.
 use borrow.Author.Needs.{needs}
 use Prim.Native.Nat.{_≤_, _+_, _-_}
 use mathlib.Core.Path.{_≡_}
+use mathlib.Core.Bool.{not}
 use lib.ListN.{length}
 use native.Mathlib.Omega.{arith}
+use lib.Ieee.{Float, nan, binary64, fits, isNan}
+use lib.Ieee.Fits.{and-i, fits-widens}
+use lib.Ieee.Scale.{finite}
 use Rattle.loops.specs.Lists.{build}
 use Rattle.loops.specs.Ring.{put}
 use Rattle.loops.proofs.Fill.{puts, put-end}
+use Rattle.loops.proofs.Tests.{none-at}
 use Rattle.floats.specs.Operators.{_+₆₄_, at}
-use Rattle.ivector_stream.proofs.Stored.{sums-turn}
+use Rattle.ivector_stream.proofs.Stored.{sums-turn, no-nan}
 use Rattle.ivector_stream.proofs.add_frame.Statement.{statement}
 use Rattle.ivector_stream.proofs.add_frame.Tie as tie
 
@@ -31,20 +37,25 @@ mul-rows c = search needs
 slice-read-rows : tie.Need-slice-read-rows Inv-loop μ-loop
 slice-read-rows c = search needs
 
-mul-f32-to-f64-with-nan : tie.Need-mul-f32-to-f64-with-nan Inv-loop μ-loop
-mul-f32-to-f64-with-nan c = search needs
+mul-rows-2 : tie.Need-mul-rows-2 Inv-loop μ-loop
+mul-rows-2 c = search needs
 
-shared-slice-read-f32-to-f64-with-nan : tie.Need-shared-slice-read-f32-to-f64-with-nan Inv-loop μ-loop
-shared-slice-read-f32-to-f64-with-nan c = search needs
+shared-slice-read-rows : tie.Need-shared-slice-read-rows Inv-loop μ-loop
+shared-slice-read-rows c = search needs
 
-f32-to-f64-with-nan-requires : tie.Need-f32-to-f64-with-nan-requires Inv-loop μ-loop
-f32-to-f64-with-nan-requires c κs = search needs
+float-to-float-rows : tie.Need-float-to-float-rows Inv-loop μ-loop
+float-to-float-rows c =
+    let at-loop = c .before .before .before .before in
+    let start = at-loop .before in
+    let x : Float = at (start .args .frame .now) (at-loop .loop .d) in
+    let real = none-at (λ v. not (finite v)) nan (start .args .frame .now) (at-loop .loop .d) (start .pre .3) (omega arith) in
+    and-i (fits binary64 x) (not (isNan x)) (fits-widens x (c .row-known .given)) (no-nan x real)
 
 add-rows-2 : tie.Need-add-rows-2 Inv-loop μ-loop
 add-rows-2 c = search needs
 
-mul-rows-2 : tie.Need-mul-rows-2 Inv-loop μ-loop
-mul-rows-2 c = search needs
+mul-rows-3 : tie.Need-mul-rows-3 Inv-loop μ-loop
+mul-rows-3 c = search needs
 
 slice-write-rows : tie.Need-slice-write-rows Inv-loop μ-loop
 slice-write-rows c = search needs
@@ -58,8 +69,8 @@ loop-less c = search needs
 loop-again : tie.Need-loop-again Inv-loop μ-loop
 loop-again c =
     let at-loop = c .before .before .before .before in
-    let start = at-loop .before .before .before in
-    (omega arith, omega arith, search needs, sums-turn (start .args .last) (start .args .next) (start .args .frame .now) (start .args .rows .now) (start .pre .1) (start .pre .2) (at-loop .loop .d) (omega arith) (at-loop .loop .inv .3) (c .f32-to-f64-with-nan .ensures))
+    let start = at-loop .before in
+    (omega arith, omega arith, search needs, sums-turn (start .args .last) (start .args .next) (start .args .frame .now) (start .args .rows .now) (start .pre .1) (start .pre .2) (at-loop .loop .d) (omega arith) (at-loop .loop .inv .3))
 
 same-length : tie.Need-same-length Inv-loop μ-loop
 same-length c = search needs
@@ -77,11 +88,11 @@ add-frame-spec =
     add-rows
     mul-rows
     slice-read-rows
-    mul-f32-to-f64-with-nan
-    shared-slice-read-f32-to-f64-with-nan
-    f32-to-f64-with-nan-requires
-    add-rows-2
     mul-rows-2
+    shared-slice-read-rows
+    float-to-float-rows
+    add-rows-2
+    mul-rows-3
     slice-write-rows
     add-d
     loop-less

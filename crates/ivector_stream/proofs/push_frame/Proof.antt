@@ -110,6 +110,7 @@ add-frame-requires c κs =
       omega (arith, place-in n b t some, at-row-place2 .row-place2 .ensures, k .wide),
       omega (arith, place-in n b (t + 1) some, next-is (c .before), k .wide),
       place-after n b t (k .passed .row-room) (k .wide) (at-row-place2 .row-place2 .ensures) (next-is (c .before)),
+      k .all-finite,
     )
 
 add-s : tie.Need-add-s
