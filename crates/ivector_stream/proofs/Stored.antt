@@ -3,7 +3,8 @@ use mathlib.Core.Path.{_≡_, sym, ap, _∙_}
 use mathlib.Core.Bool.{true, false, not, true≢false}
 use mathlib.Core.List.{List, foldl}
 use mathlib.Core.Logic.{_⊎_, ⊎-elim}
-use Prim.Native.Nat.{ℕ, _+_, _-_, _≤_, _<_, min, max}
+use Prim.Native.Nat.{ℕ, _+_, _-_, _*_, _≤_, _<_, min, max}
+use native.Mathlib.Nat.{suc-mul, le-div-iff-mul-le, mod-eq-of-lt}
 use native.Mathlib.Omega.{arith}
 use lib.Dec.{T, leb}
 use lib.ListN.{length, getD, set, take}
@@ -52,6 +53,13 @@ no-nan (inf s) e = tt
 no-nan (fin s m k) e = tt
 
 -- ---- a push: row t of a ring, and the row after it
+
+-- no row was written over yet
+pub place-first : (n w t : ℕ) → 0 < w → t * w + w ≤ n → t * w ≡ place n w t
+unfolding place
+place-first n w t p h =
+    let under : t < rowsIn n w = le-div-iff-mul-le p .1 (omega (arith, suc-mul t w)) in
+    ap (λ (k : ℕ). k * w) (sym (mod-eq-of-lt under))
 
 pub place-turned : (n w t : ℕ) {a b : ℕ} → 0 < w → 0 < rowsIn n w → a ≡ place n w t → b ≡ (if leb (w + w) (n - a) then a + w else 0) → b ≡ place n w (t + 1)
 place-turned n w t p q e f = f ∙ ap (λ (z : ℕ). if leb (w + w) (n - z) then z + w else 0) e ∙ place-next n w t p q

@@ -19,7 +19,7 @@ ghost use lib.Dec.{leb, ltb};
 ghost use lib.Ieee.Scale.{finite};
 ghost use Rattle.loops.specs.Lists.{if_then_else_, build, anyOf, over};
 ghost use Rattle.loops.specs.Refusal.{firstOf, taken};
-ghost use Rattle.loops.specs.Ring.{put};
+ghost use Rattle.loops.specs.Ring.{rowsIn, place, put};
 ghost use Rattle.floats.specs.Operators.{_+₆₄_, at};
 ghost use Rattle.definition.specs.Kaldi.{triangle};
 ghost use Rattle.definition.specs.Model.{Tables, tablesFrom, tableLengthsOf};
@@ -281,6 +281,18 @@ fn push_refusal(
     0
 }
 
+// Where row t of a ring begins. Until a row is written over that is t rows on, which needs no division.
+fn ring_place(numbers: usize, dim: usize, t: usize) -> usize
+    requires { ⌜ (0 < dim) × (dim ≤ 64) × (0 < rowsIn numbers dim) × (t ≤ 1000000000) ⌝ }
+    ensures { λ r. ⌜ r ≡ place numbers dim t ⌝ }
+{
+    let here = t * dim;
+    if here + dim <= numbers {
+        return here;
+    }
+    basics::row_place(numbers, dim, t)
+}
+
 // Where the row after the one that begins `here` does: a row further, or at the ring's beginning where no whole row is left.
 fn row_after(numbers: usize, dim: usize, here: usize) -> usize
     requires { ⌜ (dim ≤ 64) × (here ≤ numbers) ⌝ }
@@ -333,9 +345,9 @@ pub fn push_frame(
     }
     let i = s.info;
     let d = i.dims;
-    let a = basics::row_place(frames.len(), d.base_dim, s.accepted);
+    let a = ring_place(frames.len(), d.base_dim, s.accepted);
     put_frame(frames, a, frame);
-    let last = basics::row_place(rows.len(), d.base_dim, s.accepted);
+    let last = ring_place(rows.len(), d.base_dim, s.accepted);
     let next = row_after(rows.len(), d.base_dim, last);
     add_frame(rows, last, next, frame);
     s.accepted += 1;

@@ -42,7 +42,7 @@ next-is : (c : tie.After-row-after) →
     c .row-after .result ≡ place (length (start .args .rows .now)) (start .args .s .info .dims .«base_dim») (start .args .s .accepted + 1)
 next-is c =
     let k = known (taken-from c) in
-    place-turned _ _ _ (k .passed .dims-are .some-base) (omega (arith, k .passed .row-room)) (c .before .row-place2 .ensures) (c .row-after .ensures)
+    place-turned _ _ _ (k .passed .dims-are .some-base) (omega (arith, k .passed .row-room)) (c .before .ring-place2 .ensures) (c .row-after .ensures)
 
 -- places: one that comes before another
 abbrev to-add-frame : tie.After-reply2 → tie.After-add-frame
@@ -51,10 +51,10 @@ to-add-frame c = c .before .before .before .before
 abbrev to-add-frame-from-struct-known : tie.After-struct-known → tie.After-add-frame
 to-add-frame-from-struct-known c = c .before .before .before
 
-abbrev to-if1 : tie.After-row-place → tie.Else1
+abbrev to-if1 : tie.After-ring-place → tie.Else1
 to-if1 c = c .before .before .before
 
-abbrev to-put-frame : tie.After-row-place2 → tie.After-put-frame
+abbrev to-put-frame : tie.After-ring-place2 → tie.After-put-frame
 to-put-frame c = c .before .before .before
 
 push-refusal-requires : tie.Need-push-refusal-requires
@@ -74,20 +74,22 @@ returns c =
     let start = begun (c .before .before) in
     refused (start .args .s) (lent start) (step start) (c .before .before .push-refusal .ensures) (c .before .if1 .taken) (c .reply .ensures)
 
-row-place-requires : tie.Need-row-place-requires
-row-place-requires c κs = let k = known (c .before .before) in (k .passed .dims-are .some-base, k .passed .frame-room)
+ring-place-requires : tie.Need-ring-place-requires
+ring-place-requires c κs =
+    let k = known (c .before .before) in
+    (k .passed .dims-are .some-base, k .passed .dims-are .base-is, k .passed .frame-room, few _ _ (k .passed) .0)
 
 put-frame-requires : tie.Need-put-frame-requires
 put-frame-requires c κs =
     let at-if1 = to-if1 (c .before) in
     let start = begun (at-if1 .before) in
     let k = known at-if1 in
-    omega (arith, place-in (length (start .args .frames .now)) (start .args .s .info .dims .«base_dim») (start .args .s .accepted) (k .passed .frame-room), c .before .row-place .ensures, k .wide)
+    omega (arith, place-in (length (start .args .frames .now)) (start .args .s .info .dims .«base_dim») (start .args .s .accepted) (k .passed .frame-room), c .before .ring-place .ensures, k .wide)
 
-row-place-requires-2 : tie.Need-row-place-requires-2
-row-place-requires-2 c κs =
+ring-place-requires-2 : tie.Need-ring-place-requires-2
+ring-place-requires-2 c κs =
     let at-if1 = to-if1 (c .before .before .before .before) in
-    let k = known at-if1 in (k .passed .dims-are .some-base, omega (arith, k .passed .row-room))
+    let k = known at-if1 in (k .passed .dims-are .some-base, k .passed .dims-are .base-is, omega (arith, k .passed .row-room), few _ _ (k .passed) .0)
 
 row-after-requires : tie.Need-row-after-requires
 row-after-requires c κs =
@@ -95,11 +97,11 @@ row-after-requires c κs =
     let start = begun (at-if1 .before) in
     let k = known at-if1 in
     let some : 0 < rowsIn (length (start .args .rows .now)) (start .args .s .info .dims .«base_dim») = omega (arith, k .passed .row-room) in
-    (k .passed .dims-are .base-is, omega (arith, place-in (length (start .args .rows .now)) (start .args .s .info .dims .«base_dim») (start .args .s .accepted) some, c .row-place2 .ensures))
+    (k .passed .dims-are .base-is, omega (arith, place-in (length (start .args .rows .now)) (start .args .s .info .dims .«base_dim») (start .args .s .accepted) some, c .ring-place2 .ensures))
 
 add-frame-requires : tie.Need-add-frame-requires
 add-frame-requires c κs =
-    let at-row-place2 = c .before .before in
+    let at-ring-place2 = c .before .before in
     let at-if1 = taken-from (c .before) in
     let start = begun (at-if1 .before) in
     let k = known at-if1 in
@@ -107,9 +109,9 @@ add-frame-requires c κs =
     let b = start .args .s .info .dims .«base_dim» in
     let t = start .args .s .accepted in
     let some : 0 < rowsIn n b = omega (arith, k .passed .row-room) in (
-      omega (arith, place-in n b t some, at-row-place2 .row-place2 .ensures, k .wide),
+      omega (arith, place-in n b t some, at-ring-place2 .ring-place2 .ensures, k .wide),
       omega (arith, place-in n b (t + 1) some, next-is (c .before), k .wide),
-      place-after n b t (k .passed .row-room) (k .wide) (at-row-place2 .row-place2 .ensures) (next-is (c .before)),
+      place-after n b t (k .passed .row-room) (k .wide) (at-ring-place2 .ring-place2 .ensures) (next-is (c .before)),
       k .all-finite,
     )
 
@@ -138,17 +140,17 @@ unfolding pushFrame
 returns-2 c =
     let at-add-frame = to-add-frame c in
     let at-row-after = at-add-frame .before .before in
-    let at-row-place2 = at-row-after .before in
-    let at-put-frame = to-put-frame at-row-place2 in
-    let at-row-place = at-put-frame .before .before in
-    let at-if1 = to-if1 at-row-place in
+    let at-ring-place2 = at-row-after .before in
+    let at-put-frame = to-put-frame at-ring-place2 in
+    let at-ring-place = at-put-frame .before .before in
+    let at-if1 = to-if1 at-ring-place in
     let at-push-refusal = at-if1 .before in
     let start = begun at-push-refusal in
     let s = start .args .s in
     let x = start .args .frame .now in
     done s (lent start) (step start) (at-push-refusal .push-refusal .ensures) (at-if1 .if1 .left) (c .reply2 .ensures) (rings-are
-    (pushed-frames s x (start .args .frames .now) (at-row-place .row-place .ensures) (at-put-frame .put-frame .ensures))
-    (pushed-rows s x (start .args .rows .now) (known at-if1 .wide) (at-row-place2 .row-place2 .ensures) (next-is at-row-after) (at-add-frame .add-frame .ensures)) refl refl)
+    (pushed-frames s x (start .args .frames .now) (at-ring-place .ring-place .ensures) (at-put-frame .put-frame .ensures))
+    (pushed-rows s x (start .args .rows .now) (known at-if1 .wide) (at-ring-place2 .ring-place2 .ensures) (next-is at-row-after) (at-add-frame .add-frame .ensures)) refl refl)
 
 pub push-frame-spec : {M : Type 1} → statement M
 push-frame-spec =
@@ -159,9 +161,9 @@ push-frame-spec =
     same-length
     same-length-2
     returns
-    row-place-requires
+    ring-place-requires
     put-frame-requires
-    row-place-requires-2
+    ring-place-requires-2
     row-after-requires
     add-frame-requires
     add-s
