@@ -1,6 +1,6 @@
 -- A record and lent rings that meet no refusal 10: what is known of them, and the number of a call whose further tests come after those.
 use mathlib.Core.Path.{_≡_, sym, _∙_}
-use mathlib.Core.Bool.{Bool, false, not}
+use mathlib.Core.Bool.{Bool, true, false, not}
 use mathlib.Core.List.{List, _++_}
 use Prim.Native.Nat.{ℕ, _≤_}
 use native.Mathlib.Omega.{arith}
@@ -42,6 +42,17 @@ module _ (s : IvectorStream) (z : Rings) where
         waiting-frames-are = eqb-true _ _ (h .1 .1 .0);
         waiting-weights-are = eqb-true _ _ (h .1 .1 .1 .0);
       }
+
+  -- the number, by the two tests as code makes them: a says that the rings differ, b that the record is broken
+  module _ {a : Bool} (e : a ≡ not (sameRings (ringLengthsOf z) (s .lengths .rings))) where
+    pub rings-differ : a ≡ true → 10 ≡ firstOf (recordTests s z)
+    rings-differ h = first-is 0 (recordTests s z) (sym e ∙ h)
+
+    pub record-broken : a ≡ false → {b : Bool} → b ≡ isBroken s (z .waiting-frames) → b ≡ true → 10 ≡ firstOf (recordTests s z)
+    record-broken h f g = first-is 1 (recordTests s z) (sym e ∙ h, sym f ∙ g)
+
+    pub record-whole : a ≡ false → {b : Bool} → b ≡ isBroken s (z .waiting-frames) → b ≡ false → 0 ≡ firstOf (recordTests s z)
+    record-whole h f g = first-none (recordTests s z) (sym e ∙ h, (sym f ∙ g, tt))
 
   -- r is the refusal number: there is none, or another than 10
   pub plain-passed : {r : ℕ} → r ≡ firstOf (recordTests s z) → r ≡ 0 → Passed

@@ -26,8 +26,8 @@ ghost use Rattle.definition.specs.Model.{Tables, tablesFrom, tableLengthsOf};
 ghost use Rattle.definition.specs.Statistics.{newStats};
 ghost use Rattle.definition.specs.Solve.{priorVector};
 ghost use Rattle.definition.specs.Machine.{framesReady};
-ghost use Rattle.definition.specs.Stream.{rising, newRefusal};
-ghost use Rattle.program.specs.Rooms.{Rings, ringsFrom, estimateFrom, Rooms, roomsFrom, roomLengthsOf};
+ghost use Rattle.definition.specs.Stream.{rising, newRefusal, sameRings};
+ghost use Rattle.program.specs.Rooms.{Rings, ringsFrom, ringLengthsOf, estimateFrom, Rooms, roomsFrom, roomLengthsOf};
 ghost use Rattle.program.specs.Calls.{callOf, newAnswer, freshRooms, ringCall, doneOn, recordTests, pushFrame, setInputFinished, updateFrameWeights, forgetBefore};
 
 // ---- answers
@@ -70,6 +70,27 @@ pub fn reply(
     }
 }
 
+// Whether rings are lent that are not as long as the record's.
+fn other_rings(
+    s: IvectorStream,
+    frames: &[f32],
+    rows: &[f64],
+    waiting_frames: &[usize],
+    waiting_weights: &[f32],
+) -> bool
+    ensures { λ r. ⌜ r ≡ not (sameRings (ringLengthsOf (ringsFrom (now (frames .entry)) (now (rows .entry)) (now («waiting_frames» .entry)) (now («waiting_weights» .entry)))) (s .lengths .rings)) ⌝ }
+{
+    let z = s.lengths;
+    let own = z.rings;
+    let lent = RingLengths {
+        frames: frames.len(),
+        rows: rows.len(),
+        waiting_frames: waiting_frames.len(),
+        waiting_weights: waiting_weights.len(),
+    };
+    !limits::same_rings(lent, own)
+}
+
 // Refusal 10 of every call, or 0.
 fn plain_refusal(
     s: IvectorStream,
@@ -80,15 +101,7 @@ fn plain_refusal(
 ) -> usize
     ensures { λ r. ⌜ r ≡ firstOf (recordTests s (ringsFrom (now (frames .entry)) (now (rows .entry)) (now («waiting_frames» .entry)) (now («waiting_weights» .entry)))) ⌝ }
 {
-    let z = s.lengths;
-    let own = z.rings;
-    let lent = RingLengths {
-        frames: frames.len(),
-        rows: rows.len(),
-        waiting_frames: waiting_frames.len(),
-        waiting_weights: waiting_weights.len(),
-    };
-    if !limits::same_rings(lent, own) {
+    if other_rings(s, frames, rows, waiting_frames, waiting_weights) {
         return 10;
     }
     if limits::is_broken(s, waiting_frames) {
@@ -242,6 +255,25 @@ fn any_not_finite(x: &[f32]) -> bool
     bad
 }
 
+// `plain_refusal` with the record's test that is compiled into a push.
+fn plain_refusal_at_push(
+    s: IvectorStream,
+    frames: &[f32],
+    rows: &[f64],
+    waiting_frames: &[usize],
+    waiting_weights: &[f32],
+) -> usize
+    ensures { λ r. ⌜ r ≡ firstOf (recordTests s (ringsFrom (now (frames .entry)) (now (rows .entry)) (now («waiting_frames» .entry)) (now («waiting_weights» .entry)))) ⌝ }
+{
+    if other_rings(s, frames, rows, waiting_frames, waiting_weights) {
+        return 10;
+    }
+    if limits::is_broken_at_push(s, waiting_frames) {
+        return 10;
+    }
+    0
+}
+
 fn push_refusal(
     s: IvectorStream,
     frame: &[f32],
@@ -252,7 +284,7 @@ fn push_refusal(
 ) -> usize
     ensures { λ r. ⌜ r ≡ pushFrame s (ringsFrom (now (frames .entry)) (now (rows .entry)) (now («waiting_frames» .entry)) (now («waiting_weights» .entry))) (now (frame .entry)) .refusal ⌝ }
 {
-    let refusal = plain_refusal(s, frames, rows, waiting_frames, waiting_weights);
+    let refusal = plain_refusal_at_push(s, frames, rows, waiting_frames, waiting_weights);
     if refusal != 0 {
         return refusal;
     }

@@ -1,17 +1,18 @@
 -- A stream's rooms and its record: what a test of them tells, as code makes it, and what is known of a record that is not broken.
 use mathlib.Core.Path.{_≡_, refl, sym, ap, _∙_}
 use mathlib.Core.Bool.{Bool, true, false, not, _||_, or-false}
-use mathlib.Core.List.{List, zipWith}
+use mathlib.Core.List.{List, [], _∷_, zipWith}
 use Prim.Native.Nat.{ℕ, _+_, _-_, _≤_, _<_, min}
 use native.Mathlib.Omega.{arith}
-use lib.ListN.{length, getD, take}
+use lib.ListN.{length, getD, take, drop}
 use lib.Seq.{take-all, take-length}
 use native.Mathlib.Nat.{min-eq-left, min-eq-right}
 use native.Mathlib.Decide.{decLe}
 use lib.Dec.{leb, ltb, eqb}
 use borrow.Author.Tests.{ltb-false, not-false, le-leb, lt-leb}
-use Rattle.loops.specs.Lists.{anyOf}
+use Rattle.loops.specs.Lists.{allOf, anyOf}
 use Rattle.loops.specs.Ring.{rowsIn}
+use Rattle.loops.proofs.Choose.{and-first}
 use Rattle.loops.proofs.Tests.{none-of, at-some, at-fail}
 use Rattle.definition.specs.declared.IvectorOptions.{IvectorOptions}
 use Rattle.definition.specs.declared.Dimensions.{Dimensions}
@@ -19,11 +20,13 @@ use Rattle.definition.specs.declared.TableLengths.{TableLengths}
 use Rattle.definition.specs.declared.RingLengths.{RingLengths}
 use Rattle.definition.specs.declared.EstimateLengths.{EstimateLengths}
 use Rattle.definition.specs.declared.RoomLengths.{RoomLengths}
+use Rattle.definition.specs.declared.IvectorInfo.{IvectorInfo}
 use Rattle.definition.specs.declared.IvectorStream.{IvectorStream}
+use Rattle.definition.specs.Options.{optionsInRange, dimsInRange, dimsAgree}
 use Rattle.definition.specs.Machine.{framesHeld, rowsHeld, waitingRoom}
 use Rattle.definition.specs.Model.{tableSizes, tableLengths, tablesFit}
-use Rattle.definition.specs.Stream.{infoSound, sameTables, ringLengths, sameRings, streamScratch, estimateLengths, estimateSizes, roomsFit, rising, breaks, isBroken}
-use Rattle.limits.specs.Steps.{sameEstimate, waitingBroken}
+use Rattle.definition.specs.Stream.{recordSound, infoSound, sameTables, ringLengths, sameRings, streamScratch, estimateLengths, estimateSizes, roomsFit, rising, breaks, isBroken}
+use Rattle.limits.specs.Steps.{sameEstimate, waitingBroken, countsBroken}
 use Rattle.limits.proofs.Listed.{FirstAre, all-last, any-rest, pair-fail, pair-last}
 
 -- ---- lists of lengths, side by side: one pair that fails decides, or the last one
@@ -145,11 +148,31 @@ take-min n l = go (decLe n (length l))
     go (yes h) = ap (λ (k : ℕ). take k l) (min-eq-left h)
     go (no h) = let g : length l ≤ n = omega arith in ap (λ (k : ℕ). take k l) (min-eq-right g) ∙ take-length l ∙ sym (take-all n l g)
 
--- the last two tests are those of the waiting frames
-pub waiting-last : (s : IvectorStream) (waiting : List ℕ) {n : ℕ} → n ≡ min (s .waiting) (length waiting) → FirstAre false 8 (breaks s waiting)
-    → waitingBroken (take n waiting) (s .info .opts .«left_context») (s .mark) ≡ isBroken s waiting
-unfolding isBroken breaks waitingBroken anyOf
+-- those of the counts: one of them holds, or the last two decide, which are those of the waiting frames
+pub counts-at : (s : IvectorStream) (waiting : List ℕ) (k : ℕ) → k < length (drop 2 (breaks s waiting)) → getD (drop 2 (breaks s waiting)) k false ≡ true → true ≡ countsBroken s waiting
+unfolding countsBroken
+counts-at s waiting k l h = sym (at-some (λ t. t) false (drop 2 (breaks s waiting)) k l h)
+
+pub waiting-last : (s : IvectorStream) (waiting : List ℕ) {n : ℕ} → n ≡ min (s .waiting) (length waiting) → FirstAre false 6 (drop 2 (breaks s waiting))
+    → waitingBroken (take n waiting) (s .info .opts .«left_context») (s .mark) ≡ countsBroken s waiting
+unfolding countsBroken breaks waitingBroken anyOf
 waiting-last s waiting e h =
     ap (λ (l : List ℕ). waitingBroken l (s .info .opts .«left_context») (s .mark)) (ap (λ (k : ℕ). take k waiting) e ∙ take-min (s .waiting) waiting)
     ∙ ap (λ (t : Bool). not (rising 0 (take (s .waiting) waiting)) || t) (sym (or-false _))
-    ∙ any-rest 8 (breaks s waiting) h
+    ∙ any-rest 6 (drop 2 (breaks s waiting)) h
+
+-- the first two fail
+pub counts-last : (s : IvectorStream) (waiting : List ℕ) {r : Bool} → r ≡ countsBroken s waiting → FirstAre false 2 (breaks s waiting) → r ≡ isBroken s waiting
+unfolding countsBroken isBroken
+counts-last s waiting e h = e ∙ any-rest 2 (breaks s waiting) h
+
+-- the model's record, by its four tests
+module _ (i : IvectorInfo) where
+  pub record-fails : (k : ℕ) → k < 3 → getD (optionsInRange (i .opts) ∷ dimsInRange (i .dims) ∷ dimsAgree (i .opts) (i .dims) ∷ []) k false ≡ false → infoSound i ≡ false
+  unfolding infoSound recordSound
+  record-fails k l h = and-first _ _ (at-fail (λ t. t) false _ k l h)
+
+  module _ (o : optionsInRange (i .opts) ≡ true) (d : dimsInRange (i .dims) ≡ true) (a : dimsAgree (i .opts) (i .dims) ≡ true) where
+    pub tables-decide : infoSound i ≡ tablesFit (i .opts) (i .dims) (i .tables)
+    unfolding infoSound recordSound allOf
+    tables-decide = rw (o, d, a)

@@ -19,7 +19,7 @@ ghost use Rattle.definition.specs.Options.{within, optionsInRange, dimsInRange,
 ghost use Rattle.definition.specs.Model.{tablesFit, loadScratch};
 ghost use Rattle.definition.specs.Machine.{framesHeld, rowsHeld, framesReady};
 ghost use Rattle.definition.specs.Stream.{recordSound, infoSound, sameTables, streamScratch, roomsFit, isBroken, sameRings, sameRooms};
-ghost use Rattle.limits.specs.Steps.{sameEstimate, waitingBroken};
+ghost use Rattle.limits.specs.Steps.{sameEstimate, waitingBroken, countsBroken};
 
 // ---- options and dimensions
 
@@ -353,21 +353,16 @@ fn waiting_broken(held: &[usize], left: usize, mark: usize) -> bool
     first < mark
 }
 
-// Refusal 10, where true: no call made this record, whose waiting frames lie in `waiting`.
-pub fn is_broken(s: IvectorStream, waiting: &[usize]) -> bool
-    ensures { λ r. ⌜ r ≡ isBroken s (now (waiting .entry)) ⌝ }
+// The counts of a record and the waiting frames, which lie in `waiting`.
+fn counts_broken(s: IvectorStream, waiting: &[usize]) -> bool
+    requires { ⌜ dimsInRange (s .info .dims) ≡ true ⌝ }
+    ensures { λ r. ⌜ r ≡ countsBroken s (now (waiting .entry)) ⌝ }
 {
     let i = s.info;
     let o = i.opts;
     let d = i.dims;
     let z = s.lengths;
     let r = z.rings;
-    if !info_sound(i) {
-        return true;
-    }
-    if !rooms_fit(d, z) {
-        return true;
-    }
     if 1000000000 < s.accepted {
         return true;
     }
@@ -392,4 +387,47 @@ pub fn is_broken(s: IvectorStream, waiting: &[usize]) -> bool
     }
     let n = smaller(s.waiting, waiting.len());
     waiting_broken(&waiting[..n], o.left_context, s.mark)
+}
+
+// Refusal 10, where true: no call made this record, whose waiting frames lie in `waiting`.
+pub fn is_broken(s: IvectorStream, waiting: &[usize]) -> bool
+    ensures { λ r. ⌜ r ≡ isBroken s (now (waiting .entry)) ⌝ }
+{
+    let i = s.info;
+    let d = i.dims;
+    let z = s.lengths;
+    if !info_sound(i) {
+        return true;
+    }
+    if !rooms_fit(d, z) {
+        return true;
+    }
+    counts_broken(s, waiting)
+}
+
+// The same for a push, which no other call uses: so it is compiled into the push, and the record is not copied for it.
+pub fn is_broken_at_push(s: IvectorStream, waiting: &[usize]) -> bool
+    ensures { λ r. ⌜ r ≡ isBroken s (now (waiting .entry)) ⌝ }
+{
+    let i = s.info;
+    let o = i.opts;
+    let d = i.dims;
+    let t = i.tables;
+    let z = s.lengths;
+    if !options_in_range(o) {
+        return true;
+    }
+    if !dims_in_range(d) {
+        return true;
+    }
+    if !dims_agree(o, d) {
+        return true;
+    }
+    if !tables_fit(o, d, t) {
+        return true;
+    }
+    if !rooms_fit(d, z) {
+        return true;
+    }
+    counts_broken(s, waiting)
 }

@@ -45,14 +45,14 @@ first-5 c = first-4 (fourth c)
 -- ---- what is known there
 
 known : (c : tie.Else1) → Passed (begun c .args .s) (lent (begun c))
-known c = plain-passed (begun c .args .s) (lent (begun c)) (c .before .plain-refusal .ensures) (c .if1 .left)
+known c = plain-passed (begun c .args .s) (lent (begun c)) (c .before .plain-refusal-at-push .ensures) (c .if1 .left)
 
 abbrev tests : (c : tie.Else1) → List (Bool × ℕ)
 tests c = push-tests (begun c .args .s) (lent (begun c)) (begun c .args .frame .now)
 
 -- the number is that of the first test that holds
 at : (c : tie.Else1) (k : ℕ) → FirstAt k (tests c) → numberAt k (tests c) ≡ pushFrame (begun c .args .s) (lent (begun c)) (begun c .args .frame .now) .refusal
-at c k h = push-first _ _ _ (c .before .plain-refusal .ensures) (c .if1 .left) k h
+at c k h = push-first _ _ _ (c .before .plain-refusal-at-push .ensures) (c .if1 .left) k h
 
 -- the tests that failed, and what is known besides
 past-2 : (c : tie.Else2) {P : Type 0} → P → Past 1 (tests (first-2 c)) P
@@ -75,11 +75,11 @@ past-5 c p =
 
 -- ---- the answers
 
-plain-refusal-requires : tie.Need-plain-refusal-requires
-plain-refusal-requires c κs = search needs
+plain-refusal-at-push-requires : tie.Need-plain-refusal-at-push-requires
+plain-refusal-at-push-requires c κs = search needs
 
 returns : tie.Need-returns
-returns c = push-already _ _ _ (c .before .plain-refusal .ensures) (c .if1 .taken)
+returns c = push-already _ _ _ (c .before .plain-refusal-at-push .ensures) (c .if1 .taken)
 
 returns-2 : tie.Need-returns-2
 unfolding pushTests
@@ -161,13 +161,13 @@ returns-7 c =
     let at-if5 = at-rows-held .before in
     let at-if1 = first-5 at-if5 in
     let room = ne-eqb _ _ (more-rows _ _ (known at-if1 .dims-are .some-base) (at-rows-held .rows-held .ensures) (c .if6 .left)) in
-    push-none _ _ _ (at-if1 .before .plain-refusal .ensures) (at-if1 .if1 .left) (past-5 at-if5 (room, tt))
+    push-none _ _ _ (at-if1 .before .plain-refusal-at-push .ensures) (at-if1 .if1 .left) (past-5 at-if5 (room, tt))
 
 pub push-refusal-spec : {M : Type 1} → statement M
 push-refusal-spec =
     tie.close
     (tie.spec
-    plain-refusal-requires
+    plain-refusal-at-push-requires
     returns
     returns-2
     any-not-finite-requires

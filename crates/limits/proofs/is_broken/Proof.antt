@@ -1,36 +1,14 @@
--- `limits::is_broken` meets its contract: each test is one of `breaks`, in its order; the last two are those of the waiting frames.
--- The dimensions' ranges are known once the model's record is sound, so that the products fit.
+-- `limits::is_broken` meets its contract: the first two tests are those of `breaks`, and `counts_broken` makes the others.
 use borrow.Author.Needs.{needs}
-use mathlib.Core.Path.{refl, sym, ap, _∙_}
+use mathlib.Core.Path.{ap}
 use mathlib.Core.Bool.{not}
-use Prim.Native.Nat.{_≤_}
-use native.Mathlib.Nat.{mul-le-mul}
 use native.Mathlib.Omega.{arith}
-use lib.Seq.{length-take-le}
-use borrow.Author.Tests.{lt-ltb, le-ltb}
 use Rattle.definition.specs.Stream.{breaks}
-use Rattle.definition.proofs.Ranges.{DimRanges, dim-ranges, info-sound}
-use Rattle.limits.proofs.Listed.{holds, fails, lt-test, le-test}
-use Rattle.limits.proofs.Records.{broken-at, waiting-last}
-use Rattle.limits.proofs.Rows.{rows-under, rows-reach, frames-few, rows-few}
+use Rattle.definition.proofs.Ranges.{info-sound}
+use Rattle.limits.proofs.Listed.{holds, fails}
+use Rattle.limits.proofs.Records.{broken-at, counts-last}
 use Rattle.limits.proofs.is_broken.Statement.{statement}
 use Rattle.limits.proofs.is_broken.Tie as tie
-
--- once the model's record is sound
-sound : (c : tie.Else1) →
-    let start = c .before .before .before .before .before .before .before .before in
-    DimRanges (start .args .s .info .dims)
-sound c = dim-ranges _ (info-sound _ (holds (c .before .info-sound .ensures) (c .if1 .left)) .0 .dims-are)
-
--- from the test of frames held, and of rows held, back to the third test and to the first
-abbrev third : tie.After-frames-held → tie.Else3
-third c = c .before .before .before .before .before .before
-
-abbrev first : tie.Else3 → tie.Else1
-first c = c .before .before .before .before
-
-abbrev frames-of : tie.After-rows-held → tie.After-frames-held
-frames-of c = c .before .before .before .before
 
 returns : tie.Need-returns
 unfolding breaks
@@ -43,105 +21,18 @@ returns-2 : tie.Need-returns-2
 unfolding breaks
 returns-2 c = broken-at _ _ 1 (omega arith) (ap not (fails (c .before .rooms-fit .ensures) (c .if2 .taken)))
 
+counts-broken-requires : tie.Need-counts-broken-requires
+counts-broken-requires c κs = let at-if1 = c .before .before in info-sound _ (holds (at-if1 .before .info-sound .ensures) (at-if1 .if1 .left)) .0 .dims-are
+
 returns-3 : tie.Need-returns-3
 unfolding breaks
-returns-3 c = broken-at _ _ 2 (omega arith) (lt-ltb _ _ (c .if3 .taken))
-
-returns-4 : tie.Need-returns-4
-unfolding breaks
-returns-4 c = broken-at _ _ 3 (omega arith) (lt-ltb _ _ (c .if4 .taken))
-
-returns-5 : tie.Need-returns-5
-unfolding breaks
-returns-5 c = broken-at _ _ 4 (omega arith) (lt-test (c .before .before .less .ensures) refl (c .if5 .taken))
-
-mul-if6 : tie.Need-mul-if6
-mul-if6 c =
-    let at-frames-held = c .before in
-    let at-if3 = third at-frames-held in
-    let few : at-frames-held .frames-held .result ≤ 1000000000 = omega (arith, frames-few _ _ (at-frames-held .frames-held .ensures), at-if3 .if3 .left) in
-    omega (arith, mul-le-mul few (sound (first at-if3) .base-is))
-
-returns-6 : tie.Need-returns-6
-unfolding breaks
-returns-6 c =
-    let at-frames-held = c .before .before .before in
-    let some = sound (first (third at-frames-held)) .some-base in
-    broken-at _ _ 5 (omega arith) (lt-test refl (at-frames-held .frames-held .ensures) (rows-under _ _ (at-frames-held .frames-held .result) some (c .if6 .taken)))
-
-rows-held-requires : tie.Need-rows-held-requires
-rows-held-requires c κs =
-    let at-if5 = c .before .before .before .before in
-    let at-less = at-if5 .before .before in
-    let at-if4 = at-less .before in
-    let at-if3 = at-if4 .before .before in
-    omega (arith, at-if3 .if3 .left, at-if4 .if4 .left, at-if5 .if5 .left, at-less .less .ensures)
-
-mul-if7 : tie.Need-mul-if7
-mul-if7 c =
-    let at-rows-held = c .before in
-    let at-if3 = third (frames-of at-rows-held) in
-    let few : at-rows-held .rows-held .result ≤ 1000000001 = omega (arith, rows-few _ _ _ (at-rows-held .rows-held .ensures), at-if3 .if3 .left) in
-    omega (arith, mul-le-mul few (sound (first at-if3) .base-is))
-
-returns-7 : tie.Need-returns-7
-unfolding breaks
-returns-7 c =
-    let at-rows-held = c .before .before .before in
-    let some = sound (first (third (frames-of at-rows-held))) .some-base in
-    broken-at _ _ 6 (omega arith) (lt-test refl (at-rows-held .rows-held .ensures) (rows-under _ _ (at-rows-held .rows-held .result) some (c .if7 .taken)))
-
-returns-8 : tie.Need-returns-8
-unfolding breaks
-returns-8 c = broken-at _ _ 7 (omega arith) (lt-test (c .before .before .smaller .ensures) refl (c .if8 .taken))
-
-slice-aggregate-waiting-broken : tie.Need-slice-aggregate-waiting-broken
-slice-aggregate-waiting-broken c = sym (length-take-le _ _ (omega (arith, c .before .smaller2 .ensures)))
-
-returns-9 : tie.Need-returns-9
-unfolding breaks
-returns-9 c =
-    let at-smaller2 = c .before .before in
-    let at-if8 = at-smaller2 .before in
-    let at-smaller = at-if8 .before .before in
-    let at-if7 = at-smaller .before in
-    let at-rows-held = at-if7 .before .before .before in
-    let at-if6 = at-rows-held .before in
-    let at-frames-held = frames-of at-rows-held in
-    let at-if5 = at-frames-held .before in
-    let at-less = at-if5 .before .before in
-    let at-if4 = at-less .before in
-    let at-if3 = third at-frames-held in
-    let at-if2 = at-if3 .before .before in
-    let at-rooms-fit = at-if2 .before in
-    let at-if1 = first at-if3 in
-    let some = sound at-if1 .some-base in
-    c .waiting-broken .ensures ∙ waiting-last _ _ (at-smaller2 .smaller2 .ensures) (
-      ap not (holds (at-if1 .before .info-sound .ensures) (at-if1 .if1 .left)),
-      (
-        ap not (holds (at-rooms-fit .rooms-fit .ensures) (at-if2 .if2 .left)),
-        (
-          le-ltb _ _ (at-if3 .if3 .left),
-          (
-            le-ltb _ _ (at-if4 .if4 .left),
-            (
-              le-test (at-less .less .ensures) refl (at-if5 .if5 .left),
-              (
-                le-test refl (at-frames-held .frames-held .ensures) (rows-reach _ _ (at-frames-held .frames-held .result) some (at-if6 .if6 .left)),
-                (
-                  le-test refl (at-rows-held .rows-held .ensures) (rows-reach _ _ (at-rows-held .rows-held .result) some (at-if7 .if7 .left)),
-                  (le-test (at-smaller .smaller .ensures) refl (at-if8 .if8 .left), tt),
-                ),
-              ),
-            ),
-          ),
-        ),
-      ),
-    )
+returns-3 c =
+    let at-if2 = c .before in
+    let at-if1 = at-if2 .before .before in
+    counts-last _ _ (c .counts-broken .ensures)
+    (ap not (holds (at-if1 .before .info-sound .ensures) (at-if1 .if1 .left)), (ap not (holds (at-if2 .before .rooms-fit .ensures) (at-if2 .if2 .left)), tt))
 
 pub is-broken-spec : {M : Type 1} → statement M
 is-broken-spec =
     tie.close
-    (tie.spec (λ c κs. search needs) returns rooms-fit-requires returns-2 returns-3 returns-4 (λ c κs. search needs)
-    returns-5 (λ c κs. search needs) mul-if6 returns-6 rows-held-requires mul-if7 returns-7 (λ c κs. search needs)
-    returns-8 (λ c κs. search needs) slice-aggregate-waiting-broken (λ c κs. search needs) returns-9)
+    (tie.spec (λ c κs. search needs) returns rooms-fit-requires returns-2 counts-broken-requires returns-3)
