@@ -1,0 +1,266 @@
+use crate::{lengths, sys, IvectorInfo, Refusal};
+use std::fmt;
+
+/// The most entries of one change call.
+pub const MAX_CHANGES: usize = 384;
+
+/// How much a stream has room for. It is allocated when the stream is made, and nothing afterwards.
+///
+/// The default has room for utterances of up to 1,000 frames, whatever the contexts, and for 1,024 changes.
+#[derive(Clone, Copy, Debug, PartialEq, Eq)]
+pub struct Room {
+    /// How many frames may be held at once: those accepted, less those below the mark that [`IvectorStream::forget_before`] raises. A
+    /// caller that fetches and forgets at each utterance's start needs its longest utterance and both contexts
+    /// ([`for_utterances`](Room::for_utterances)).
+    pub frames: usize,
+    /// How many prefix rows may be held, for the CMVN window. `None` is as many as `frames` and the model's window together, which are enough:
+    /// with them no push is refused for want of a row (15).
+    pub rows: Option<usize>,
+    /// How many weight changes may wait for their frames to be fetched. 0 for a stream whose weights are never changed.
+    pub waiting: usize,
+}
+
+impl Default for Room {
+    fn default() -> Self {
+        Room { frames: 1000 + 8 + 8, rows: None, waiting: 1024 }
+    }
+}
+
+impl Room {
+    /// For utterances of at most `longest` frames, fetched and forgotten one by one.
+    pub fn for_utterances(info: &IvectorInfo, longest: usize) -> Room {
+        let o = info.options();
+        Room { frames: longest.saturating_add(o.left_context + o.right_context), ..Room::default() }
+    }
+
+    /// The prefix rows that are had.
+    pub fn rows_for(&self, info: &IvectorInfo) -> usize {
+        self.rows.unwrap_or(self.frames.saturating_add(info.options().cmn_window))
+    }
+
+    /// The bytes of a stream's rooms.
+    pub fn memory(&self, info: &IvectorInfo) -> usize {
+        let l = lengths::rooms(info.dimensions(), self.frames, self.rows_for(info), self.waiting);
+        let (r, e) = (l.rings, l.estimate);
+        4 * (r.frames + r.waiting_weights) + 8 * (r.rows + r.waiting_frames + e.cmvn_stats + e.linear + e.quadratic + e.current + e.scratch)
+    }
+}
+
+/// What a stream holds after a call.
+#[derive(Clone, Copy, Debug, Default, PartialEq, Eq)]
+pub struct Held {
+    /// Frames accepted less the mark.
+    pub frames: usize,
+    /// The prefix rows that they and their windows need.
+    pub rows: usize,
+}
+
+/// What a fetch tells beside its vector.
+#[derive(Clone, Copy, Debug, Default, PartialEq, Eq)]
+pub struct Fetched {
+    /// What the stream holds.
+    pub held: Held,
+    /// How many elements of the vector are not finite.
+    pub not_finite: usize,
+    /// How many likelihoods of the frames that this fetch brought in were NaN, one for each Gaussian and frame. A frame of weight 0 and a
+    /// fetch that brings no frame in count 0.
+    pub nan_likelihoods: usize,
+}
+
+/// The per-stream state: frames as they arrive, statistics up to the last frame asked for, and the current estimate. Old frames are
+/// dropped where [`forget_before`](IvectorStream::forget_before) allows it, so that a stream can stay open all day in the same memory.
+///
+/// A refused call changes nothing.
+pub struct IvectorStream {
+    info: IvectorInfo,
+    record: sys::IvectorStream,
+    held: Held,
+    frames: Vec<f32>,
+    rows: Vec<f64>,
+    waiting_frames: Vec<usize>,
+    waiting_weights: Vec<f32>,
+    cmvn_stats: Vec<f64>,
+    linear: Vec<f64>,
+    quadratic: Vec<f64>,
+    current: Vec<f64>,
+    scratch: Vec<f64>,
+}
+
+impl IvectorStream {
+    /// A fresh stream on a model. Refusal 8 where the room has no frame, or fewer than two rows.
+    #[rustfmt::skip]
+    pub fn new(info: &IvectorInfo, room: Room) -> Result<IvectorStream, Refusal> {
+        let n = lengths::rooms(info.dimensions(), room.frames, room.rows_for(info), room.waiting);
+        let mut frames = vec![0f32; n.rings.frames];
+        let mut rows = vec![0f64; n.rings.rows];
+        let waiting_frames = vec![0usize; n.rings.waiting_frames];
+        let waiting_weights = vec![0f32; n.rings.waiting_weights];
+        let mut cmvn_stats = vec![0f64; n.estimate.cmvn_stats];
+        let mut linear = vec![0f64; n.estimate.linear];
+        let mut quadratic = vec![0f64; n.estimate.quadratic];
+        let mut current = vec![0f64; n.estimate.current];
+        let mut scratch = vec![0f64; n.estimate.scratch];
+        let (loaded, m) = (info.loaded().info, &info.loaded().tables);
+        // SAFETY: every pointer is a slice's with its length, initialised and aligned; what is written is borrowed alone.
+        let a = unsafe {
+            sys::shofrakin_new_stream(
+                loaded,
+                m.gconsts.as_ptr(), m.gconsts.len(), m.means_invvars_t.as_ptr(), m.means_invvars_t.len(),
+                m.inv_vars_t.as_ptr(), m.inv_vars_t.len(), m.sigma_inv_m.as_ptr(), m.sigma_inv_m.len(),
+                m.u.as_ptr(), m.u.len(), m.lda_t.as_ptr(), m.lda_t.len(),
+                m.lda_offset.as_ptr(), m.lda_offset.len(), m.global_mean_stats.as_ptr(), m.global_mean_stats.len(),
+                frames.as_mut_ptr(), frames.len(), rows.as_mut_ptr(), rows.len(),
+                waiting_frames.as_ptr(), waiting_frames.len(), waiting_weights.as_ptr(), waiting_weights.len(),
+                cmvn_stats.as_mut_ptr(), cmvn_stats.len(), linear.as_mut_ptr(), linear.len(),
+                quadratic.as_mut_ptr(), quadratic.len(), current.as_mut_ptr(), current.len(),
+                scratch.as_mut_ptr(), scratch.len(),
+            )
+        };
+        Refusal::of(a.answer.refusal)?;
+        let held = Held { frames: a.answer.frames_held, rows: a.answer.rows_held };
+        Ok(IvectorStream {
+            info: info.clone(), record: a.stream, held, frames, rows, waiting_frames, waiting_weights, cmvn_stats, linear, quadratic, current, scratch,
+        })
+    }
+
+    fn answered(&mut self, a: sys::StreamAnswer) -> Result<Held, Refusal> {
+        Refusal::of(a.refusal)?;
+        self.held = Held { frames: a.frames_held, rows: a.rows_held };
+        Ok(self.held)
+    }
+
+    /// Changes of the weights of input frames, applied as their frames are reached; at most [`MAX_CHANGES`]. From the first such call on,
+    /// even an empty one, fetches are weighted. Refusals 16 to 19.
+    pub fn update_frame_weights(&mut self, deltas: &[(usize, f32)]) -> Result<Held, Refusal> {
+        let (frames, weights): (Vec<usize>, Vec<f32>) = deltas.iter().copied().unzip();
+        self.change(&frames, &weights)
+    }
+
+    /// The same for any number of changes: in as many calls as it takes, at least one, which together do what one would. Where one of them
+    /// is refused, none is taken.
+    pub fn update_frame_weights_in_parts(&mut self, deltas: &[(usize, f32)]) -> Result<Held, Refusal> {
+        if deltas.len() <= MAX_CHANGES {
+            return self.update_frame_weights(deltas);
+        }
+        // a change call writes the record and the waiting lists
+        let before = (self.record, self.held, self.waiting_frames.clone(), self.waiting_weights.clone());
+        for part in deltas.chunks(MAX_CHANGES) {
+            if let Err(r) = self.update_frame_weights(part) {
+                (self.record, self.held, self.waiting_frames, self.waiting_weights) = before;
+                return Err(r);
+            }
+        }
+        Ok(self.held)
+    }
+
+    #[rustfmt::skip]
+    fn change(&mut self, frames: &[usize], weights: &[f32]) -> Result<Held, Refusal> {
+        // SAFETY: as in `new`; the record is borrowed alone, and overlaps no slice.
+        let a = unsafe {
+            sys::shofrakin_update_frame_weights(
+                &mut self.record, frames.as_ptr(), frames.len(), weights.as_ptr(), weights.len(),
+                self.frames.as_ptr(), self.frames.len(), self.rows.as_ptr(), self.rows.len(),
+                self.waiting_frames.as_mut_ptr(), self.waiting_frames.len(), self.waiting_weights.as_mut_ptr(), self.waiting_weights.len(),
+            )
+        };
+        self.answered(a)
+    }
+
+    /// An utterance begins at `frame`, and no change will reach before it: frees what neither it nor a waiting change can need.
+    #[rustfmt::skip]
+    pub fn forget_before(&mut self, frame: usize) -> Result<Held, Refusal> {
+        // SAFETY: as in `change`.
+        let a = unsafe {
+            sys::shofrakin_forget_before(
+                &mut self.record, frame, self.frames.as_ptr(), self.frames.len(), self.rows.as_ptr(), self.rows.len(),
+                self.waiting_frames.as_ptr(), self.waiting_frames.len(), self.waiting_weights.as_ptr(), self.waiting_weights.len(),
+            )
+        };
+        self.answered(a)
+    }
+
+    /// Appends a frame of [`IvectorInfo::base_dim`] numbers. Refusals 11 to 15.
+    #[rustfmt::skip]
+    pub fn push_frame(&mut self, frame: &[f32]) -> Result<Held, Refusal> {
+        // SAFETY: as in `change`.
+        let a = unsafe {
+            sys::shofrakin_push_frame(
+                &mut self.record, frame.as_ptr(), frame.len(),
+                self.frames.as_mut_ptr(), self.frames.len(), self.rows.as_mut_ptr(), self.rows.len(),
+                self.waiting_frames.as_ptr(), self.waiting_frames.len(), self.waiting_weights.as_ptr(), self.waiting_weights.len(),
+            )
+        };
+        self.answered(a)
+    }
+
+    /// No frame needs its right context any more: every accepted frame is ready.
+    #[rustfmt::skip]
+    pub fn set_input_finished(&mut self) -> Result<Held, Refusal> {
+        // SAFETY: as in `change`.
+        let a = unsafe {
+            sys::shofrakin_set_input_finished(
+                &mut self.record, self.frames.as_ptr(), self.frames.len(), self.rows.as_ptr(), self.rows.len(),
+                self.waiting_frames.as_ptr(), self.waiting_frames.len(), self.waiting_weights.as_ptr(), self.waiting_weights.len(),
+            )
+        };
+        self.answered(a)
+    }
+
+    /// The vector at `frame`, into `out` of [`IvectorInfo::ivector_dim`] numbers, a NaN as 7FC00000: statistics are brought up to the frame,
+    /// the estimate is refreshed, and the prior is taken off element 0. Below the statistics it is the current vector. Refusals 20 to 22.
+    #[rustfmt::skip]
+    pub fn get_frame(&mut self, frame: usize, out: &mut [f32]) -> Result<Fetched, Refusal> {
+        let m = &self.info.loaded().tables;
+        // SAFETY: as in `change`; f32 and u32 have the same size and alignment, and any bits are a number of either.
+        let a = unsafe {
+            sys::shofrakin_get_frame(
+                &mut self.record, frame,
+                m.gconsts.as_ptr(), m.gconsts.len(), m.means_invvars_t.as_ptr(), m.means_invvars_t.len(),
+                m.inv_vars_t.as_ptr(), m.inv_vars_t.len(), m.sigma_inv_m.as_ptr(), m.sigma_inv_m.len(),
+                m.u.as_ptr(), m.u.len(), m.lda_t.as_ptr(), m.lda_t.len(),
+                m.lda_offset.as_ptr(), m.lda_offset.len(), m.global_mean_stats.as_ptr(), m.global_mean_stats.len(),
+                self.frames.as_ptr(), self.frames.len(), self.rows.as_ptr(), self.rows.len(),
+                self.waiting_frames.as_mut_ptr(), self.waiting_frames.len(), self.waiting_weights.as_mut_ptr(), self.waiting_weights.len(),
+                self.cmvn_stats.as_mut_ptr(), self.cmvn_stats.len(), self.linear.as_mut_ptr(), self.linear.len(),
+                self.quadratic.as_mut_ptr(), self.quadratic.len(), self.current.as_mut_ptr(), self.current.len(),
+                self.scratch.as_mut_ptr(), self.scratch.len(), out.as_mut_ptr().cast::<u32>(), out.len(),
+            )
+        };
+        let held = self.answered(a)?;
+        Ok(Fetched { held, not_finite: a.not_finite, nan_likelihoods: a.nan_likelihoods })
+    }
+
+    /// How many frames can be fetched: those accepted, less the right context until the input is finished.
+    pub fn num_frames_ready(&self) -> usize {
+        // SAFETY: a record of this stream, that nothing writes meanwhile.
+        unsafe { sys::shofrakin_num_frames_ready(&self.record) }
+    }
+
+    /// The first frame that is not in the statistics.
+    pub fn num_frames_stats(&self) -> usize {
+        // SAFETY: as above.
+        unsafe { sys::shofrakin_num_frames_stats(&self.record) }
+    }
+
+    /// The length of a fetch's output.
+    pub fn ivector_dim(&self) -> usize {
+        // SAFETY: as above.
+        unsafe { sys::shofrakin_ivector_dim(&self.record) }
+    }
+
+    /// What the stream holds.
+    pub fn held(&self) -> Held {
+        self.held
+    }
+
+    /// The model.
+    pub fn info(&self) -> &IvectorInfo {
+        &self.info
+    }
+}
+
+impl fmt::Debug for IvectorStream {
+    fn fmt(&self, f: &mut fmt::Formatter) -> fmt::Result {
+        f.debug_struct("IvectorStream").field("record", &self.record).field("held", &self.held).finish_non_exhaustive()
+    }
+}
