@@ -1,6 +1,8 @@
-/* include/shofrakin.h against the library: a model, a small stream, the scope's examples P9 and P12, and the nearest voice, from C. Prints what differs. */
-#include "shofrakin.h"
+/* include/shofrakin.h and include/shofrakin_live.h against the library: a model, a small stream, the scope's examples P9 and P12, and the nearest
+ * voice, from C, each as the calls are and through the helpers. Prints what differs. */
+#include "shofrakin_live.h"
 #include <stdio.h>
+#include <stdlib.h>
 #include <string.h>
 
 static int wrong;
@@ -106,7 +108,127 @@ static void took(const char *name, shofrakin_stream_answer a, size_t refusal, si
     is("NaN likelihoods", a.nan_likelihoods, 0);
 }
 
+/* A block of exactly so many bytes, so that a sanitizer sees what is past it; and one whose bytes past it are looked at, since the library's
+ * own writes are not seen. */
+enum { PAST = 64 };
+static unsigned char *block(size_t bytes, bool exact) {
+    unsigned char *p = malloc(exact ? bytes : bytes + PAST);
+    if (!p) exit(1);
+    memset(p, 0xa5, exact ? bytes : bytes + PAST);
+    return p;
+}
+static void past(const char *name, const unsigned char *p, size_t bytes) {
+    for (size_t i = 0; i < PAST; i++) is(name, p[bytes + i], 0xa5);
+}
+
+/* The same through the helpers: P9, what is refused, a stream that forgets, the table of P12. */
+static void live(bool exact) {
+    shofrakin_options opts = shofrakin_default_options();
+    shofrakin_model m;
+    shofrakin_live s;
+    uint32_t out[1] = {0};
+    float x = 4, half;
+    is("a default", opts.cmn_window + opts.num_cg_iters, 615);
+    opts.left_context = opts.right_context = 0;
+    opts.posterior_scale = 0.25f;
+    model(1, 1);
+    shofrakin_files f = {gmm.b, gmm.len, extractor.b, extractor.len, lda.b, lda.len, (const uint8_t *)cmvn_text, sizeof cmvn_text - 1};
+    size_t n = shofrakin_model_memory(opts, f);
+    is("a model's memory", n, 8 * (1 + 1 + 2 + 2) + 4 * 5);
+    unsigned char *tables = block(n, exact);
+    is("a model, short block", shofrakin_model_open(&m, opts, f, tables, n - 1), 8);
+    is("a model, no block", shofrakin_model_open(&m, opts, f, NULL, n), 8);
+    is("its block", tables[0] == 0xa5 && tables[n - 1] == 0xa5, true);
+    is("a stream on a refused model", shofrakin_live_open(&s, &m, (shofrakin_room){4, 0, 0}, tables, n), 10);
+    opts.cmn_window = 0;
+    is("a model, window 0", shofrakin_model_open(&m, opts, f, tables, n), 1);
+    opts.cmn_window = 600;
+    for (size_t i = 0; i < gmm.len; i++) {
+        f.gmm_len = i;
+        is("a model that is cut", shofrakin_model_open(&m, opts, f, tables, n), 2);
+    }
+    f.gmm_len = gmm.len;
+    for (size_t i = 0; i < extractor.len; i++) {
+        f.extractor_len = i;
+        is("an extractor that is cut", shofrakin_model_open(&m, opts, f, tables, n), 2);
+    }
+    f.extractor_len = extractor.len;
+    for (size_t i = 0; i < lda.len; i++) {
+        f.lda_len = i;
+        is("an LDA that is cut", shofrakin_model_open(&m, opts, f, tables, n), 2);
+    }
+    f.lda_len = lda.len;
+    for (size_t i = 0; i < f.cmvn_len - 1; i++) {
+        shofrakin_files g = f;
+        g.cmvn_len = i;
+        is("a text that is cut", shofrakin_model_open(&m, opts, g, tables, n), 7);
+    }
+    is("a model", shofrakin_model_open(&m, opts, f, tables, n), 0);
+    is("its base dimension", m.info.dims.base_dim, 1);
+    if (!exact) past("past a model's block", tables, n);
+
+    shofrakin_room room = {4, 0, 3};
+    size_t k = shofrakin_live_memory(&m, room);
+    is("a stream's memory", k, 8 * (604 + 2 + 1 + 1 + 1 + 1 + 3) + 4 * (4 + 3));
+    is("a stream of too many frames", shofrakin_live_memory(&m, (shofrakin_room){SIZE_MAX / 2, 0, 0}) == SIZE_MAX, true);
+    unsigned char *rooms = block(k, exact);
+    is("a stream, short block", shofrakin_live_open(&s, &m, room, rooms, k - 1), 8);
+    is("a call on it", shofrakin_live_set_input_finished(&s).refusal, 10);
+    is("a stream, no block", shofrakin_live_open(&s, &m, room, NULL, k), 8);
+    is("a call on it", shofrakin_live_push_frame(&s, &x, 1).refusal, 10);
+    is("a stream of no frames", shofrakin_live_open(&s, &m, (shofrakin_room){0, 9, 0}, rooms, k), 8);
+    is("a stream", shofrakin_live_open(&s, &m, room, rooms, k), 0);
+    took("P9's push", shofrakin_live_push_frame(&s, &x, 1), 0, 1, 2);
+    took("a longer frame", shofrakin_live_push_frame(&s, (float[]){1, 2}, 2), 11, 1, 2);
+    took("P9's fetch", shofrakin_live_get_frame(&s, 0, out, 1), 0, 1, 2);
+    memcpy(&half, out, 4);
+    is("P9", half, 0.5);
+    is("ready", shofrakin_live_num_frames_ready(&s), 1);
+    is("next", shofrakin_live_num_frames_stats(&s), 1);
+    is("i-vector dimension", shofrakin_live_ivector_dim(&s), 1);
+    for (int t = 1; t < 2000; t++) {
+        x = (float)(t % 90);
+        is("push", shofrakin_live_push_frame(&s, &x, 1).refusal, 0);
+        if (t % 3 == 0) {
+            is("fetch", shofrakin_live_get_frame(&s, t, out, 1).refusal, 0);
+            is("forget", shofrakin_live_forget_before(&s, t + 1).frames_held, 0);
+        }
+    }
+    size_t at[3] = {2001, 2000, 1998};
+    float w[3] = {1, 0.5f, 1};
+    is("a change that is behind", shofrakin_live_update_frame_weights(&s, at, w, 3).refusal, 18);
+    is("a change", shofrakin_live_update_frame_weights(&s, at, w, 2).refusal, 0);
+    is("a fetch that is too far", shofrakin_live_get_frame(&s, 2000, out, 1).refusal, 21);
+    is("finish", shofrakin_live_set_input_finished(&s).refusal, 0);
+    if (!exact) past("past a stream's block", rooms, k);
+
+    const int32_t phones[2] = {1, 2}, path[1] = {2};
+    size_t by[16], from[1] = {0}, to[1] = {2};
+    float weights[16];
+    shofrakin_silence_live table;
+    size_t q = shofrakin_silence_live_memory(8);
+    unsigned char *places = block(q, exact);
+    is("a table, short block", shofrakin_silence_live_open(&table, phones, 2, 0.25f, 3, 8, places, q - 1), 8);
+    is("a table, subsampling 17", shofrakin_silence_live_open(&table, phones, 2, 0.25f, 17, 8, places, q), 9);
+    is("a table", shofrakin_silence_live_open(&table, phones, 2, 0.25f, 3, 8, places, q), 0);
+    is("active", shofrakin_silence_live_active(&table), true);
+    shofrakin_input_frame ready = {4}, first = {0};
+    shofrakin_silence_counts d = shofrakin_silence_live_delta_weights(&table, ready, first, by, weights, 16);
+    is("P12", d.refusal == 0 && d.changes == 6 && by[5] == 5 && weights[5] == 0.25f, true);
+    is("lists too short", shofrakin_silence_live_delta_weights(&table, ready, first, by, weights, 2).refusal, 24);
+    d = shofrakin_silence_live_traceback(&table, path, from, to, 1, (shofrakin_decoder_frame){3});
+    is("traceback", d.refusal == 0 && table.silence.length.number == 3 && table.known[1] && !table.known[2], true);
+    is("traceback past the table", shofrakin_silence_live_traceback(&table, path, from, to, 1, (shofrakin_decoder_frame){9}).refusal, 23);
+    if (!exact) past("past a table's block", places, q);
+    for (size_t i = 0; i < 40; i++) is("a sentence", strlen(shofrakin_sentence(i)) > 4, true);
+    free(places);
+    free(rooms);
+    free(tables);
+}
+
 int main(void) {
+    live(true);
+    live(false);
     shofrakin_options opts = {.left_context = 1, .right_context = 1, .cmn_window = 2, .global_frames = 200, .num_gselect = 5,
         .num_cg_iters = 15, .min_post = 0.025f, .posterior_scale = 0.1f, .max_count = 100, .min_energy = 50};
     model(3, 1.5);
@@ -255,6 +377,6 @@ int main(void) {
     is("a limit below 0", shofrakin_nearest_voice(2, asked, 2, 3, voices, 6, -1).refusal, 29);
     voices[5] = 0x7fc00000;
     is("a voice that is not finite", shofrakin_nearest_voice(2, asked, 2, 3, voices, 6, 1).refusal, 29);
-    printf(wrong ? "%d differ\n" : "the header fits the library\n", wrong);
+    printf(wrong ? "%d differ\n" : "the headers fit the library\n", wrong);
     return wrong != 0;
 }

@@ -27,7 +27,12 @@ pub fn load_scratch(d: &Dimensions) -> usize {
 pub fn rooms(d: &Dimensions, frames: usize, rows: usize, waiting: usize) -> RoomLengths {
     let s = d.ivector_dim;
     RoomLengths {
-        rings: RingLengths { frames: frames * d.base_dim, rows: rows * d.base_dim, waiting_frames: waiting, waiting_weights: waiting },
+        rings: RingLengths {
+            frames: frames.saturating_mul(d.base_dim),
+            rows: rows.saturating_mul(d.base_dim),
+            waiting_frames: waiting,
+            waiting_weights: waiting,
+        },
         estimate: EstimateLengths {
             cmvn_stats: d.base_dim + 1,
             linear: s,

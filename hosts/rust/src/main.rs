@@ -204,7 +204,7 @@ impl Tally {
 
     fn frame(&mut self) {
         self.frames += 1;
-        if self.terminal && self.frames.is_multiple_of(64) && self.said.elapsed() > Duration::from_millis(200) {
+        if self.terminal && self.frames & 63 == 0 && self.said.elapsed() > Duration::from_millis(200) {
             self.said = Instant::now();
             eprint!("\r{} utterances, {}\x1b[K", self.utterances, self.rate());
         }

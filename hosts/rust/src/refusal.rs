@@ -26,7 +26,12 @@ impl Refusal {
 
     /// What it says, without the number and without a full stop.
     pub fn sentence(self) -> &'static str {
-        match self.0 {
+        Refusal::sentence_of(self.0).unwrap_or("a number that this crate has no sentence for")
+    }
+
+    /// What a number says; nothing for one that is no refusal. The sentences are those of include/shofrakin_live.h.
+    pub fn sentence_of(number: usize) -> Option<&'static str> {
+        Some(match number {
             1 => "an option is outside its range",
             2 => "the bytes end before an item does",
             3 => "the mark, a token or a size byte is wrong",
@@ -55,8 +60,8 @@ impl Refusal {
             27 => "no vector is enrolled, or more than 32 are",
             28 => "a vector's length is not the dimension",
             29 => "a number of a vector or the limit is not finite, or the limit is below 0",
-            _ => "a number that this crate has no sentence for",
-        }
+            _ => return None,
+        })
     }
 }
 

@@ -40,9 +40,11 @@ impl Room {
 
     /// The bytes of a stream's rooms.
     pub fn memory(&self, info: &IvectorInfo) -> usize {
-        let l = lengths::rooms(info.dimensions(), self.frames, self.rows_for(info), self.waiting);
-        let (r, e) = (l.rings, l.estimate);
-        4 * (r.frames + r.waiting_weights) + 8 * (r.rows + r.waiting_frames + e.cmvn_stats + e.linear + e.quadratic + e.current + e.scratch)
+        let n = lengths::rooms(info.dimensions(), self.frames, self.rows_for(info), self.waiting);
+        let (r, e) = (n.rings, n.estimate);
+        let floats = [r.frames, r.waiting_weights].map(|n| n.saturating_mul(4));
+        let others = [r.rows, r.waiting_frames, e.cmvn_stats, e.linear, e.quadratic, e.current, e.scratch].map(|n| n.saturating_mul(8));
+        floats.into_iter().chain(others).fold(0, usize::saturating_add)
     }
 }
 

@@ -1,6 +1,7 @@
 //! src/sys.rs against include/shofrakin.h: the same records with the same fields, the same calls with the same arguments, and, where a C
 //! compiler is at hand, the same sizes and places.
 use shofrakin::sys::RECORDS;
+use shofrakin::Refusal;
 use std::collections::BTreeMap;
 use std::process::Command;
 
@@ -126,4 +127,17 @@ fn records_lie_as_in_c() {
             assert_eq!(String::from_utf8(out.stdout).unwrap(), want);
         }
     }
+}
+
+#[test]
+fn sentences_are_the_c_helpers() {
+    let text = std::fs::read_to_string(format!("{ROOT}/include/shofrakin_live.h")).unwrap();
+    let mut have = BTreeMap::new();
+    for line in text.lines().map(str::trim).filter_map(|l| l.strip_prefix("case ")) {
+        let (number, rest) = line.split_once(": return \"").unwrap();
+        have.insert(number.parse::<usize>().unwrap(), rest.strip_suffix("\";").unwrap());
+    }
+    assert_eq!(have.remove(&0), Some("taken"));
+    let want: BTreeMap<_, _> = (0..100).filter_map(|n| Some((n, Refusal::sentence_of(n)?))).collect();
+    assert_eq!(have, want);
 }

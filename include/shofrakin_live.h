@@ -1,0 +1,408 @@
+/* Shofrakin for C, a model and a stream at a time: what shofrakin.h lends to each call again is kept together here, so that a call has its
+ * own arguments only. Header only, over shofrakin.h; nothing is allocated: the caller gives each model, stream or table one block of
+ * memory, as long as its .._memory function tells (aligned as malloc does), and keeps it and the struct where they are as long as it is used.
+ *
+ * What shofrakin.h asks of a caller is seen to: blocks are cleared, rooms lie beside each other in them and have the lengths that the
+ * record was made with, bools are 0 or 1. Left to the caller: no pointer is null, files and lists are initialised and overlap no
+ * block, and a stream, or a table, is used by one thread at a time. A model is only read once it is open, and may be shared.
+ *
+ *     shofrakin_model m;
+ *     size_t n = shofrakin_model_memory(opts, files);
+ *     size_t refusal = shofrakin_model_open(&m, opts, files, malloc(n), n);
+ *     shofrakin_live s;
+ *     shofrakin_room room = {100, 0, 0};
+ *     n = shofrakin_live_memory(&m, room);
+ *     refusal = shofrakin_live_open(&s, &m, room, malloc(n), n);
+ *     shofrakin_stream_answer a = shofrakin_live_push_frame(&s, frame, m.info.dims.base_dim);
+ */
+#ifndef SHOFRAKIN_LIVE_H
+#define SHOFRAKIN_LIVE_H
+
+#include "shofrakin.h"
+#include <string.h>
+
+#ifdef __cplusplus
+extern "C" {
+#endif
+
+/* What a refusal's number says. */
+static inline const char *shofrakin_sentence(size_t refusal) {
+    switch (refusal) {
+    case 0: return "taken";
+    case 1: return "an option is outside its range";
+    case 2: return "the bytes end before an item does";
+    case 3: return "the mark, a token or a size byte is wrong";
+    case 4: return "a dimension is outside its limits";
+    case 5: return "dimensions disagree";
+    case 6: return "a number is not finite, or a weight or inverse variance is not above 0";
+    case 7: return "the CMVN text breaks its form";
+    case 8: return "a lent room is too short";
+    case 9: return "the silence settings are outside their limits";
+    case 10: return "the record was made by no call, or for rooms of other lengths";
+    case 11: return "the frame's length is not the model's base dimension";
+    case 12: return "a number of the frame is not finite";
+    case 13: return "1,000,000,000 frames are in";
+    case 14: return "the frame room is full";
+    case 15: return "the row room is full";
+    case 16: return "the change lists differ in length, or are longer than 384";
+    case 17: return "a change names a frame of 1,000,000,000 or more, or its weight is not finite";
+    case 18: return "a change names a frame that is no longer kept";
+    case 19: return "there is no room for that many waiting changes";
+    case 20: return "the output's length is not the i-vector dimension";
+    case 21: return "the frame is not ready";
+    case 22: return "the frame is above the highest changed one";
+    case 23: return "more decoder frames than the silence table has, or a frame number too high";
+    case 24: return "the silence lists differ in length, or are too short for the answer";
+    case 25: return "a settings text is not ASCII, or longer than 65,536 bytes";
+    case 27: return "no vector is enrolled, or more than 32 are";
+    case 28: return "a vector's length is not the dimension";
+    case 29: return "a number of a vector or the limit is not finite, or the limit is below 0";
+    default: return "a number that this header has no sentence for";
+    }
+}
+
+/* The original's defaults. */
+static inline shofrakin_options shofrakin_default_options(void) {
+    shofrakin_options o = {3, 3, 600, 200, 5, 15, 0.025f, 0.1f, 100, 50};
+    return o;
+}
+
+/* ---- the model */
+
+/* The bytes of a model's four files: final.dubm, final.ie, final.mat and global_cmvn.stats. */
+typedef struct {
+    const uint8_t *gmm;
+    size_t gmm_len;
+    const uint8_t *extractor;
+    size_t extractor_len;
+    const uint8_t *lda;
+    size_t lda_len;
+    const uint8_t *cmvn;
+    size_t cmvn_len;
+} shofrakin_files;
+
+/* A loaded model: its record, and the tables that it is about. */
+typedef struct {
+    shofrakin_info info;
+    double *sigma_inv_m;
+    double *u;
+    double *global_mean_stats;
+    float *gconsts;
+    float *means_invvars_t;
+    float *inv_vars_t;
+    float *lda_t;
+    float *lda_offset;
+} shofrakin_model;
+
+/* What is left of a file; once something of it is not as it should be, nothing. */
+typedef struct {
+    const uint8_t *at;
+    size_t left;
+    bool good;
+} shofrakin_rest;
+
+static inline const uint8_t *shofrakin_rest_skip(shofrakin_rest *r, size_t n) {
+    const uint8_t *p = r->at;
+    if (!r->good || n > r->left) {
+        r->good = false;
+        r->left = 0;
+        return p;
+    }
+    r->at += n;
+    r->left -= n;
+    return p;
+}
+
+static inline shofrakin_rest shofrakin_rest_of(const uint8_t *p, size_t n) {
+    shofrakin_rest r = {p, n, true};
+    const uint8_t *mark = shofrakin_rest_skip(&r, 2);
+    r.good = r.good && mark[0] == 0 && mark[1] == 'B';
+    return r;
+}
+
+/* Whether the next word is this one; it is passed over if so. */
+static inline bool shofrakin_rest_word(shofrakin_rest *r, const char *word) {
+    size_t i = 0, n = strlen(word);
+    while (r->good && i < r->left && (r->at[i] == ' ' || r->at[i] == '\n' || r->at[i] == '\t')) i++;
+    if (!r->good || r->left - i <= n || memcmp(r->at + i, word, n) != 0) return false;
+    if (r->at[i + n] != ' ' && r->at[i + n] != '\n' && r->at[i + n] != '\t') return false;
+    shofrakin_rest_skip(r, i + n + 1);
+    return true;
+}
+
+static inline void shofrakin_rest_expect(shofrakin_rest *r, const char *word) { r->good = shofrakin_rest_word(r, word) && r->good; }
+
+static inline size_t shofrakin_rest_number(shofrakin_rest *r) {
+    const uint8_t *p = shofrakin_rest_skip(r, 5);
+    r->good = r->good && p[0] == 4 && p[4] < 128;
+    return r->good ? (size_t)p[1] | (size_t)p[2] << 8 | (size_t)p[3] << 16 | (size_t)p[4] << 24 : 0;
+}
+
+/* Passes over a vector or a matrix, by its words for floats and doubles; rows are 1 for a vector. */
+static inline void shofrakin_rest_block(shofrakin_rest *r, const char *floats, const char *doubles, size_t *rows, size_t *columns) {
+    size_t width = shofrakin_rest_word(r, floats) ? 4 : 8;
+    if (width == 8) shofrakin_rest_expect(r, doubles);
+    *rows = floats[1] == 'M' ? shofrakin_rest_number(r) : 1;
+    *columns = shofrakin_rest_number(r);
+    r->good = r->good && (*rows == 0 || *columns <= r->left / width / *rows);
+    if (r->good) shofrakin_rest_skip(r, *rows * *columns * width);
+}
+
+/* The dimensions that the files speak of. False where they are not read that far, or they or the contexts are above their limits: a
+ * load refuses such files whatever it is lent. Nothing of it is believed: the load reads the files on its own, and sees to its rooms. */
+static inline bool shofrakin_files_dimensions(shofrakin_options o, shofrakin_files f, shofrakin_dimensions *d) {
+    size_t rows, columns, i = 0, words = 0;
+    bool inside = false;
+    shofrakin_rest r = shofrakin_rest_of(f.gmm, f.gmm_len);
+    shofrakin_rest_expect(&r, "<DiagGMM>");
+    if (shofrakin_rest_word(&r, "<GCONSTS>")) shofrakin_rest_block(&r, "FV", "DV", &rows, &columns);
+    shofrakin_rest_expect(&r, "<WEIGHTS>");
+    shofrakin_rest_block(&r, "FV", "DV", &rows, &columns);
+    shofrakin_rest_expect(&r, "<MEANS_INVVARS>");
+    shofrakin_rest_block(&r, "FM", "DM", &d->num_gauss, &d->feat_dim);
+    if (!r.good) return false;
+    r = shofrakin_rest_of(f.extractor, f.extractor_len);
+    shofrakin_rest_expect(&r, "<IvectorExtractor>");
+    shofrakin_rest_expect(&r, "<w>");
+    shofrakin_rest_block(&r, "FM", "DM", &rows, &columns);
+    shofrakin_rest_expect(&r, "<w_vec>");
+    shofrakin_rest_block(&r, "FV", "DV", &rows, &columns);
+    shofrakin_rest_expect(&r, "<M>");
+    d->ext_gauss = shofrakin_rest_number(&r);
+    shofrakin_rest_block(&r, "FM", "DM", &rows, &d->ivector_dim);
+    if (!r.good) return false;
+    r = shofrakin_rest_of(f.lda, f.lda_len);
+    shofrakin_rest_block(&r, "FM", "DM", &rows, &d->lda_cols);
+    if (!r.good) return false;
+    /* the first line of the text with numbers: one for each dimension, and the count */
+    for (; i < f.cmvn_len; i++) {
+        uint8_t c = f.cmvn[i];
+        bool blank = c == ' ' || (c >= 9 && c <= 13) || c == '[' || c == ']';
+        words += !blank && !inside;
+        inside = !blank;
+        if (words && (c == '\n' || c == ']')) break;
+    }
+    if (words < 2) return false;
+    d->base_dim = words - 1;
+    return o.left_context <= 8 && o.right_context <= 8 && d->num_gauss - 1 < 1024 && d->ext_gauss - 1 < 1024 && d->feat_dim - 1 < 64 &&
+        d->ivector_dim - 1 < 128 && d->base_dim - 1 < 64;
+}
+
+/* The lengths of the tables, and of a load's scratch. */
+static inline shofrakin_table_lengths shofrakin_lengths_of_tables(shofrakin_options o, shofrakin_dimensions d) {
+    size_t s = d.ivector_dim;
+    shofrakin_table_lengths n = {d.num_gauss, d.feat_dim * d.num_gauss, d.feat_dim * d.num_gauss, d.ext_gauss * d.feat_dim * s,
+        d.ext_gauss * (s * (s + 1) / 2), d.base_dim * (o.left_context + 1 + o.right_context) * d.feat_dim, d.feat_dim, d.base_dim + 1};
+    return n;
+}
+
+static inline size_t shofrakin_load_scratch(shofrakin_dimensions d) { return d.feat_dim * (d.feat_dim + 1) / 2 + d.feat_dim * d.ivector_dim; }
+
+/* How many bytes of memory a model takes; 0 for files that a load refuses. */
+static inline size_t shofrakin_model_memory(shofrakin_options opts, shofrakin_files files) {
+    shofrakin_dimensions d;
+    shofrakin_table_lengths n;
+    if (!shofrakin_files_dimensions(opts, files, &d)) return 0;
+    n = shofrakin_lengths_of_tables(opts, d);
+    return sizeof(double) * (n.sigma_inv_m + n.u + n.global_mean_stats + shofrakin_load_scratch(d)) +
+        sizeof(float) * (n.gconsts + n.means_invvars_t + n.inv_vars_t + n.lda_t + n.lda_offset);
+}
+
+/* Loads a model into a block of memory. Its refusal: 1 to 8, or 0. */
+static inline size_t shofrakin_model_open(shofrakin_model *m, shofrakin_options opts, shofrakin_files f, void *memory, size_t bytes) {
+    static const shofrakin_table_lengths none = {0, 0, 0, 0, 0, 0, 0, 0};
+    static double any; /* an address for rooms of no length */
+    double *d = &any;
+    size_t scratch = 0, need = shofrakin_model_memory(opts, f);
+    shofrakin_table_lengths n = none;
+    shofrakin_dimensions dims;
+    shofrakin_load_answer a;
+    /* in a block that is too short, or for files that are refused, no room is lent: a load refuses that itself */
+    if (need > 0 && memory && bytes >= need && shofrakin_files_dimensions(opts, f, &dims)) {
+        n = shofrakin_lengths_of_tables(opts, dims);
+        scratch = shofrakin_load_scratch(dims);
+        memset(memory, 0, need);
+        d = (double *)memory;
+    }
+    m->sigma_inv_m = d;
+    m->u = m->sigma_inv_m + n.sigma_inv_m;
+    m->global_mean_stats = m->u + n.u;
+    d = m->global_mean_stats + n.global_mean_stats;
+    m->gconsts = (float *)(d + scratch);
+    m->means_invvars_t = m->gconsts + n.gconsts;
+    m->inv_vars_t = m->means_invvars_t + n.means_invvars_t;
+    m->lda_t = m->inv_vars_t + n.inv_vars_t;
+    m->lda_offset = m->lda_t + n.lda_t;
+    a = shofrakin_load(opts, f.gmm, f.gmm_len, f.extractor, f.extractor_len, f.lda, f.lda_len, f.cmvn, f.cmvn_len,
+        m->gconsts, n.gconsts, m->means_invvars_t, n.means_invvars_t, m->inv_vars_t, n.inv_vars_t, m->sigma_inv_m, n.sigma_inv_m,
+        m->u, n.u, m->lda_t, n.lda_t, m->lda_offset, n.lda_offset, m->global_mean_stats, n.global_mean_stats, d, scratch);
+    m->info = a.info;
+    return a.refusal;
+}
+
+/* ---- the stream */
+
+/* How much a stream has room for: frames that may be held at once (a caller that fetches and forgets at each utterance's start needs its
+ * longest utterance and both contexts), prefix rows (0: as many as the frames and the window, which are enough), and changes that wait. */
+typedef struct {
+    size_t frames;
+    size_t rows;
+    size_t waiting;
+} shofrakin_room;
+
+/* A stream: its model, its record and its rooms. */
+typedef struct {
+    const shofrakin_model *model;
+    shofrakin_stream stream;
+    double *rows;
+    double *cmvn_stats;
+    double *linear;
+    double *quadratic;
+    double *current;
+    double *scratch;
+    size_t *waiting_frames;
+    float *frames;
+    float *waiting_weights;
+} shofrakin_live;
+
+static inline shofrakin_room_lengths shofrakin_lengths_of_rooms(const shofrakin_model *m, shofrakin_room room) {
+    shofrakin_dimensions d = m->info.dims;
+    size_t s = d.ivector_dim, gd = d.num_gauss * d.feat_dim, rows = room.rows ? room.rows : room.frames + m->info.opts.cmn_window;
+    shofrakin_room_lengths n = {{room.frames * d.base_dim, rows * d.base_dim, room.waiting, room.waiting},
+        {d.base_dim + 1, s, s * (s + 1) / 2, s, gd > s * s ? gd : s * s}};
+    return n;
+}
+
+/* How many bytes of memory a stream takes. No memory is large enough for more than 1,000,000,000 frames, rows or changes. */
+static inline size_t shofrakin_live_memory(const shofrakin_model *m, shofrakin_room room) {
+    const size_t most = 1000000000;
+    shofrakin_room_lengths n;
+    if (room.frames > most || room.rows > most || room.waiting > most) return SIZE_MAX;
+    n = shofrakin_lengths_of_rooms(m, room);
+    return sizeof(double) * (n.rings.rows + n.estimate.cmvn_stats + n.estimate.linear + n.estimate.quadratic + n.estimate.current +
+               n.estimate.scratch) +
+        sizeof(size_t) * n.rings.waiting_frames + sizeof(float) * (n.rings.frames + n.rings.waiting_weights);
+}
+
+/* The tables and rooms of a stream, as the calls are lent them. */
+#define SHOFRAKIN_TABLES_(m) (m)->gconsts, (m)->info.tables.gconsts, (m)->means_invvars_t, (m)->info.tables.means_invvars_t, \
+    (m)->inv_vars_t, (m)->info.tables.inv_vars_t, (m)->sigma_inv_m, (m)->info.tables.sigma_inv_m, (m)->u, (m)->info.tables.u, \
+    (m)->lda_t, (m)->info.tables.lda_t, (m)->lda_offset, (m)->info.tables.lda_offset, (m)->global_mean_stats, (m)->info.tables.global_mean_stats
+#define SHOFRAKIN_RINGS_(s, n) (s)->frames, (n).rings.frames, (s)->rows, (n).rings.rows, (s)->waiting_frames, (n).rings.waiting_frames, \
+    (s)->waiting_weights, (n).rings.waiting_weights
+#define SHOFRAKIN_ESTIMATE_(s, n) (s)->cmvn_stats, (n).estimate.cmvn_stats, (s)->linear, (n).estimate.linear, (s)->quadratic, \
+    (n).estimate.quadratic, (s)->current, (n).estimate.current, (s)->scratch, (n).estimate.scratch
+
+/* A fresh stream in a block of memory, on a model that is open. Its refusal: 8, or 10 on a model that was refused. */
+static inline size_t shofrakin_live_open(shofrakin_live *s, const shofrakin_model *m, shofrakin_room room, void *memory, size_t bytes) {
+    static const shofrakin_room_lengths none = {{0, 0, 0, 0}, {0, 0, 0, 0, 0}};
+    static double any; /* an address for rooms of no length */
+    double *d = &any;
+    shofrakin_room_lengths n = none;
+    shofrakin_new_stream_answer a;
+    size_t need = shofrakin_live_memory(m, room);
+    if (memory && bytes >= need) {
+        n = shofrakin_lengths_of_rooms(m, room);
+        memset(memory, 0, need);
+        d = (double *)memory;
+    }
+    s->model = m;
+    s->rows = d;
+    s->cmvn_stats = s->rows + n.rings.rows;
+    s->linear = s->cmvn_stats + n.estimate.cmvn_stats;
+    s->quadratic = s->linear + n.estimate.linear;
+    s->current = s->quadratic + n.estimate.quadratic;
+    s->scratch = s->current + n.estimate.current;
+    s->waiting_frames = (size_t *)(s->scratch + n.estimate.scratch);
+    s->frames = (float *)(s->waiting_frames + n.rings.waiting_frames);
+    s->waiting_weights = s->frames + n.rings.frames;
+    a = shofrakin_new_stream(m->info, SHOFRAKIN_TABLES_(m), SHOFRAKIN_RINGS_(s, n), SHOFRAKIN_ESTIMATE_(s, n));
+    s->stream = a.stream;
+    return a.answer.refusal;
+}
+
+/* The calls of shofrakin.h by the same names. Refusals 11 to 15. */
+static inline shofrakin_stream_answer shofrakin_live_push_frame(shofrakin_live *s, const float *frame, size_t frame_len) {
+    return shofrakin_push_frame(&s->stream, frame, frame_len, SHOFRAKIN_RINGS_(s, s->stream.lengths));
+}
+
+static inline shofrakin_stream_answer shofrakin_live_set_input_finished(shofrakin_live *s) {
+    return shofrakin_set_input_finished(&s->stream, SHOFRAKIN_RINGS_(s, s->stream.lengths));
+}
+
+/* Refusals 16 to 19. */
+static inline shofrakin_stream_answer shofrakin_live_update_frame_weights(
+    shofrakin_live *s, const size_t *delta_frames, const float *delta_weights, size_t len) {
+    return shofrakin_update_frame_weights(&s->stream, delta_frames, len, delta_weights, len, SHOFRAKIN_RINGS_(s, s->stream.lengths));
+}
+
+static inline shofrakin_stream_answer shofrakin_live_forget_before(shofrakin_live *s, size_t frame) {
+    return shofrakin_forget_before(&s->stream, frame, SHOFRAKIN_RINGS_(s, s->stream.lengths));
+}
+
+/* The vector's bits, for a memcpy into floats. Refusals 20 to 22. */
+static inline shofrakin_stream_answer shofrakin_live_get_frame(shofrakin_live *s, size_t frame, uint32_t *out, size_t out_len) {
+    return shofrakin_get_frame(&s->stream, frame, SHOFRAKIN_TABLES_(s->model), SHOFRAKIN_RINGS_(s, s->stream.lengths),
+        SHOFRAKIN_ESTIMATE_(s, s->stream.lengths), out, out_len);
+}
+
+static inline size_t shofrakin_live_num_frames_ready(const shofrakin_live *s) { return shofrakin_num_frames_ready(&s->stream); }
+
+static inline size_t shofrakin_live_ivector_dim(const shofrakin_live *s) { return shofrakin_ivector_dim(&s->stream); }
+
+static inline size_t shofrakin_live_num_frames_stats(const shofrakin_live *s) { return shofrakin_num_frames_stats(&s->stream); }
+
+/* ---- the silence table */
+
+/* A silence table: its record, its phones, which the caller keeps, and its rooms. */
+typedef struct {
+    shofrakin_silence silence;
+    const int32_t *silence_phones;
+    float *current_weight;
+    bool *known;
+    bool *is_silence;
+} shofrakin_silence_live;
+
+/* How many bytes of memory a table of so many decoder frames takes. No memory is large enough for more than 1,000,000. */
+static inline size_t shofrakin_silence_live_memory(size_t table) {
+    return table > 1000000 ? SIZE_MAX : table * (sizeof(float) + 2 * sizeof(bool));
+}
+
+/* A table in a block of memory. Its refusal: 8 for a block that is too short, or 9. */
+static inline size_t shofrakin_silence_live_open(shofrakin_silence_live *s, const int32_t *silence_phones, size_t silence_phones_len,
+    float silence_weight, size_t subsampling, size_t table, void *memory, size_t bytes) {
+    size_t need = shofrakin_silence_live_memory(table);
+    shofrakin_new_table_answer a;
+    if (!memory || bytes < need) return 8;
+    memset(memory, 0, need);
+    s->silence_phones = silence_phones;
+    s->current_weight = (float *)memory;
+    s->known = (bool *)(s->current_weight + table);
+    s->is_silence = s->known + table;
+    a = shofrakin_new_silence_weighting(silence_phones, silence_phones_len, silence_weight, subsampling, table);
+    s->silence = a.silence;
+    return a.refusal;
+}
+
+static inline bool shofrakin_silence_live_active(const shofrakin_silence_live *s) { return shofrakin_silence_active(&s->silence); }
+
+/* Refusals 10, 23. */
+static inline shofrakin_silence_counts shofrakin_silence_live_traceback(shofrakin_silence_live *s, const int32_t *segment_phones,
+    const size_t *starts, const size_t *ends, size_t segments, shofrakin_decoder_frame num_frames_decoded) {
+    return shofrakin_compute_current_traceback(&s->silence, s->silence_phones, s->silence.phones, s->known, s->silence.table,
+        s->is_silence, s->silence.table, s->current_weight, s->silence.table, segment_phones, segments, starts, segments, ends, segments,
+        num_frames_decoded);
+}
+
+/* Refusals 10, 23, 24. */
+static inline shofrakin_silence_counts shofrakin_silence_live_delta_weights(shofrakin_silence_live *s,
+    shofrakin_input_frame num_frames_ready, shofrakin_input_frame first_decoder_frame, size_t *frames, float *weights, size_t len) {
+    return shofrakin_get_delta_weights(&s->silence, s->known, s->silence.table, s->is_silence, s->silence.table, s->current_weight,
+        s->silence.table, num_frames_ready, first_decoder_frame, frames, len, weights, len);
+}
+
+#ifdef __cplusplus
+}
+#endif
+
+#endif
