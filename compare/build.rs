@@ -1,6 +1,7 @@
 //! Reads the original Rust from the folder UTTER_SRC at build time, patches it and writes two variants into OUT_DIR: `orig.rs` (as
 //! published, with the scope's exponential and logarithm, sums from -0.0, and a start on the solution kept) and `orig_nan.rs` (the same with NaN ordered last
-//! instead of a panic). No original text is kept here; each patch asserts how often it applies. Then it links the static library
+//! instead of a panic). No original text is kept here; each patch asserts how often it applies. Where UTTER_SRC is not set, without.rs stands
+//! in the place of both. Then it links the static library
 //! that `rt staticlib exports` writes (another folder: SHOFRAKIN_LIB; another crate's: SHOFRAKIN_CRATE).
 use std::{env, fs, path::Path};
 
@@ -20,7 +21,6 @@ fn cut<'a>(t: &'a str, a: &str, b: &str) -> (usize, usize, &'a str) {
 fn main() {
     println!("cargo:rerun-if-env-changed=UTTER_SRC");
     println!("cargo:rerun-if-changed=build.rs");
-    let dir = env::var("UTTER_SRC").expect("UTTER_SRC names the folder of the original's sources");
     println!("cargo:rerun-if-env-changed=SHOFRAKIN_LIB");
     let lib = env::var("SHOFRAKIN_LIB").unwrap_or_else(|_| format!("{}/../target/staticlib", env!("CARGO_MANIFEST_DIR")));
     println!("cargo:rerun-if-env-changed=SHOFRAKIN_CRATE");
@@ -30,6 +30,14 @@ fn main() {
     assert!(Path::new(&archive).exists(), "no {archive}: run `rt staticlib {name}` first");
     println!("cargo:rustc-link-search=native={lib}");
     println!("cargo:rustc-link-lib=static={name}");
+    let out = env::var("OUT_DIR").unwrap();
+    println!("cargo:rerun-if-changed=without.rs");
+    let Ok(dir) = env::var("UTTER_SRC") else {
+        for name in ["orig.rs", "orig_nan.rs"] {
+            fs::copy("without.rs", Path::new(&out).join(name)).unwrap();
+        }
+        return;
+    };
     let read = |n: &str| -> String {
         let p = format!("{dir}/{n}.rs");
         println!("cargo:rerun-if-changed={p}");
@@ -128,11 +136,10 @@ impl SilenceWeighting {
     let (_, _, path) = cut(&decoder, "#[derive(Clone, Debug, Default)]\npub struct Path", "impl Path {");
     let dec = format!("pub type Label = i32;\n{seg}\n{path}\n");
 
-    let out = env::var("OUT_DIR").unwrap();
     let allow = "#[allow(dead_code, unused_imports, unused_mut, clippy::all)]\n";
     let write = |name: &str, iv: &str| {
         let t = format!(
-            "{allow}pub mod kaldi_io {{\n{kaldi}\n}}\n{allow}pub mod decoder {{\n{dec}\n}}\n{allow}pub mod silence_weighting {{\n{sil}\n}}\n{allow}pub mod ivector {{\n{iv}\n}}\n"
+            "pub const HERE: bool = true;\n{allow}pub mod kaldi_io {{\n{kaldi}\n}}\n{allow}pub mod decoder {{\n{dec}\n}}\n{allow}pub mod silence_weighting {{\n{sil}\n}}\n{allow}pub mod ivector {{\n{iv}\n}}\n"
         );
         fs::write(Path::new(&out).join(name), t).unwrap();
     };

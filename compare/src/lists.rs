@@ -1,7 +1,7 @@
 //! Generated call lists on three sides at once: the library, the machine and the original Rust.
 use crate::gen::{self, What};
 use crate::machine::{model_needs, room_lens, stream_needs, EV};
-use crate::original::{nan, plain};
+use crate::original::{nan, plain, HERE};
 use crate::rattle::{self, Call};
 use crate::script::*;
 use std::collections::BTreeMap;
@@ -84,6 +84,9 @@ impl Tally {
             let v: Vec<(char, u64)> = self.refusals.iter().filter(|(k, _)| k.1 == n).map(|(k, v)| (k.0, *v)).collect();
             let sum: u64 = v.iter().map(|x| x.1).sum();
             println!("  {n:2} {sum:11}  {}", v.iter().map(|x| format!("{}={}", x.0, x.1)).collect::<Vec<_>>().join(" "));
+        }
+        if !HERE {
+            println!("WITHOUT the original: its sources were not at hand, and the library is compared with the machine alone");
         }
         println!("what the original did where the answer was so:");
         for (k, v) in &self.original {
@@ -168,7 +171,7 @@ pub fn one(seed: u64, what: What, t: &mut Tally) {
                     }
                 }
                 // the original, whatever the machine says; absurd options are not run
-                if n == 1 {
+                if n == 1 || !HERE {
                     t.did('m', n, "not run");
                     continue;
                 }
@@ -226,13 +229,15 @@ pub fn one(seed: u64, what: What, t: &mut Tally) {
                     rs = s;
                 }
                 if n == 0 {
-                    let o = run.opts.unwrap();
-                    let (p, q) = match (pinfo.take(), ninfo.take()) {
-                        (Some(p), Some(q)) => (p, q),
-                        _ => (plain::open(&o, &run.bytes).unwrap().unwrap(), nan::open(&o, &run.bytes).unwrap().unwrap()),
-                    };
-                    ps = Some(plain::Owned::new(p));
-                    ns = Some(nan::Owned::new(q));
+                    if HERE {
+                        let o = run.opts.unwrap();
+                        let (p, q) = match (pinfo.take(), ninfo.take()) {
+                            (Some(p), Some(q)) => (p, q),
+                            _ => (plain::open(&o, &run.bytes).unwrap().unwrap(), nan::open(&o, &run.bytes).unwrap().unwrap()),
+                        };
+                        ps = Some(plain::Owned::new(p));
+                        ns = Some(nan::Owned::new(q));
+                    }
                     if rs.is_some() && !library_state(t, &run, rs.as_ref().unwrap(), seed, what, i) {
                         return;
                     }
@@ -356,7 +361,7 @@ pub fn one(seed: u64, what: What, t: &mut Tally) {
                 }
             }
             Cmd::Table(room, w, sub, ph) => {
-                sil = if n == 0 { Some(plain::Silence::new(ph, *w, *sub as usize)) } else { None };
+                sil = (n == 0 && HERE).then(|| plain::Silence::new(ph, *w, *sub as usize));
                 let (rn, s, wrong) = rattle::Silence::make(*room as usize, *w, *sub as usize, ph);
                 t.library += 1;
                 t.silence += 1;
@@ -376,11 +381,10 @@ pub fn one(seed: u64, what: What, t: &mut Tally) {
                     t.diff(seed, what, i, format!("traceback: machine {n}, library {rn} {wrong:?}"));
                     return;
                 }
-                if n == 0 {
-                    let z = sil.as_mut().unwrap();
+                if let (0, Some(z)) = (n, sil.as_mut()) {
                     z.compute_current_traceback(&plain::path(p, st, en), *k as usize);
                 }
-                silence_state(t, &run, sil.as_ref().unwrap(), rsil.as_ref().unwrap(), seed, what, i);
+                silence_state(t, &run, sil.as_ref(), rsil.as_ref().unwrap(), seed, what, i);
             }
             Cmd::Weigh(a, b, lf, lw) => {
                 t.silence += 1;
@@ -397,15 +401,14 @@ pub fn one(seed: u64, what: What, t: &mut Tally) {
                     t.diff(seed, what, i, format!("weights: machine {n} {:?}, library {got:?} {wrong:?}", run.last_weigh));
                     return;
                 }
-                if n == 0 {
-                    let z = sil.as_mut().unwrap();
+                if let (0, Some(z)) = (n, sil.as_mut()) {
                     let v = z.get_delta_weights(*a as usize, *b as usize);
                     let m = run.last_weigh.as_ref().unwrap();
                     if v.len() != m.len() || v.iter().zip(m).any(|(x, y)| x.0 as u64 != y.0 || canon32(x.1) != canon32(y.1)) {
                         t.diff(seed, what, i, format!("weights: machine {m:?}, original {v:?}"));
                     }
                 }
-                silence_state(t, &run, sil.as_ref().unwrap(), rsil.as_ref().unwrap(), seed, what, i);
+                silence_state(t, &run, sil.as_ref(), rsil.as_ref().unwrap(), seed, what, i);
             }
             _ => {}
         }
@@ -496,10 +499,10 @@ fn library_state(t: &mut Tally, run: &Runner, s: &rattle::Stream, seed: u64, wha
     true
 }
 
-fn silence_state(t: &mut Tally, run: &Runner, z: &plain::Silence, r: &rattle::Silence, seed: u64, what: What, i: usize) {
+fn silence_state(t: &mut Tally, run: &Runner, z: Option<&plain::Silence>, r: &rattle::Silence, seed: u64, what: What, i: usize) {
     let canon = |v: Vec<(bool, bool, u32)>| v.into_iter().map(|e| (e.0, e.1, canon32(f32::from_bits(e.2)))).collect::<Vec<_>>();
     let m: Vec<(bool, bool, u32)> = canon(run.sil.as_ref().unwrap().table.iter().map(|e| (e.0, e.1, e.2.to_bits())).collect());
-    if m != canon(z.x_table()) {
+    if z.is_some_and(|z| m != canon(z.x_table())) {
         t.diff(seed, what, i, "silence table: the original's differs".into());
     }
     if m != canon(r.table()) {
