@@ -92,6 +92,7 @@ fn other_text_layouts_and_doubles_are_read() {
 fn a_damaged_archive_names_its_byte() {
     let cases: &[(&[u8], &str)] = &[
         (b"a [ 1 2\n3 x4 ]", "byte 10: \"x4\" is no number, inside utterance a, row 1"),
+        (b"a [ 1 2\n  3 4 5 ]", "byte 10: a row of 3 numbers after rows of 2, inside utterance a, row 1"),
         (b"a [ 1 2\n3 ]", "byte 8: a row of 1 numbers after rows of 2, inside utterance a, row 1"),
         (b"a [ 1 2\n3 4", "byte 11: the archive ends inside utterance a, row 1"),
         (b"a", "byte 1: the archive ends after the key a"),
