@@ -1,5 +1,6 @@
 /* Shofrakin for C: the calls of the static library that `rt staticlib exports` writes (target/staticlib/libexports.a, x86-64 Linux).
  * What each call answers is proved in Rattle (crates/exports); nothing checks this file against it but compare/c/check.
+ * shofrakin_live.h, beside it, keeps a model's or a stream's record and rooms together; hosts/rust is the same for Rust.
  *
  * What a caller sees to:
  * - A slice is a pointer and a length, two arguments. No pointer is null; where a length is 0 any aligned address will do.
