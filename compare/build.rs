@@ -1,8 +1,8 @@
 //! Reads the original Rust from the folder UTTER_SRC at build time, patches it and writes two variants into OUT_DIR: `orig.rs` (as
 //! published, with the scope's exponential and logarithm, sums from -0.0, and a start on the solution kept) and `orig_nan.rs` (the same with NaN ordered last
 //! instead of a panic). No original text is kept here; each patch asserts how often it applies. Where UTTER_SRC is not set, without.rs stands
-//! in the place of both. Then it links the static library
-//! that `rt staticlib exports` writes (another folder: SHOFRAKIN_LIB; another crate's: SHOFRAKIN_CRATE).
+//! in the place of both. The library comes with hosts/rust; where SHOFRAKIN_CRATE names another crate, the archive that `rt staticlib` wrote of it to
+//! the folder SHOFRAKIN_LIB is linked.
 use std::{env, fs, path::Path};
 
 /// Replace `from` by `to`, which must occur exactly `n` times.
@@ -21,18 +21,17 @@ fn cut<'a>(t: &'a str, a: &str, b: &str) -> (usize, usize, &'a str) {
 fn main() {
     println!("cargo:rerun-if-env-changed=UTTER_SRC");
     println!("cargo:rerun-if-changed=build.rs");
-    println!("cargo:rerun-if-env-changed=SHOFRAKIN_LIB");
-    let lib = env::var("SHOFRAKIN_LIB").unwrap_or_else(|_| format!("{}/../target/staticlib", env!("CARGO_MANIFEST_DIR")));
     println!("cargo:rerun-if-env-changed=SHOFRAKIN_CRATE");
-    let name = env::var("SHOFRAKIN_CRATE").unwrap_or_else(|_| "exports".into());
-    let archive = format!("{lib}/lib{name}.a");
-    println!("cargo:rerun-if-changed={archive}");
-    assert!(Path::new(&archive).exists(), "no {archive}: run `rt staticlib {name}` first");
-    println!("cargo:rustc-link-search=native={lib}");
-    println!("cargo:rustc-link-lib=static={name}");
+    println!("cargo:rerun-if-env-changed=SHOFRAKIN_LIB");
+    if let Ok(name) = env::var("SHOFRAKIN_CRATE") {
+        let lib = env::var("SHOFRAKIN_LIB").expect("SHOFRAKIN_LIB names the archive's folder");
+        println!("cargo:rerun-if-changed={lib}/lib{name}.a");
+        println!("cargo:rustc-link-search=native={lib}");
+        println!("cargo:rustc-link-lib=static={name}");
+    }
     let out = env::var("OUT_DIR").unwrap();
-    println!("cargo:rerun-if-changed=without.rs");
     let Ok(dir) = env::var("UTTER_SRC") else {
+        println!("cargo:rerun-if-changed=without.rs");
         for name in ["orig.rs", "orig_nan.rs"] {
             fs::copy("without.rs", Path::new(&out).join(name)).unwrap();
         }

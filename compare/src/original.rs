@@ -1,7 +1,7 @@
 //! The original Rust behind small drivers: `plain` as published, `nan` with NaN ordered last.
 //! Where its sources were not at hand when this was built, HERE is false, and nothing of it is to be called.
-pub use crate::orig::HERE;
 use crate::machine::Options;
+pub use crate::orig::HERE;
 use std::panic::{catch_unwind, AssertUnwindSafe};
 
 macro_rules! driver {

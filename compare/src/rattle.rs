@@ -1,244 +1,14 @@
-//! The library: its records and calls as C sees them (include/shofrakin.h), and a model, a stream and a silence table that own what the
-//! calls are lent. A room is a little longer than what is lent of it, so that a call can be lent more than the record was made with, and
-//! what lies past the lent part has a value of its own, which no call may touch.
+//! The library by its raw calls (`shofrakin::sys`), and a model, a stream and a silence table that own what the calls are lent. They are not the
+//! types of hosts/rust, which see to it that nothing goes wrong: here records are forged and rooms are of other lengths. A room is a little
+//! longer than what is lent of it, so that a call can be lent more than the record was made with, and what lies past the lent part has a value of
+//! its own, which no call may touch.
 use crate::machine::{Alter, Model as Loaded, Options, SAlter};
+use shofrakin::sys as c;
+pub use shofrakin::sys::{
+    DecoderFrame, Dimensions, EstimateLengths, InputFrame, IvectorInfo, IvectorOptions, IvectorStream, LoadAnswer, RingLengths, RoomLengths,
+    SilenceCounts, SilenceWeighting, StreamAnswer, TableLengths,
+};
 use std::sync::Arc;
-
-#[repr(C)]
-#[derive(Clone, Copy, Debug, PartialEq)]
-pub struct IvectorOptions {
-    pub left_context: usize,
-    pub right_context: usize,
-    pub cmn_window: usize,
-    pub global_frames: usize,
-    pub num_gselect: usize,
-    pub num_cg_iters: usize,
-    pub min_post: f32,
-    pub posterior_scale: f32,
-    pub max_count: f64,
-    pub min_energy: f32,
-}
-
-#[repr(C)]
-#[derive(Clone, Copy, Debug, PartialEq)]
-pub struct Dimensions {
-    pub num_gauss: usize,
-    pub ext_gauss: usize,
-    pub feat_dim: usize,
-    pub ivector_dim: usize,
-    pub base_dim: usize,
-    pub lda_cols: usize,
-}
-
-#[repr(C)]
-#[derive(Clone, Copy, Debug, PartialEq)]
-pub struct TableLengths {
-    pub gconsts: usize,
-    pub means_invvars_t: usize,
-    pub inv_vars_t: usize,
-    pub sigma_inv_m: usize,
-    pub u: usize,
-    pub lda_t: usize,
-    pub lda_offset: usize,
-    pub global_mean_stats: usize,
-}
-
-#[repr(C)]
-#[derive(Clone, Copy, Debug, PartialEq)]
-pub struct IvectorInfo {
-    pub opts: IvectorOptions,
-    pub dims: Dimensions,
-    pub prior_offset: f64,
-    pub tables: TableLengths,
-}
-
-#[repr(C)]
-#[derive(Clone, Copy, Debug, PartialEq)]
-pub struct LoadAnswer {
-    pub refusal: usize,
-    pub info: IvectorInfo,
-}
-
-#[repr(C)]
-#[derive(Clone, Copy, Debug, PartialEq)]
-pub struct RingLengths {
-    pub frames: usize,
-    pub rows: usize,
-    pub waiting_frames: usize,
-    pub waiting_weights: usize,
-}
-
-#[repr(C)]
-#[derive(Clone, Copy, Debug, PartialEq)]
-pub struct EstimateLengths {
-    pub cmvn_stats: usize,
-    pub linear: usize,
-    pub quadratic: usize,
-    pub current: usize,
-    pub scratch: usize,
-}
-
-#[repr(C)]
-#[derive(Clone, Copy, Debug, PartialEq)]
-pub struct RoomLengths {
-    pub rings: RingLengths,
-    pub estimate: EstimateLengths,
-}
-
-#[repr(C)]
-#[derive(Clone, Copy, Debug, PartialEq)]
-pub struct IvectorStream {
-    pub info: IvectorInfo,
-    pub lengths: RoomLengths,
-    pub accepted: usize,
-    pub num_frames_stats: usize,
-    pub mark: usize,
-    pub waiting: usize,
-    pub past_highest: usize,
-    pub delta_weights_provided: bool,
-    pub input_finished: bool,
-    pub num_frames: f64,
-}
-
-#[repr(C)]
-#[derive(Clone, Copy, Debug, PartialEq)]
-pub struct NewStreamAnswer {
-    pub answer: StreamAnswer,
-    pub stream: IvectorStream,
-}
-
-#[repr(C)]
-#[derive(Clone, Copy, Debug, PartialEq)]
-pub struct StreamAnswer {
-    pub refusal: usize,
-    pub frames_held: usize,
-    pub rows_held: usize,
-    pub not_finite: usize,
-    pub nan_likelihoods: usize,
-}
-
-#[repr(C)]
-#[derive(Clone, Copy, Debug, PartialEq)]
-pub struct InputFrame(pub usize);
-
-#[repr(C)]
-#[derive(Clone, Copy, Debug, PartialEq)]
-pub struct DecoderFrame(pub usize);
-
-#[repr(C)]
-#[derive(Clone, Copy, Debug, PartialEq)]
-pub struct SilenceWeighting {
-    pub silence_weight: f32,
-    pub subsampling: usize,
-    pub phones: usize,
-    pub table: usize,
-    pub length: usize,
-}
-
-#[repr(C)]
-#[derive(Clone, Copy, Debug, PartialEq)]
-pub struct NewTableAnswer {
-    pub refusal: usize,
-    pub silence: SilenceWeighting,
-}
-
-#[repr(C)]
-#[derive(Clone, Copy, Debug, PartialEq)]
-pub struct VoiceAnswer {
-    pub refusal: usize,
-    pub found: bool,
-    pub index: usize,
-    pub distance: f32,
-}
-
-#[repr(C)]
-#[derive(Clone, Copy, Debug, PartialEq)]
-pub struct SilenceCounts {
-    pub refusal: usize,
-    pub changes: usize,
-}
-
-/// A slice is a pointer and a length, two arguments.
-#[rustfmt::skip]
-mod c {
-    use super::*;
-    extern "C" {
-        pub fn shofrakin_load(
-            opts: IvectorOptions,
-            gmm: *const u8, gmm_len: usize, extractor: *const u8, extractor_len: usize,
-            lda: *const u8, lda_len: usize, cmvn: *const u8, cmvn_len: usize,
-            gconsts: *mut f32, gconsts_len: usize, means_invvars_t: *mut f32, means_invvars_t_len: usize,
-            inv_vars_t: *mut f32, inv_vars_t_len: usize, sigma_inv_m: *mut f64, sigma_inv_m_len: usize,
-            u: *mut f64, u_len: usize, lda_t: *mut f32, lda_t_len: usize,
-            lda_offset: *mut f32, lda_offset_len: usize, global_mean_stats: *mut f64, global_mean_stats_len: usize,
-            scratch: *mut f64, scratch_len: usize,
-        ) -> LoadAnswer;
-        pub fn shofrakin_new_stream(
-            info: IvectorInfo,
-            gconsts: *const f32, gconsts_len: usize, means_invvars_t: *const f32, means_invvars_t_len: usize,
-            inv_vars_t: *const f32, inv_vars_t_len: usize, sigma_inv_m: *const f64, sigma_inv_m_len: usize,
-            u: *const f64, u_len: usize, lda_t: *const f32, lda_t_len: usize,
-            lda_offset: *const f32, lda_offset_len: usize, global_mean_stats: *const f64, global_mean_stats_len: usize,
-            frames: *const f32, frames_len: usize, rows: *mut f64, rows_len: usize,
-            waiting_frames: *const usize, waiting_frames_len: usize, waiting_weights: *const f32, waiting_weights_len: usize,
-            cmvn_stats: *mut f64, cmvn_stats_len: usize, linear: *mut f64, linear_len: usize,
-            quadratic: *mut f64, quadratic_len: usize, current: *mut f64, current_len: usize,
-            scratch: *const f64, scratch_len: usize,
-        ) -> NewStreamAnswer;
-        pub fn shofrakin_push_frame(
-            s: *mut IvectorStream, frame: *const f32, frame_len: usize,
-            frames: *mut f32, frames_len: usize, rows: *mut f64, rows_len: usize,
-            waiting_frames: *const usize, waiting_frames_len: usize, waiting_weights: *const f32, waiting_weights_len: usize,
-        ) -> StreamAnswer;
-        pub fn shofrakin_set_input_finished(
-            s: *mut IvectorStream, frames: *const f32, frames_len: usize, rows: *const f64, rows_len: usize,
-            waiting_frames: *const usize, waiting_frames_len: usize, waiting_weights: *const f32, waiting_weights_len: usize,
-        ) -> StreamAnswer;
-        pub fn shofrakin_update_frame_weights(
-            s: *mut IvectorStream, delta_frames: *const usize, delta_frames_len: usize, delta_weights: *const f32, delta_weights_len: usize,
-            frames: *const f32, frames_len: usize, rows: *const f64, rows_len: usize,
-            waiting_frames: *mut usize, waiting_frames_len: usize, waiting_weights: *mut f32, waiting_weights_len: usize,
-        ) -> StreamAnswer;
-        pub fn shofrakin_forget_before(
-            s: *mut IvectorStream, frame: usize, frames: *const f32, frames_len: usize, rows: *const f64, rows_len: usize,
-            waiting_frames: *const usize, waiting_frames_len: usize, waiting_weights: *const f32, waiting_weights_len: usize,
-        ) -> StreamAnswer;
-        pub fn shofrakin_get_frame(
-            s: *mut IvectorStream, frame: usize,
-            gconsts: *const f32, gconsts_len: usize, means_invvars_t: *const f32, means_invvars_t_len: usize,
-            inv_vars_t: *const f32, inv_vars_t_len: usize, sigma_inv_m: *const f64, sigma_inv_m_len: usize,
-            u: *const f64, u_len: usize, lda_t: *const f32, lda_t_len: usize,
-            lda_offset: *const f32, lda_offset_len: usize, global_mean_stats: *const f64, global_mean_stats_len: usize,
-            frames: *const f32, frames_len: usize, rows: *const f64, rows_len: usize,
-            waiting_frames: *mut usize, waiting_frames_len: usize, waiting_weights: *mut f32, waiting_weights_len: usize,
-            cmvn_stats: *mut f64, cmvn_stats_len: usize, linear: *mut f64, linear_len: usize,
-            quadratic: *mut f64, quadratic_len: usize, current: *mut f64, current_len: usize,
-            scratch: *mut f64, scratch_len: usize, out: *mut u32, out_len: usize,
-        ) -> StreamAnswer;
-        pub fn shofrakin_num_frames_ready(s: *const IvectorStream) -> usize;
-        pub fn shofrakin_ivector_dim(s: *const IvectorStream) -> usize;
-        pub fn shofrakin_num_frames_stats(s: *const IvectorStream) -> usize;
-        pub fn shofrakin_new_silence_weighting(
-            silence_phones: *const i32, silence_phones_len: usize, silence_weight: f32, subsampling: usize, table: usize,
-        ) -> NewTableAnswer;
-        pub fn shofrakin_silence_active(s: *const SilenceWeighting) -> bool;
-        pub fn shofrakin_nearest_voice(
-            dim: usize, vector: *const u32, vector_len: usize, count: usize, enrolled: *const u32, enrolled_len: usize, limit: f32,
-        ) -> VoiceAnswer;
-        pub fn shofrakin_compute_current_traceback(
-            s: *mut SilenceWeighting, silence_phones: *const i32, silence_phones_len: usize,
-            known: *mut bool, known_len: usize, is_silence: *mut bool, is_silence_len: usize,
-            current_weight: *mut f32, current_weight_len: usize,
-            segment_phones: *const i32, segment_phones_len: usize, starts: *const usize, starts_len: usize,
-            ends: *const usize, ends_len: usize, num_frames_decoded: DecoderFrame,
-        ) -> SilenceCounts;
-        pub fn shofrakin_get_delta_weights(
-            s: *mut SilenceWeighting, known: *mut bool, known_len: usize, is_silence: *mut bool, is_silence_len: usize,
-            current_weight: *mut f32, current_weight_len: usize, num_frames_ready: InputFrame, first_decoder_frame: InputFrame,
-            frames: *mut usize, frames_len: usize, weights: *mut f32, weights_len: usize,
-        ) -> SilenceCounts;
-    }
-}
 
 /// How much longer a room is than what is lent of it.
 const MORE: usize = 8;
@@ -821,7 +591,7 @@ impl Silence {
                         }
                     }
                 }
-                SAlter::Len(n) => r.length = *n as usize,
+                SAlter::Len(n) => r.length.number = *n as usize,
                 SAlter::Sub(n) => r.subsampling = *n as usize,
                 SAlter::Weight(b) => r.silence_weight = f32::from_bits(*b),
                 SAlter::Phones(n) => r.phones = *n as usize,
@@ -839,7 +609,7 @@ impl Silence {
         if n <= 4096 {
             n
         } else {
-            (self.rec.length + 4096).min(n)
+            (self.rec.length.number + 4096).min(n)
         }
     }
     fn part(&self) -> (Vec<bool>, Vec<bool>, Vec<u32>) {
@@ -897,7 +667,7 @@ impl Silence {
                 st.len(),
                 en.as_ptr(),
                 en.len(),
-                DecoderFrame(decoded),
+                DecoderFrame { number: decoded },
             )
         };
         let mut wrong = self.after(a, r, given, before);
@@ -930,8 +700,8 @@ impl Silence {
                 l[1],
                 self.current_weight.as_mut_ptr(),
                 l[2],
-                InputFrame(ready),
-                InputFrame(first),
+                InputFrame { number: ready },
+                InputFrame { number: first },
                 fs.as_mut_ptr(),
                 lf,
                 ws.as_mut_ptr(),
@@ -964,7 +734,7 @@ impl Silence {
             c::shofrakin_compute_current_traceback(
                 &mut self.rec, self.phones.as_ptr(), self.phones.len(),
                 self.known.as_mut_ptr(), n, self.is_silence.as_mut_ptr(), n, self.current_weight.as_mut_ptr(), n,
-                ph.as_ptr(), ph.len(), st.as_ptr(), st.len(), en.as_ptr(), en.len(), DecoderFrame(decoded),
+                ph.as_ptr(), ph.len(), st.as_ptr(), st.len(), en.as_ptr(), en.len(), DecoderFrame { number: decoded },
             )
         };
         a.refusal
@@ -975,14 +745,14 @@ impl Silence {
         let a = unsafe {
             c::shofrakin_get_delta_weights(
                 &mut self.rec, self.known.as_mut_ptr(), n, self.is_silence.as_mut_ptr(), n, self.current_weight.as_mut_ptr(), n,
-                InputFrame(ready), InputFrame(first), fs.as_mut_ptr(), fs.len(), ws.as_mut_ptr(), ws.len(),
+                InputFrame { number: ready }, InputFrame { number: first }, fs.as_mut_ptr(), fs.len(), ws.as_mut_ptr(), ws.len(),
             )
         };
         a.changes
     }
 
     pub fn table(&self) -> Vec<(bool, bool, u32)> {
-        (0..self.rec.length).map(|i| (self.known[i], self.is_silence[i], self.current_weight[i].to_bits())).collect()
+        (0..self.rec.length.number).map(|i| (self.known[i], self.is_silence[i], self.current_weight[i].to_bits())).collect()
     }
 }
 

@@ -173,7 +173,7 @@ fn round(kind: &str, side: usize, z: &Set, info: &plain::Info) -> (Duration, usi
                     }
                 }
             });
-            assert!(v.iter().all(|(s, p)| if ours { s.rec.length } else { p.x_table().len() } == 10 * steps));
+            assert!(v.iter().all(|(s, p)| if ours { s.rec.length.number } else { p.x_table().len() } == 10 * steps));
             (d, 20 * 2 * steps)
         }
         "fetch" | "weighted" => {
