@@ -143,25 +143,21 @@ static void live(bool exact) {
     opts.cmn_window = 0;
     is("a model, window 0", shofrakin_model_open(&m, opts, f, tables, n), 1);
     opts.cmn_window = 600;
-    for (size_t i = 0; i < gmm.len; i++) {
-        f.gmm_len = i;
-        is("a model that is cut", shofrakin_model_open(&m, opts, f, tables, n), 2);
-    }
-    f.gmm_len = gmm.len;
-    for (size_t i = 0; i < extractor.len; i++) {
-        f.extractor_len = i;
-        is("an extractor that is cut", shofrakin_model_open(&m, opts, f, tables, n), 2);
-    }
-    f.extractor_len = extractor.len;
-    for (size_t i = 0; i < lda.len; i++) {
-        f.lda_len = i;
-        is("an LDA that is cut", shofrakin_model_open(&m, opts, f, tables, n), 2);
-    }
-    f.lda_len = lda.len;
-    for (size_t i = 0; i < f.cmvn_len - 1; i++) {
+    for (int file = 0; file < 4; file++) {
         shofrakin_files g = f;
-        g.cmvn_len = i;
-        is("a text that is cut", shofrakin_model_open(&m, opts, g, tables, n), 7);
+        const uint8_t **bytes[] = {&g.gmm, &g.extractor, &g.lda, &g.cmvn};
+        size_t *lengths[] = {&g.gmm_len, &g.extractor_len, &g.lda_len, &g.cmvn_len};
+        const uint8_t *whole = *bytes[file];
+        size_t len = *lengths[file];
+        /* of the text the last line end may go */
+        for (size_t i = 0; i < (file == 3 ? len - 1 : len); i++) {
+            uint8_t *part = block(i + !i, true);
+            memcpy(part, whole, i);
+            *bytes[file] = part;
+            *lengths[file] = i;
+            is("a model of which a file is cut", shofrakin_model_open(&m, opts, g, tables, n), file == 3 ? 7 : 2);
+            free(part);
+        }
     }
     is("a model", shofrakin_model_open(&m, opts, f, tables, n), 0);
     is("its base dimension", m.info.dims.base_dim, 1);

@@ -3,7 +3,7 @@
 //! memory which the calls are lent. Names and the order of arguments are those of the original, pyscape/utter.
 //!
 //! A model is opened once ([`IvectorInfo::open`], or [`IvectorInfo::from_bytes`]), and any number of streams work on it. A stream is given its
-//! [`Room`] when it is made, allocates it, and nothing afterwards. Whatever is outside the limits is refused by a [`Refusal`], a
+//! [`Room`] when it is made and allocates it then; its calls allocate nothing. Whatever is outside the limits is refused by a [`Refusal`], a
 //! number with a sentence, and changes nothing.
 //!
 //! ```

@@ -4,7 +4,7 @@ use std::fmt;
 /// The most entries of one change call.
 pub const MAX_CHANGES: usize = 384;
 
-/// How much a stream has room for. It is allocated when the stream is made, and nothing afterwards.
+/// How much a stream has room for. It is allocated when the stream is made; its calls allocate nothing.
 ///
 /// The default has room for utterances of up to 1,000 frames, whatever the contexts, and for 1,024 changes.
 #[derive(Clone, Copy, Debug, PartialEq, Eq)]
@@ -134,12 +134,17 @@ impl IvectorStream {
     /// Changes of the weights of input frames, applied as their frames are reached; at most [`MAX_CHANGES`]. From the first such call on,
     /// even an empty one, fetches are weighted. Refusals 16 to 19.
     pub fn update_frame_weights(&mut self, deltas: &[(usize, f32)]) -> Result<Held, Refusal> {
-        let (frames, weights): (Vec<usize>, Vec<f32>) = deltas.iter().copied().unzip();
-        self.change(&frames, &weights)
+        // one more than a call takes, so that the call itself refuses a list that is too long
+        let (mut frames, mut weights) = ([0; MAX_CHANGES + 1], [0.0; MAX_CHANGES + 1]);
+        let n = deltas.len().min(MAX_CHANGES + 1);
+        for (i, &(f, w)) in deltas[..n].iter().enumerate() {
+            (frames[i], weights[i]) = (f, w);
+        }
+        self.change(&frames[..n], &weights[..n])
     }
 
     /// The same for any number of changes: in as many calls as it takes, at least one, which together do what one would. Where one of them
-    /// is refused, none is taken.
+    /// is refused, none is taken: for that, a list that needs several calls has the waiting changes copied first.
     pub fn update_frame_weights_in_parts(&mut self, deltas: &[(usize, f32)]) -> Result<Held, Refusal> {
         if deltas.len() <= MAX_CHANGES {
             return self.update_frame_weights(deltas);

@@ -21,7 +21,7 @@ fn read(bytes: &[u8]) -> Result<Matrices, String> {
     let mut a = Archive::new(Slow(bytes));
     let mut all = Vec::new();
     while let Some(key) = a.next_key().map_err(|e| e.to_string())? {
-        let key = String::from_utf8(key.to_vec()).unwrap();
+        let key = String::from_utf8_lossy(key).into_owned();
         let (mut row, mut numbers, mut columns) = (Vec::new(), Vec::new(), 0);
         while a.next_row(&mut row).map_err(|e| e.to_string())? {
             columns = row.len();
@@ -136,5 +136,36 @@ fn specifiers() {
     is("b:c", Form::Binary, Some("b:c"));
     for bad in ["scp:f.scp", "ark,x:f", "ark:", "ark:copy-feats scp:f ark:- |"] {
         assert!(Specifier::parse(bad).is_err(), "{bad}");
+    }
+}
+
+/// Whatever the bytes are, reading ends, with whole rows or with an error at a byte that is there.
+#[test]
+fn spoilt_bytes() {
+    let mut x = 2463534242u32;
+    let mut draw = |n: usize| {
+        x ^= x << 13;
+        x ^= x >> 17;
+        x ^= x << 5;
+        x as usize % n
+    };
+    for i in 0..40_000 {
+        let mut b = if i % 2 == 0 { TEXT.to_vec() } else { BINARY.to_vec() };
+        for _ in 0..1 + draw(3) {
+            let (at, by) = (draw(b.len()), draw(256) as u8);
+            match draw(4) {
+                0 => b[at] = by,
+                1 => b[at] ^= 1 << (by % 8),
+                2 => b.insert(at, by),
+                _ => drop(b.remove(at)),
+            }
+        }
+        match read(&b) {
+            Ok(all) => assert!(all.iter().all(|(key, columns, numbers)| !key.is_empty() && numbers.len() % columns.max(&1) == 0)),
+            Err(e) => {
+                let at: usize = e.strip_prefix("byte ").and_then(|e| e.split_once(':')).unwrap().0.parse().unwrap();
+                assert!(at <= b.len(), "{e}");
+            }
+        }
     }
 }
