@@ -199,14 +199,14 @@ impl Tally {
 
     fn rate(&self) -> String {
         let s = self.began.elapsed().as_secs_f64();
-        format!("{} frames, {:.0} frames a second", self.frames, self.frames as f64 / s.max(1e-9))
+        format!("frames: {}, {:.0} a second", self.frames, self.frames as f64 / s.max(1e-9))
     }
 
     fn frame(&mut self) {
         self.frames += 1;
         if self.terminal && self.frames & 63 == 0 && self.said.elapsed() > Duration::from_millis(200) {
             self.said = Instant::now();
-            eprint!("\r{} utterances, {}\x1b[K", self.utterances, self.rate());
+            eprint!("\rutterances: {}; {}\x1b[K", self.utterances, self.rate());
         }
     }
 
@@ -216,7 +216,7 @@ impl Tally {
     }
 
     fn end(&self) {
-        self.say(&format!("{} utterances written, {} refused; {}", self.written, self.refused, self.rate()));
+        self.say(&format!("utterances: {} written, {} refused; {}", self.written, self.refused, self.rate()));
     }
 }
 

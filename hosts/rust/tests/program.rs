@@ -84,7 +84,7 @@ fn vectors_of_an_archive() {
                 assert_eq!(read(&out), want);
                 assert_eq!(out.starts_with(b"one  ["), to == "ark,t:-");
                 let frames = all.len() + 13;
-                assert!(said.starts_with(&format!("shofrakin: 2 utterances written, 0 refused; {frames} frames, ")), "{said}");
+                assert!(said.starts_with(&format!("shofrakin: utterances: 2 written, 0 refused; frames: {frames}, ")), "{said}");
                 assert_eq!(said.lines().count(), 1, "{said}");
             }
         }
@@ -108,7 +108,7 @@ fn what_is_refused() {
     let (status, out, said) = run(&["extract", MODEL, "-", "-"], input);
     assert_eq!(status, 1);
     assert!(said.starts_with("shofrakin: utterance b, frame 2: refused, 12: a number of the frame is not finite\n"), "{said}");
-    assert!(said.contains("2 utterances written, 1 refused"), "{said}");
+    assert!(said.contains("utterances: 2 written, 1 refused"), "{said}");
     assert_eq!(read(&out).iter().map(|u| u.0[0]).collect::<Vec<_>>(), b"ac");
     // features of another dimension
     let (status, out, said) = run(&["extract", MODEL, "-", "-"], b"a [ 1 2 3 ]\n");
@@ -128,7 +128,7 @@ fn what_is_damaged() {
     let n = b.len() - 30;
     let (status, out, said) = run(&["extract", MODEL, "-", "-"], &b[..n]);
     assert_eq!(status, 1);
-    assert!(said.starts_with("shofrakin: 1 utterances written, 0 refused; "), "{said}");
+    assert!(said.starts_with("shofrakin: utterances: 1 written, 0 refused; "), "{said}");
     assert!(said.ends_with(&format!("\nshofrakin: -: byte {n}: the archive ends inside utterance two, row 11\n")), "{said}");
     assert_eq!(read(&out).len(), 1);
     let dir = scratch("damaged-model");
