@@ -71,6 +71,23 @@ fn in_c(t: &str, name: &str) -> String {
     format!("{plain} {name}").trim().to_string()
 }
 
+/// Fails with what differs alone, name by name.
+fn same(have: &BTreeMap<String, Vec<String>>, want: &BTreeMap<String, Vec<String>>) {
+    let mut wrong = String::new();
+    for name in have.keys().chain(want.keys().filter(|n| !have.contains_key(*n))) {
+        match (have.get(name), want.get(name)) {
+            (Some(_), None) => wrong += &format!("\n{name}: not in the header"),
+            (None, Some(_)) => wrong += &format!("\n{name}: not in src/sys.rs"),
+            (Some(h), Some(w)) if h != w => {
+                let i = h.iter().zip(w).take_while(|(x, y)| x == y).count();
+                wrong += &format!("\n{name}, {i}: {:?} in src/sys.rs, {:?} in the header", h.get(i), w.get(i));
+            }
+            _ => (),
+        }
+    }
+    assert!(wrong.is_empty(), "{wrong}");
+}
+
 #[test]
 fn records_have_the_headers_fields() {
     let want = declared().0;
@@ -78,7 +95,7 @@ fn records_have_the_headers_fields() {
     for r in RECORDS {
         have.insert(r.c.to_string(), r.fields.iter().map(|(f, t, _)| in_c(t, f)).collect::<Vec<_>>());
     }
-    assert_eq!(have, want);
+    same(&have, &want);
 }
 
 #[test]
@@ -99,7 +116,7 @@ fn calls_have_the_headers_arguments() {
         }));
         have.insert(name.to_string(), v);
     }
-    assert_eq!(have, want);
+    same(&have, &want);
 }
 
 #[test]
@@ -124,7 +141,11 @@ fn records_lie_as_in_c() {
         built => {
             assert!(built.unwrap().success());
             let out = Command::new(&program).output().unwrap();
-            assert_eq!(String::from_utf8(out.stdout).unwrap(), want);
+            let out = String::from_utf8(out.stdout).unwrap();
+            for (have, want) in want.lines().zip(out.lines()) {
+                assert_eq!(have, want, "src/sys.rs, and C");
+            }
+            assert_eq!(out.lines().count(), want.lines().count());
         }
     }
 }
