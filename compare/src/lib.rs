@@ -3,6 +3,7 @@ pub mod day;
 pub mod fns;
 pub mod gen;
 pub mod lists;
+pub mod loud;
 pub mod machine;
 pub mod model;
 pub mod nearest;

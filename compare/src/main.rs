@@ -2,11 +2,12 @@
 //! compare day [FRAMES [SEED]]        one stream of a day
 //! compare nearest FIRST COUNT        the nearest voice, COUNT cases from the seed FIRST
 //! compare nearest-lines              the same on cases with their answers, on standard input (FORMAT.md)
+//! compare loud FIRST COUNT           views of loud frames in the library's rooms, COUNT lists from the seed FIRST
 //! compare gen FIRST COUNT [KIND]     the lists as a script (FORMAT.md), on standard output
 //! compare answer                     the machine's answers to a script on standard input
 //! KIND: calls wild damage edges rooms forged silence long limit exact nan big cuts, or all (all but big and cuts). THREADS: how many (2).
 //! Exit status 1 on any difference.
-use compare::{day, gen, lists, nearest, script};
+use compare::{day, gen, lists, loud, nearest, script};
 use std::io::{BufRead, Write};
 
 fn kinds(s: &str) -> Vec<gen::What> {
@@ -60,6 +61,7 @@ fn main() {
         }
         Some("day") => std::process::exit(i32::from(!day::run(num(2, 8_640_000), num(3, 1)))),
         Some("nearest") => std::process::exit(i32::from(nearest::run(num(2, 1), num(3, 1000)) != 0)),
+        Some("loud") => std::process::exit(i32::from(!loud::run(num(2, 1), num(3, 1000)))),
         Some("nearest-lines") => std::process::exit(i32::from(nearest::lines(std::io::stdin().lock()) != 0)),
         Some("gen") => {
             let mut w = std::io::BufWriter::new(std::io::stdout().lock());
@@ -82,7 +84,7 @@ fn main() {
         }
         _ => {
             eprintln!(
-                "compare lists FIRST COUNT [KIND] | day [FRAMES [SEED]] | nearest FIRST COUNT | nearest-lines | gen FIRST COUNT [KIND] | answer"
+                "compare lists FIRST COUNT [KIND] | day [FRAMES [SEED]] | nearest FIRST COUNT | nearest-lines | loud FIRST COUNT | gen FIRST COUNT [KIND] | answer"
             );
             std::process::exit(2);
         }

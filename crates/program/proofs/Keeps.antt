@@ -33,7 +33,7 @@ module _ (i : IvectorInfo) (t : Tables) (z : Rooms) (n : ℕ) (c : StreamCall) (
     pub answer-is : c .answer ≡ toldBy M 0 (fresh M) 0 0
     pub start-is : start ≡ program (streamOf i (roomLengthsOf z n) (fresh M)) (freshRooms i z)
 
-  begun : Begun
+  pub begun : Begun
   unfolding newAnswer fresh freshStream newStats answerOf toldBy
   begun =
       let m = made-stream (newRefusal i (tableLengthsOf t) (roomLengthsOf z n)) (callOf 0 (freshStream i (roomLengthsOf z n)) 0 0) c e in
@@ -56,11 +56,11 @@ module _ (i : IvectorInfo) (t : Tables) (z : Rooms) (n : ℕ) (c : StreamCall) (
     abbrev took : List (List Float)
     took = framesTaken cs (programAnswers t n start cs)
 
-    took-is : k .history ≡ took
+    pub took-is : k .history ≡ took
     unfolding fresh answers
     took-is = history-is M (ringLengthsOf (z .rings)) (fresh M) cs ∙ ap (framesTaken cs) (sym (answers-are cs))
 
-    ended-is : (w : Rooms) × (programAfter t n start cs ≡ program (streamOf i (roomLengthsOf z n) k) w) × Inv i (roomLengthsOf z n) n k w
+    pub ended-is : (w : Rooms) × (programAfter t n start cs ≡ program (streamOf i (roomLengthsOf z n) k) w) × Inv i (roomLengthsOf z n) n k w
     ended-is =
         let a = inv-after i (roomLengthsOf z n) n t (begun .made-is) (fresh M) (freshRooms i z) (fresh-inv i t z n (begun .made-is)) cs in
         (a .0, ap (λ (q : Program). programAfter t n q cs) (begun .start-is) ∙ a .1, a .2)

@@ -1,5 +1,6 @@
 -- Laws of the rings and of the waiting changes; then the claim over every list of calls: what holds between the program and the keeping
--- machine, that both refuse alike, that each call keeps it, and `keeps`.
+-- machine, that both refuse alike, that each call keeps it, and `keeps`; then what
+-- follows of single frames.
 pub mod Pushed
 pub mod WaitingRooms
 pub mod InOrder
@@ -10,3 +11,5 @@ pub mod Steps
 pub mod Moves
 pub mod Fresh
 pub mod Keeps
+pub mod Loud
+pub mod Quiet
