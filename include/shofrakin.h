@@ -297,6 +297,33 @@ typedef struct {
 shofrakin_voice_answer shofrakin_nearest_voice(size_t dim, const uint32_t *vector, size_t vector_len,
     size_t count, const uint32_t *enrolled, size_t enrolled_len, float limit);
 
+/* ---- a board with registers */
+
+/* The answer of a step: 0, or 10 for a block that has not sixteen bytes. */
+typedef struct {
+    size_t refusal;
+} shofrakin_step_answer;
+
+/* One step over a block of sixteen bytes. The host writes bytes 0, 2 and 4 to 7 and reads the others:
+ *   0      command: 1 push `frame`, 2 finish, 3 forget, 4 fetch into `out`; any other is none. The step clears it
+ *   1      flags: bit 0 the command was a fetch and `out` has the vector, bit 1 the command was refused, bit 2 there is room for a push
+ *   2, 3   mask of bits 0 to 2; 1 where a flag and its mask bit are both 1
+ *   4..7   frame number of a forget and of a fetch, the lowest byte first
+ *   8..11  frames held, the lowest byte first
+ *   12     the command's refusal number or 0;  13..15  zero
+ * With no command bits 0 and 1 and byte 12 stay as they are found. A refused command is told in the block alone: the step is taken. Where the record falls
+ * under 10, bit 2 and bytes 8 to 11 are 0. A block of another length is refused 10: nothing is written, and no command done. */
+shofrakin_step_answer shofrakin_registers_step(shofrakin_stream *s, uint8_t *block, size_t block_len, const float *frame, size_t frame_len,
+    const float *gconsts, size_t gconsts_len, const float *means_invvars_t, size_t means_invvars_t_len,
+    const float *inv_vars_t, size_t inv_vars_t_len, const double *sigma_inv_m, size_t sigma_inv_m_len,
+    const double *u, size_t u_len, const float *lda_t, size_t lda_t_len,
+    const float *lda_offset, size_t lda_offset_len, const double *global_mean_stats, size_t global_mean_stats_len,
+    float *frames, size_t frames_len, double *rows, size_t rows_len,
+    size_t *waiting_frames, size_t waiting_frames_len, float *waiting_weights, size_t waiting_weights_len,
+    double *cmvn_stats, size_t cmvn_stats_len, double *linear, size_t linear_len,
+    double *quadratic, size_t quadratic_len, double *current, size_t current_len,
+    double *scratch, size_t scratch_len, uint32_t *out, size_t out_len);
+
 #ifdef __cplusplus
 }
 #endif

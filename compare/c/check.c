@@ -373,6 +373,33 @@ int main(void) {
     is("a limit below 0", shofrakin_nearest_voice(2, asked, 2, 3, voices, 6, -1).refusal, 29);
     voices[5] = 0x7fc00000;
     is("a voice that is not finite", shofrakin_nearest_voice(2, asked, 2, 3, voices, 6, 1).refusal, 29);
+
+    /* P9 again, through registers: a push and a fetch, each by a byte */
+    opts = (shofrakin_options){.left_context = 0, .right_context = 0, .cmn_window = 600, .global_frames = 200, .num_gselect = 5,
+        .num_cg_iters = 15, .min_post = 0.025f, .posterior_scale = 0.25f, .max_count = 100, .min_energy = 50};
+    model(1, 1);
+    m = shofrakin_load(opts, FILES, TABLES, scratch, 2);
+    stream = shofrakin_new_stream(m.info, TABLES, RINGS, ESTIMATE).stream;
+    uint8_t block[16] = {1, 0, 5};
+    x = 4;
+    out[0] = 0;
+    is("step, push", shofrakin_registers_step(&stream, block, 16, &x, 1, TABLES, RINGS, ESTIMATE, out, 1).refusal, 0);
+    is("its command is cleared", block[0], 0);
+    is("its flags: room for a push", block[1], 4);
+    is("its interrupt", block[3], 1);
+    is("frames held", block[8], 1);
+    is("accepted", stream.accepted, 1);
+    block[0] = 4;
+    is("step, fetch", shofrakin_registers_step(&stream, block, 16, &x, 1, TABLES, RINGS, ESTIMATE, out, 1).refusal, 0);
+    is("its flags: the vector, and room", block[1], 5);
+    memcpy(&half, out, 4);
+    is("P9, through registers", half, 0.5);
+    block[0] = 4, block[4] = 1;
+    is("step, a frame too far", shofrakin_registers_step(&stream, block, 16, &x, 1, TABLES, RINGS, ESTIMATE, out, 1).refusal, 0);
+    is("its flags: refused, and room", block[1], 6);
+    is("its number", block[12], 21);
+    is("step, a block too short", shofrakin_registers_step(&stream, block, 15, &x, 1, TABLES, RINGS, ESTIMATE, out, 1).refusal, 10);
+    is("its flags are left", block[1], 6);
     printf(wrong ? "%d differ\n" : "the headers fit the library\n", wrong);
     return wrong != 0;
 }

@@ -570,18 +570,20 @@ pub enum What {
     Limit,
     /// Request No. 9: solves that start on the solution.
     Exact,
+    /// Request No. 11: steps over a block of registers.
+    Registers,
 }
 
 /// What `all` stands for (Big and Cuts are asked for by name).
 #[rustfmt::skip]
-pub const KINDS: [What; 11] = [
+pub const KINDS: [What; 12] = [
     What::Calls, What::Wild, What::Damage, What::Edges, What::Rooms, What::Forged, What::Silence, What::Long, What::Limit,
-    What::Exact, What::Nan,
+    What::Exact, What::Nan, What::Registers,
 ];
 #[rustfmt::skip]
-pub const NAMED: [What; 13] = [
+pub const NAMED: [What; 14] = [
     What::Calls, What::Wild, What::Damage, What::Edges, What::Rooms, What::Forged, What::Silence, What::Long, What::Limit,
-    What::Exact, What::Nan, What::Big, What::Cuts,
+    What::Exact, What::Nan, What::Registers, What::Big, What::Cuts,
 ];
 
 pub struct CallList {
@@ -607,6 +609,7 @@ pub fn call_list(seed: u64, what: What) -> CallList {
         What::Cuts => cuts(&mut r, &mut s),
         What::Limit => crate::requests::limit(&mut r, &mut s),
         What::Exact => crate::requests::exact(&mut r, &mut s),
+        What::Registers => crate::registers::registers(&mut r, &mut s),
     }
     s.cmds.push(Cmd::End);
     s
@@ -759,7 +762,7 @@ fn calls(r: &mut Rng, out: &mut CallList, wild: bool, forged: bool) {
 }
 
 /// A copy of the call with a forged record before it, kept only if the machine refuses it.
-fn forge(r: &mut Rng, sp: &Spec, run: &Runner, c: &Cmd, out: &mut Vec<Cmd>) {
+pub fn forge(r: &mut Rng, sp: &Spec, run: &Runner, c: &Cmd, out: &mut Vec<Cmd>) {
     let st = run.stream.as_ref().unwrap();
     let (acc, next, mark) = (st.accepted(), st.next, st.mark);
     let left = sp.opts.left;
@@ -827,7 +830,7 @@ fn forge(r: &mut Rng, sp: &Spec, run: &Runner, c: &Cmd, out: &mut Vec<Cmd>) {
         }
         3 => {
             // 1,000,000,000 frames are in: refusal 13 (only for pushes)
-            if !matches!(c, Cmd::Push(_)) {
+            if !matches!(c, Cmd::Push(_)) && !matches!(c, Cmd::Step(_, _, b) if b[0] == 1) {
                 return;
             }
             al.push(Alter::Waiting(vec![]));

@@ -9,6 +9,7 @@ pub mod model;
 pub mod nearest;
 pub mod original;
 pub mod rattle;
+pub mod registers;
 pub mod requests;
 pub mod requests_nan;
 pub mod script;

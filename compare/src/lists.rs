@@ -360,6 +360,34 @@ pub fn one(seed: u64, what: What, t: &mut Tally) {
                     check(p.st.x_held(), p.st.x_state(), p.st.x_next(), p.st.x_waiting(), p.st.num_frames_ready(), "the original");
                 }
             }
+            Cmd::Step(n, x, b) => {
+                // not followed on the original: each step is its plain call, and those are compared in the other kinds
+                (ps, ns) = (None, None);
+                t.forged += u64::from(!al.is_empty());
+                let Some(s) = rs.as_mut() else { continue };
+                let (mut block, mut out) = (b.clone(), vec![0xDEAD_BEEF_u32; *n]);
+                t.library += 1;
+                let (k, wrong) = s.stepped(&mut block, x, &mut out, &al);
+                if let Some(w) = wrong {
+                    t.diff(seed, what, i, w);
+                    return;
+                }
+                let vector = run.last.as_ref().and_then(|a| a.vector.as_ref()).map_or(vec![0xDEAD_BEEF; *n], |v| v.1.clone());
+                let (want, after) = match &run.last_block {
+                    Some(b) => (0, b),
+                    None => (10, b),
+                };
+                if k != want || &block != after || out != vector {
+                    t.diff(seed, what, i, format!("step: machine {want} {after:x?} {vector:x?}, library {k} {block:x?} {out:x?}"));
+                    return;
+                }
+                if !vector.is_empty() && run.last.as_ref().is_some_and(|a| a.vector.is_some()) {
+                    t.fetches += 1;
+                }
+                if al.is_empty() && !library_state(t, &run, rs.as_ref().unwrap(), seed, what, i) {
+                    return;
+                }
+            }
             Cmd::Table(room, w, sub, ph) => {
                 sil = (n == 0 && HERE).then(|| plain::Silence::new(ph, *w, *sub as usize));
                 let (rn, s, wrong) = rattle::Silence::make(*room as usize, *w, *sub as usize, ph);

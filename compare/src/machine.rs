@@ -1093,6 +1093,16 @@ impl Stream {
     fn said(&self, r: &Record, n: u32) -> Answer {
         Answer { refusal: n, held: Some(held(r.accepted, r.mark, r.opts.window)), vector: None, nans: 0 }
     }
+    /// Request 11: frames held, and whether a push of a proper frame would be taken; none where the record falls under 10.
+    pub fn push_room(&self, al: &[Alter]) -> Option<(u64, bool)> {
+        let r = self.record(al);
+        if record_bad(&r) {
+            return None;
+        }
+        let (hf, hr) = self.said(&r, 0).held.unwrap();
+        let (f, rr, _) = rooms(&r);
+        Some((hf, r.accepted < 1_000_000_000 && hf < f && hr < rr))
+    }
     fn done(&self) -> Answer {
         self.said(&self.record(&[]), 0)
     }

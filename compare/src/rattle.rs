@@ -275,6 +275,8 @@ pub enum Call<'a> {
     Change(&'a [usize], &'a [f32]),
     Forget(usize),
     Fetch(usize, &'a mut [u32]),
+    /// A step over registers: the block, the frame buffer, the vector buffer. Its answer has a refusal alone.
+    Step(&'a mut [u8], &'a [f32], &'a mut [u32]),
 }
 
 #[rustfmt::skip]
@@ -332,6 +334,22 @@ fn lend(t: &Tables, rec: &mut IvectorStream, z: &mut Rooms, call: &mut Call, l: 
                 z.scratch.all.as_mut_ptr(), z.scratch.by(l[16]),
                 out.as_mut_ptr(), out.len(),
             ),
+            Call::Step(block, frame, out) => {
+                let a = c::shofrakin_registers_step(
+                    rec, block.as_mut_ptr(), block.len(), frame.as_ptr(), frame.len(),
+                    t.gconsts.all.as_ptr(), t.gconsts.by(l[0]), t.means_invvars_t.all.as_ptr(), t.means_invvars_t.by(l[1]),
+                    t.inv_vars_t.all.as_ptr(), t.inv_vars_t.by(l[2]), t.sigma_inv_m.all.as_ptr(), t.sigma_inv_m.by(l[3]),
+                    t.u.all.as_ptr(), t.u.by(l[4]), t.lda_t.all.as_ptr(), t.lda_t.by(l[5]),
+                    t.lda_offset.all.as_ptr(), t.lda_offset.by(l[6]), t.global_mean_stats.all.as_ptr(), t.global_mean_stats.by(l[7]),
+                    z.frames.all.as_mut_ptr(), fl, z.rows.all.as_mut_ptr(), rl,
+                    z.waiting_frames.all.as_mut_ptr(), wf, z.waiting_weights.all.as_mut_ptr(), ww,
+                    z.cmvn_stats.all.as_mut_ptr(), z.cmvn_stats.by(l[12]), z.linear.all.as_mut_ptr(), z.linear.by(l[13]),
+                    z.quadratic.all.as_mut_ptr(), z.quadratic.by(l[14]), z.current.all.as_mut_ptr(), z.current.by(l[15]),
+                    z.scratch.all.as_mut_ptr(), z.scratch.by(l[16]),
+                    out.as_mut_ptr(), out.len(),
+                );
+                StreamAnswer { refusal: a.refusal, frames_held: 0, rows_held: 0, not_finite: 0, nan_likelihoods: 0 }
+            }
         }
     }
 }
@@ -466,6 +484,44 @@ impl Stream {
             }
         }
         (a, wrong)
+    }
+
+    /// A step over registers, with forged parts if any, against the plain call that its command is. Its answer, and what is wrong: it leaves
+    /// record, rooms and vector buffer as the plain call does, and nothing is written where there is none or it is refused.
+    pub fn stepped(&mut self, block: &mut [u8], frame: &[f32], out: &mut [u32], al: &[Alter]) -> (usize, Option<String>) {
+        let f = forge(self.rec, al);
+        let mut plain = self.clone();
+        let mut plain_out = out.to_vec();
+        let call = crate::registers::command(block, frame, out.len());
+        let mut wrong = None;
+        let (mut rec, mut refused) = (f.rec, true);
+        if let Some(c) = &call {
+            let mut c = match c {
+                crate::script::Cmd::Push(_) => Call::Push(frame),
+                crate::script::Cmd::Finish => Call::Finish,
+                crate::script::Cmd::Forget(n) => Call::Forget(*n as usize),
+                crate::script::Cmd::Fetch(n, _) => Call::Fetch(*n as usize, &mut plain_out),
+                _ => unreachable!(),
+            };
+            let (a, r) = plain.raw(&mut c, &f);
+            rec = r;
+            refused = a.refusal != 0;
+        }
+        let before = self.rooms.clone();
+        let (a, left) = self.raw(&mut Call::Step(block, frame, out), &f);
+        if bits(&left) != bits(&rec) {
+            wrong = Some("a step leaves another record than the plain call".to_string());
+        }
+        if !same_rooms(&self.rooms, &plain.rooms) || out[..] != plain_out[..] {
+            wrong = Some("a step leaves other rooms or another vector than the plain call".to_string());
+        }
+        if refused && !same_rooms(&self.rooms, &before) {
+            wrong = Some("a step without a call, or with a refused one, wrote into a room".to_string());
+        }
+        if al.is_empty() {
+            self.rec = left;
+        }
+        (a.refusal, wrong)
     }
 
     pub fn ready(&self) -> usize {

@@ -17,6 +17,8 @@ pub enum Cmd {
     Table(u64, f32, u64, Vec<i32>),
     Trace(u64, Vec<i32>, Vec<u64>, Vec<u64>),
     Weigh(u64, u64, u64, u64),
+    /// Request 11: the length of the vector buffer, the frame buffer, the block.
+    Step(usize, Vec<f32>, Vec<u8>),
     Alter(Alter),
     SAlter(SAlter),
     End,
@@ -38,6 +40,10 @@ fn joined<T: ToString>(v: &[T]) -> String {
     v.iter().map(|x| x.to_string()).collect::<Vec<_>>().join(" ")
 }
 
+fn hex(b: &[u8]) -> String {
+    b.iter().map(|x| format!("{x:02x}")).collect()
+}
+
 pub fn print(c: &Cmd) -> String {
     match c {
         Cmd::Options(o) => format!(
@@ -53,13 +59,8 @@ pub fn print(c: &Cmd) -> String {
             o.max_count.to_bits(),
             o.min_energy.to_bits()
         ),
-        Cmd::Bytes(k, b) => {
-            let mut s = format!("{} {} ", ['g', 'e', 'l', 'c'][*k], b.len());
-            for x in b {
-                s.push_str(&format!("{x:02x}"));
-            }
-            s
-        }
+        Cmd::Bytes(k, b) => format!("{} {} {}", ['g', 'e', 'l', 'c'][*k], b.len(), hex(b)),
+        Cmd::Step(n, x, b) => format!("r {n} {} {} {}", list(x, |v| h32(*v)), b.len(), hex(b)),
         Cmd::Model(d) => format!("m {}", joined(d)),
         Cmd::Tables => "k".into(),
         Cmd::Stream(l, d) => format!("s {} {}", joined(l), joined(d)),
@@ -97,6 +98,13 @@ impl<'a> Toks<'a> {
     fn f(&mut self) -> f32 {
         f32::from_bits(u32::from_str_radix(self.s(), 16).expect("hex"))
     }
+    fn bytes(&mut self) -> Vec<u8> {
+        let n = self.u() as usize;
+        let h = self.s().as_bytes();
+        assert!(h.len() == 2 * n);
+        let v = |c: u8| (c as char).to_digit(16).expect("hex") as u8;
+        (0..n).map(|i| v(h[2 * i]) * 16 + v(h[2 * i + 1])).collect()
+    }
     fn list<T, F: FnMut(&mut Self) -> T>(&mut self, mut f: F) -> Vec<T> {
         let n = self.u();
         (0..n).map(|_| f(self)).collect()
@@ -119,12 +127,10 @@ pub fn parse(line: &str) -> Cmd {
             min_energy: t.f(),
         }),
         k @ ("g" | "e" | "l" | "c") => {
-            let n = t.u() as usize;
-            let h = t.s().as_bytes();
-            assert!(h.len() == 2 * n);
-            let v = |c: u8| (c as char).to_digit(16).expect("hex") as u8;
-            Cmd::Bytes("gelc".find(k).unwrap(), (0..n).map(|i| v(h[2 * i]) * 16 + v(h[2 * i + 1])).collect())
+            let b = t.bytes();
+            Cmd::Bytes("gelc".find(k).unwrap(), b)
         }
+        "r" => Cmd::Step(t.u() as usize, t.list(|t| t.f()), t.bytes()),
         "m" => Cmd::Model(std::array::from_fn(|_| t.i())),
         "k" => Cmd::Tables,
         "s" => Cmd::Stream(std::array::from_fn(|_| t.u()), std::array::from_fn(|_| t.i())),
@@ -168,6 +174,8 @@ pub struct Runner {
     pub sal: Vec<SAlter>,
     pub last: Option<Answer>,
     pub last_weigh: Option<Vec<(u64, f32)>>,
+    /// The block after a step that was not answered 10.
+    pub last_block: Option<Vec<u8>>,
     pub refusals: std::collections::BTreeMap<(char, u32), u64>,
 }
 
@@ -209,6 +217,7 @@ impl Runner {
     pub fn exec(&mut self, c: &Cmd) -> Option<String> {
         self.last = None;
         self.last_weigh = None;
+        self.last_block = None;
         match c {
             Cmd::Options(o) => {
                 self.opts = Some(*o);
@@ -301,6 +310,22 @@ impl Runner {
                 self.note(k, a.refusal);
                 let s = show(&a);
                 self.last = Some(a);
+                Some(s)
+            }
+            Cmd::Step(n, x, b) => {
+                let al = std::mem::take(&mut self.al);
+                let mut b = b.clone();
+                let (k, answer) = crate::registers::step(self.stream.as_mut().expect("no stream"), &mut b, x, *n, &al);
+                self.note('r', answer.as_ref().map_or(k, |a| a.refusal));
+                if k != 0 {
+                    return Some(format!("{k}"));
+                }
+                let mut s = format!("0 {}", hex(&b));
+                if let Some(Answer { vector: Some((_, v)), .. }) = &answer {
+                    v.iter().for_each(|b| s.push_str(&format!(" {b:08x}")));
+                }
+                self.last = answer;
+                self.last_block = Some(b);
                 Some(s)
             }
             Cmd::Table(r, w, s, p) => {

@@ -30,6 +30,12 @@ use Rattle.definition.proofs.DecoderFrame.Laws as G′
 use Rattle.definition.proofs.InputFrame as I
 use Rattle.definition.proofs.InputFrame.Laws as I′
 use Rattle.exports.specs.declared.SilenceCounts.{SilenceCounts}
+use Rattle.registers.specs.declared.BoardAnswer.{BoardAnswer}
+use Rattle.registers.proofs.BoardAnswer as B
+use Rattle.registers.proofs.BoardAnswer.Laws as B′
+use Rattle.exports.specs.declared.StepAnswer.{StepAnswer}
+use Rattle.exports.proofs.StepAnswer as P
+use Rattle.exports.proofs.StepAnswer.Laws as P′
 use Rattle.exports.proofs.SilenceCounts as N
 use Rattle.exports.proofs.SilenceCounts.Laws as N′
 use Rattle.exports.proofs.Lent.{Data, rowOf, val}
@@ -53,6 +59,23 @@ stream-is r is = LL.owed C.the-type C′.the-laws r _ is .1 .0
 -- what holds of each number of the record that a call returns
 abbrev pub stream-parts : (r : StreamCall) → Is (rowOf stream-call) r (val stream-call r ∷ []) → AreAll (fields S.the-type) (S.the-type .to (r .stream)) (valss (fields S.the-type) (LL.spells (S.the-type .parts) S′.the-laws) (S.the-type .to (r .stream)))
 stream-parts r is = LL.owed S.the-type S′.the-laws (r .stream) _ (stream-is r is)
+
+-- ---- a step over registers
+abbrev pub step-answer : Data
+step-answer = record { type = P.the-type; laws = P′.the-laws; plain = P′.the-plain; copy = P′.the-copy }
+
+abbrev pub board-answer : Data
+board-answer = record { type = B.the-type; laws = B′.the-laws; plain = B′.the-plain; copy = B′.the-copy }
+
+-- what a step answers, less the record
+abbrev pub stepAnswer : BoardAnswer → StepAnswer
+stepAnswer a = record { refusal = a .refusal }
+
+pub step-is : (r : BoardAnswer) → Is (rowOf board-answer) r (val board-answer r ∷ []) → Is (rowOf step-answer) (stepAnswer r) (val step-answer (stepAnswer r) ∷ [])
+step-is r is = LL.owes P.the-type P′.the-laws (stepAnswer r) (LL.owed B.the-type B′.the-laws r _ is .0, tt)
+
+pub board-stream : (r : BoardAnswer) → Is (rowOf board-answer) r (val board-answer r ∷ []) → Is (rowOf stream) (r .stream) (val stream (r .stream) ∷ [])
+board-stream r is = LL.owed B.the-type B′.the-laws r _ is .1 .0
 
 -- ---- a silence table
 abbrev pub silence : Data

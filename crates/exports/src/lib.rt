@@ -31,6 +31,8 @@ ghost use Rattle.definition.specs.Silence.{TableRooms, tableRooms, newTable, ac
 ghost use Rattle.program.specs.Rooms.{Rings, ringsFrom, estimateFrom, Rooms, roomsFrom, roomLengthsOf};
 ghost use Rattle.program.specs.Calls.{newAnswer, freshRooms, ringCall, doneOn, pushFrame, setInputFinished, updateFrameWeights, forgetBefore, Step, fetchCall, fetchedOn, getFrame};
 ghost use Rattle.nearest_voice.specs.Voice.{nearestVoice, voiceAnswer};
+ghost use Rattle.program.specs.Session.{program};
+ghost use Rattle.registers.specs.Board.{Board, board, blockRefusal, boardStep, FetchTaken};
 ghost use Rattle.ivector_info.specs.Load.{filesOf, scratchKept};
 ghost use Rattle.exports.specs.Answers.{loadAnswer, noInfo, answered, newStreamAnswer, newTableAnswer, counted, noStream, noTable};
 
@@ -53,6 +55,12 @@ pub struct NewTableAnswer {
 pub struct SilenceCounts {
     pub refusal: usize,
     pub changes: usize,
+}
+
+// The answer of a step over registers: 0, or 10 for a block that has not sixteen bytes.
+#[repr(C)]
+pub struct StepAnswer {
+    pub refusal: usize,
 }
 
 // ---- load
@@ -586,4 +594,71 @@ pub extern "C" fn shofrakin_nearest_voice(
 {
     let a = nearest_voice::nearest_voice(dim, vector, count, enrolled, limit);
     nearest_voice::voice_answer(a)
+}
+
+// ---- a board with registers
+
+// `registers::step`.
+#[no_mangle]
+pub extern "C" fn shofrakin_registers_step(
+    s: &mut IvectorStream,
+    block: &mut [u8],
+    frame: &[f32],
+    gconsts: &[f32],
+    means_invvars_t: &[f32],
+    inv_vars_t: &[f32],
+    sigma_inv_m: &[f64],
+    u: &[f64],
+    lda_t: &[f32],
+    lda_offset: &[f32],
+    global_mean_stats: &[f64],
+    frames: &mut [f32],
+    rows: &mut [f64],
+    waiting_frames: &mut [usize],
+    waiting_weights: &mut [f32],
+    cmvn_stats: &mut [f64],
+    linear: &mut [f64],
+    quadratic: &mut [f64],
+    current: &mut [f64],
+    scratch: &mut [f64],
+    out: &mut [u32],
+) -> StepAnswer
+    ensures { λ r. ⌜ (
+        let t : Tables = tablesFrom (now (gconsts .entry)) (now («means_invvars_t» .entry)) (now («inv_vars_t» .entry)) (now («sigma_inv_m» .entry))
+        (now (u .entry)) (now («lda_t» .entry)) (now («lda_offset» .entry)) (now («global_mean_stats» .entry)) in
+        let z : Rooms = roomsFrom (ringsFrom (now (frames .entry)) (now (rows .entry)) (now («waiting_frames» .entry)) (now («waiting_weights» .entry)))
+        (estimateFrom (now («cmvn_stats» .entry)) (now (linear .entry)) (now (quadratic .entry)) (now (current .entry))) in
+        let y : Rooms = roomsFrom (ringsFrom (now (frames .exit)) (now (rows .exit)) (now («waiting_frames» .exit)) (now («waiting_weights» .exit)))
+        (estimateFrom (now («cmvn_stats» .exit)) (now (linear .exit)) (now (quadratic .exit)) (now (current .exit))) in
+        let a : Board = board (program (now (s .entry)) z) (now (block .entry)) (now (out .entry)) in
+        let n : ℕ = length (now (scratch .entry)) in
+        (r .refusal ≡ blockRefusal (now (block .entry)))
+        × (board (program (now (s .exit)) y) (now (block .exit)) (now (out .exit)) ≡ boardStep t n (now (frame .entry)) a)
+        × ((FetchTaken t n a → ⊥) → now (scratch .exit) ≡ now (scratch .entry))) ⌝ }
+{
+    let c = registers::step(
+        *s,
+        block,
+        frame,
+        gconsts,
+        means_invvars_t,
+        inv_vars_t,
+        sigma_inv_m,
+        u,
+        lda_t,
+        lda_offset,
+        global_mean_stats,
+        frames,
+        rows,
+        waiting_frames,
+        waiting_weights,
+        cmvn_stats,
+        linear,
+        quadratic,
+        current,
+        scratch,
+        out,
+    );
+    *s = c.stream;
+    StepAnswer { refusal: c.refusal }
 }

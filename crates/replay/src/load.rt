@@ -53,7 +53,7 @@ fn hex_digit(b: u8) -> u8
 }
 
 // A file's bytes, in a room from a place on; the place after them.
-fn read_bytes(text: &[u8], at: usize, bytes: &mut [u8], from: usize) -> usize {
+pub(crate) fn read_bytes(text: &[u8], at: usize, bytes: &mut [u8], from: usize) -> usize {
     let n = script::number(text, at, 10);
     let mut place = from;
     let mut next = n.next;

@@ -35,6 +35,7 @@ use session::is_setting;
 use session::new_session;
 use session::settings;
 use stream::fetch_line;
+use stream::is_fetch;
 use stream::new_line;
 use stream::ring_line;
 
@@ -108,9 +109,10 @@ fn line(
             scratch,
         );
     }
-    if letter == b'v' {
+    if is_fetch(letter) {
         if s.waiting_forged {
             return fetch_line(
+                letter,
                 text,
                 at,
                 s,
@@ -134,6 +136,7 @@ fn line(
             );
         }
         return fetch_line(
+            letter,
             text,
             at,
             s,

@@ -60,6 +60,17 @@ fn wide(bits: u32) -> u64 {
     bits as u64
 }
 
+// A block of registers.
+pub(crate) fn print_bytes(items: &[u8]) {
+    for i in 0..items.len() {
+        print_byte(items[i]);
+    }
+}
+
+fn print_byte(b: u8) {
+    io::print_hex(STDOUT_FILENO, b as u64, 2);
+}
+
 // The number of an answer, and what is held. 10 stands alone.
 pub(crate) fn print_answer(a: StreamAnswer) {
     print_number(a.refusal);

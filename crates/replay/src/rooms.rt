@@ -203,6 +203,16 @@ pub(crate) fn front_u32(room: &[u32], n: usize) -> &[u32] {
     &room[0..k]
 }
 
+pub(crate) fn lend_u8(room: &mut [u8], n: usize) -> &mut [u8] {
+    let k = script::at_most(n, room.len());
+    &mut room[0..k]
+}
+
+pub(crate) fn front_u8(room: &[u8], n: usize) -> &[u8] {
+    let k = script::at_most(n, room.len());
+    &room[0..k]
+}
+
 // The bytes from a place to another.
 pub(crate) fn part(bytes: &[u8], from: usize, to: usize) -> &[u8] {
     let e = script::at_most(to, bytes.len());

@@ -1,7 +1,10 @@
 // The lines that make a stream, or call it. Each call is lent the fronts of the program's rooms that the script wants.
+use super::load::read_bytes;
 use super::print::does_not_fit;
 use super::print::not_here;
 use super::print::print_answer;
+use super::print::print_bytes;
+use super::print::print_line;
 use super::print::print_next;
 use super::print::print_vector;
 use super::print::say;
@@ -26,10 +29,12 @@ use super::rooms::WaitingWeights;
 use super::rooms::fit;
 use super::rooms::front_f32;
 use super::rooms::front_f64;
+use super::rooms::front_u8;
 use super::rooms::front_u32;
 use super::rooms::front_usize;
 use super::rooms::lend_f32;
 use super::rooms::lend_f64;
+use super::rooms::lend_u8;
 use super::rooms::lend_u32;
 use super::rooms::lend_usize;
 use super::rooms::needs;
@@ -45,6 +50,7 @@ use definition::IvectorInfo;
 use definition::IvectorStream;
 use definition::NewStream;
 use definition::StreamCall;
+use registers::BoardAnswer;
 
 // ---- `s FL RL WF WW c0 .. c4`
 
@@ -319,8 +325,9 @@ fn fetch_in(
     )
 }
 
-// `v F n`. An output that is longer than 160 is longer than any vector.
+// `v F n`, and a step. An output that is longer than 160 is longer than any vector.
 pub(crate) fn fetch_line(
+    letter: u8,
     text: &[u8],
     at: usize,
     session: Session,
@@ -332,8 +339,8 @@ pub(crate) fn fetch_line(
     lda_t: &Lda,
     lda_offset: &LdaOffset,
     global_mean_stats: &GlobalRow,
-    frames: &Frames,
-    rows: &Rows,
+    frames: &mut Frames,
+    rows: &mut Rows,
     waiting_frames: &mut WaitingFrames,
     waiting_weights: &mut WaitingWeights,
     cmvn_stats: &mut CmvnStats,
@@ -342,15 +349,40 @@ pub(crate) fn fetch_line(
     current: &mut Current,
     scratch: &mut Scratch,
 ) -> Session {
-    let mut out = [0u32; 160];
-    let frame = script::number(text, at, 10);
-    let n = script::number(text, frame.next, 10);
     let told = session.told;
     let z = session.lent;
     let Held::Stream(s) = told else {
         not_here();
         return session;
     };
+    if letter == b'r' {
+        return step_line(
+            text,
+            at,
+            session,
+            s,
+            gconsts,
+            means_invvars_t,
+            inv_vars_t,
+            sigma_inv_m,
+            u,
+            lda_t,
+            lda_offset,
+            global_mean_stats,
+            frames,
+            rows,
+            waiting_frames,
+            waiting_weights,
+            cmvn_stats,
+            linear,
+            quadratic,
+            current,
+            scratch,
+        );
+    }
+    let mut out = [0u32; 160];
+    let frame = script::number(text, at, 10);
+    let n = script::number(text, frame.next, 10);
     let call = fetch_in(
         s,
         frame.value,
@@ -388,6 +420,155 @@ fn fetched(session: Session, call: StreamCall, vector: &[u32]) -> Session {
     say(b"\n");
     let stream = call.stream;
     after(session, stream)
+}
+
+// ---- `r M n x1 .. xn N HEX`
+
+fn step_in(
+    s: IvectorStream,
+    z: Lengths,
+    block: &mut [u8],
+    frame: &[f32],
+    gconsts: &[f32],
+    means_invvars_t: &[f32],
+    inv_vars_t: &[f32],
+    sigma_inv_m: &[f64],
+    u: &[f64],
+    lda_t: &[f32],
+    lda_offset: &[f32],
+    global_mean_stats: &[f64],
+    frames: &mut [f32],
+    rows: &mut [f64],
+    waiting_frames: &mut [usize],
+    waiting_weights: &mut [f32],
+    cmvn_stats: &mut [f64],
+    linear: &mut [f64],
+    quadratic: &mut [f64],
+    current: &mut [f64],
+    scratch: &mut [f64],
+    out: &mut [u32],
+) -> BoardAnswer {
+    registers::step(
+        s,
+        block,
+        frame,
+        front_f32(gconsts, z[0]),
+        front_f32(means_invvars_t, z[1]),
+        front_f32(inv_vars_t, z[2]),
+        front_f64(sigma_inv_m, z[3]),
+        front_f64(u, z[4]),
+        front_f32(lda_t, z[5]),
+        front_f32(lda_offset, z[6]),
+        front_f64(global_mean_stats, z[7]),
+        lend_f32(frames, z[8]),
+        lend_f64(rows, z[9]),
+        lend_usize(waiting_frames, z[10]),
+        lend_f32(waiting_weights, z[11]),
+        lend_f64(cmvn_stats, z[12]),
+        lend_f64(linear, z[13]),
+        lend_f64(quadratic, z[14]),
+        lend_f64(current, z[15]),
+        lend_f64(scratch, z[16]),
+        out,
+    )
+}
+
+// A block that is longer than this room is longer than a block may be.
+fn step_line(
+    text: &[u8],
+    at: usize,
+    session: Session,
+    s: IvectorStream,
+    gconsts: &Gconsts,
+    means_invvars_t: &Means,
+    inv_vars_t: &InvVars,
+    sigma_inv_m: &SigmaInvM,
+    u: &U,
+    lda_t: &Lda,
+    lda_offset: &LdaOffset,
+    global_mean_stats: &GlobalRow,
+    frames: &mut Frames,
+    rows: &mut Rows,
+    waiting_frames: &mut WaitingFrames,
+    waiting_weights: &mut WaitingWeights,
+    cmvn_stats: &mut CmvnStats,
+    linear: &mut Linear,
+    quadratic: &mut Quadratic,
+    current: &mut Current,
+    scratch: &mut Scratch,
+) -> Session {
+    let mut out = [0u32; 160];
+    let mut frame = [0.0f32; 128];
+    let mut block = [0u8; 64];
+    let z = session.lent;
+    let m = script::number(text, at, 10);
+    let n = script::number(text, m.next, 10);
+    let next = script::read_floats(text, n.next, n.value, &mut frame);
+    let bytes = read_bytes(text, next, &mut block, 0);
+    let command = block[0];
+    let answer = step_in(
+        s,
+        z,
+        lend_u8(&mut block, bytes),
+        front_f32(&frame, n.value),
+        gconsts,
+        means_invvars_t,
+        inv_vars_t,
+        sigma_inv_m,
+        u,
+        lda_t,
+        lda_offset,
+        global_mean_stats,
+        frames,
+        rows,
+        waiting_frames,
+        waiting_weights,
+        cmvn_stats,
+        linear,
+        quadratic,
+        current,
+        scratch,
+        lend_u32(&mut out, m.value),
+    );
+    step_answer(
+        session,
+        answer,
+        command,
+        front_u8(&block, bytes),
+        front_u32(&out, m.value),
+    )
+}
+
+// The step's answer and the block; the vector where the command was a fetch and was taken.
+fn step_answer(
+    session: Session,
+    answer: BoardAnswer,
+    command: u8,
+    block: &[u8],
+    vector: &[u32],
+) -> Session {
+    let stream = answer.stream;
+    if answer.refusal != 0 {
+        print_line(answer.refusal);
+        return after(session, stream);
+    }
+    say(b"0 ");
+    print_bytes(block);
+    if command == 4 {
+        if script::byte_at(block, 1) % 2 == 1 {
+            print_vector(vector);
+        }
+    }
+    say(b"\n");
+    after(session, stream)
+}
+
+// A call that is lent every room.
+pub(crate) fn is_fetch(letter: u8) -> bool {
+    match letter {
+        b'v' | b'r' => true,
+        _ => false,
+    }
 }
 
 fn is_call(letter: u8) -> bool {

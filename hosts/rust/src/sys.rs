@@ -177,6 +177,10 @@ records! {
         index: usize,
         distance: f32,
     }
+
+    shofrakin_step_answer: struct StepAnswer {
+        refusal: usize,
+    }
 }
 
 // A slice is a pointer and a length, two arguments.
@@ -256,4 +260,16 @@ extern "C" {
     pub fn shofrakin_nearest_voice(
         dim: usize, vector: *const u32, vector_len: usize, count: usize, enrolled: *const u32, enrolled_len: usize, limit: f32,
     ) -> VoiceAnswer;
+    pub fn shofrakin_registers_step(
+        s: *mut IvectorStream, block: *mut u8, block_len: usize, frame: *const f32, frame_len: usize,
+        gconsts: *const f32, gconsts_len: usize, means_invvars_t: *const f32, means_invvars_t_len: usize,
+        inv_vars_t: *const f32, inv_vars_t_len: usize, sigma_inv_m: *const f64, sigma_inv_m_len: usize,
+        u: *const f64, u_len: usize, lda_t: *const f32, lda_t_len: usize,
+        lda_offset: *const f32, lda_offset_len: usize, global_mean_stats: *const f64, global_mean_stats_len: usize,
+        frames: *mut f32, frames_len: usize, rows: *mut f64, rows_len: usize,
+        waiting_frames: *mut usize, waiting_frames_len: usize, waiting_weights: *mut f32, waiting_weights_len: usize,
+        cmvn_stats: *mut f64, cmvn_stats_len: usize, linear: *mut f64, linear_len: usize,
+        quadratic: *mut f64, quadratic_len: usize, current: *mut f64, current_len: usize,
+        scratch: *mut f64, scratch_len: usize, out: *mut u32, out_len: usize,
+    ) -> StepAnswer;
 }
