@@ -14,7 +14,7 @@
  * The calls ask nothing else: whatever numbers they get, they return; the questions answer any record. They keep no state, allocate
  * nothing, and may run in several threads on different records and rooms.
  *
- * Answers: `refusal` is 0 for a call that is taken, else a number from 1 to 24, or 27 to 29. A refused call writes nowhere.
+ * Answers: `refusal` is 0 for a call that is taken, else a number from 1 to 24, or 27 to 30. A refused call writes nowhere.
  *   1 an option is outside its range               13 push: 1,000,000,000 frames are in
  *   2 bytes end before an item does                14 push: the frame room is full
  *   3 the mark, a token or a size byte is wrong    15 push: the row room is full
@@ -28,7 +28,7 @@
  *  11 push: length is not the base dimension       23 silence: more frames than the table has, or a frame number too high
  *  12 push: a number is not finite                 24 silence: lists of different length, or too short for the answer
  *  27 voice: no enrolled vector, or more than 32   29 voice: a number not finite, or a limit below 0
- *  28 voice: a length is not the dimension's
+ *  28 voice: a length is not the dimension's       30 change: a frame below one that a forget named
  */
 #ifndef SHOFRAKIN_H
 #define SHOFRAKIN_H
@@ -133,7 +133,8 @@ typedef struct {
 } shofrakin_room_lengths;
 
 /* A stream's record: its model's record, the lengths of its rooms, frames accepted, the first frame not in the statistics, the mark below
- * which nothing is kept, changes that wait, one more than the highest changed frame, and the statistics' frame count. */
+ * which nothing is kept, changes that wait, one more than the highest changed frame, the statistics' frame count, and the floor: the
+ * highest frame named in a forget. */
 typedef struct {
     shofrakin_info info;
     shofrakin_room_lengths lengths;
@@ -145,6 +146,7 @@ typedef struct {
     bool delta_weights_provided;
     bool input_finished;
     double num_frames;
+    size_t floor;
 } shofrakin_stream;
 
 /* The answer of a call on a stream: the refusal, frames and prefix rows held (0 with a refusal 10), and, of a fetch, how many elements
@@ -190,13 +192,15 @@ shofrakin_stream_answer shofrakin_set_input_finished(shofrakin_stream *s,
     const size_t *waiting_frames, size_t waiting_frames_len, const float *waiting_weights, size_t waiting_weights_len);
 
 /* Changes of weights, by frame, at most 384 in one call: more go into several, which do what one would. From the first such call on, even an
- * empty one, fetches are weighted. Refusals 10, 16 to 19. */
+ * empty one, fetches are weighted. Refusals 10, 16, 17, 30, 19, in that order (18 stands between 30 and 19, and never occurs). */
 shofrakin_stream_answer shofrakin_update_frame_weights(shofrakin_stream *s,
     const size_t *delta_frames, size_t delta_frames_len, const float *delta_weights, size_t delta_weights_len,
     const float *frames, size_t frames_len, const double *rows, size_t rows_len,
     size_t *waiting_frames, size_t waiting_frames_len, float *waiting_weights, size_t waiting_weights_len);
 
-/* An utterance begins at `frame`, and no change will reach before it: frees what neither it nor a waiting change can need. Refusal 10. */
+/* An utterance begins at `frame`, and no change may name a frame before it from now on: frees what neither it nor a waiting change can need.
+ * Refusal 10. Any frame number is taken and none is taken back: a forget far ahead, of SIZE_MAX say, ends all changes of this stream for
+ * good (30), but for the empty one. */
 shofrakin_stream_answer shofrakin_forget_before(shofrakin_stream *s, size_t frame,
     const float *frames, size_t frames_len, const double *rows, size_t rows_len,
     const size_t *waiting_frames, size_t waiting_frames_len, const float *waiting_weights, size_t waiting_weights_len);

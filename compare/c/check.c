@@ -278,6 +278,10 @@ int main(void) {
     took("change, no room", shofrakin_update_frame_weights(&stream, at, 1, w, 1, RINGS), 19, 4, 5);
     took("change, lists", shofrakin_update_frame_weights(&stream, at, 2, w, 1, RINGS), 16, 4, 5);
     took("forget", shofrakin_forget_before(&stream, 3, RINGS), 0, 4, 5);
+    is("the floor", stream.floor, 3);
+    took("forget, lower", shofrakin_forget_before(&stream, 1, RINGS), 0, 4, 5);
+    is("the floor, after a lower one", stream.floor, 3);
+    took("change, below the floor", shofrakin_update_frame_weights(&stream, at + 2, 1, w, 1, RINGS), 30, 4, 5);
     is("i-vector dimension", shofrakin_ivector_dim(&stream), 1);
     is("next", shofrakin_num_frames_stats(&stream), 0);
 

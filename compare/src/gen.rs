@@ -572,18 +572,20 @@ pub enum What {
     Exact,
     /// Request No. 11: steps over a block of registers.
     Registers,
+    /// Request No. 8: changes and forgets around the floor.
+    Floor,
 }
 
 /// What `all` stands for (Big and Cuts are asked for by name).
 #[rustfmt::skip]
-pub const KINDS: [What; 12] = [
+pub const KINDS: [What; 13] = [
     What::Calls, What::Wild, What::Damage, What::Edges, What::Rooms, What::Forged, What::Silence, What::Long, What::Limit,
-    What::Exact, What::Nan, What::Registers,
+    What::Exact, What::Nan, What::Registers, What::Floor,
 ];
 #[rustfmt::skip]
-pub const NAMED: [What; 14] = [
+pub const NAMED: [What; 15] = [
     What::Calls, What::Wild, What::Damage, What::Edges, What::Rooms, What::Forged, What::Silence, What::Long, What::Limit,
-    What::Exact, What::Nan, What::Registers, What::Big, What::Cuts,
+    What::Exact, What::Nan, What::Registers, What::Floor, What::Big, What::Cuts,
 ];
 
 pub struct CallList {
@@ -610,6 +612,7 @@ pub fn call_list(seed: u64, what: What) -> CallList {
         What::Limit => crate::requests::limit(&mut r, &mut s),
         What::Exact => crate::requests::exact(&mut r, &mut s),
         What::Registers => crate::registers::registers(&mut r, &mut s),
+        What::Floor => crate::requests_floor::floor(&mut r, &mut s),
     }
     s.cmds.push(Cmd::End);
     s
@@ -677,7 +680,8 @@ fn calls(r: &mut Rng, out: &mut CallList, wild: bool, forged: bool) {
                     3..=6 => r.r(1, 3),
                     _ => r.r(1, 12),
                 };
-                let lo = st.mark + if st.mark > 0 { sp.opts.left } else { 0 };
+                let floor = st.floor.min(acc + 100);
+                let lo = floor.max(st.mark + if st.mark > 0 { sp.opts.left } else { 0 });
                 let lo = if r.p(85) { lo } else { lo.saturating_sub(r.r(1, 2)) };
                 let hi = acc.max(lo) + r.n(6);
                 let mut fr: Vec<u64> = (0..k).map(|_| r.r(lo, hi)).collect();
@@ -694,7 +698,7 @@ fn calls(r: &mut Rng, out: &mut CallList, wild: bool, forged: bool) {
                 }
                 if r.p(3) && st.mark > 0 && k > 0 {
                     // two faults: the lower number answers
-                    fr[0] = (st.mark + sp.opts.left).saturating_sub(1);
+                    fr[0] = floor.max(st.mark + sp.opts.left).saturating_sub(1);
                     match r.n(3) {
                         0 => fr[k as usize - 1] = 1_000_000_000,
                         1 => {
@@ -715,7 +719,9 @@ fn calls(r: &mut Rng, out: &mut CallList, wild: bool, forged: bool) {
                 let f = match r.n(6) {
                     0 => r.n(acc + 2),
                     1 => next,
-                    2 => u64::MAX,
+                    // it ends all changes
+                    2 if r.p(5) => u64::MAX,
+                    2 => next + r.n(3),
                     3 => next.saturating_sub(r.n(5)),
                     _ => r.n(next + 1),
                 };
@@ -766,7 +772,7 @@ pub fn forge(r: &mut Rng, sp: &Spec, run: &Runner, c: &Cmd, out: &mut Vec<Cmd>) 
     let st = run.stream.as_ref().unwrap();
     let (acc, next, mark) = (st.accepted(), st.next, st.mark);
     let left = sp.opts.left;
-    let fields: Vec<(&str, u64)> = vec![
+    let mut fields: Vec<(&str, u64)> = vec![
         ("accepted", 1_000_000_001),
         ("accepted", next.saturating_sub(1)),
         ("next", acc + 1),
@@ -805,6 +811,9 @@ pub fn forge(r: &mut Rng, sp: &Spec, run: &Runner, c: &Cmd, out: &mut Vec<Cmd>) 
         ("ldacols", 0),
         ("left", left + 1),
     ];
+    if r.p(30) {
+        fields = vec![("floor", 0), ("floor", (mark + left).saturating_sub(1)), ("floor", mark / 2)];
+    }
     let mut al: Vec<Alter> = vec![];
     match r.n(10) {
         0 | 1 => {
@@ -834,7 +843,7 @@ pub fn forge(r: &mut Rng, sp: &Spec, run: &Runner, c: &Cmd, out: &mut Vec<Cmd>) 
                 return;
             }
             al.push(Alter::Waiting(vec![]));
-            for (k, v) in [("accepted", 1_000_000_000), ("next", 1_000_000_000), ("mark", 1_000_000_000 - left)] {
+            for (k, v) in [("accepted", 1_000_000_000), ("next", 1_000_000_000), ("mark", 1_000_000_000 - left), ("floor", 1_000_000_000)] {
                 al.push(Alter::Field(k.into(), v));
             }
         }

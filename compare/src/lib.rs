@@ -11,6 +11,7 @@ pub mod original;
 pub mod rattle;
 pub mod registers;
 pub mod requests;
+pub mod requests_floor;
 pub mod requests_nan;
 pub mod script;
 pub mod timed;

@@ -510,6 +510,7 @@ fn library_state(t: &mut Tally, run: &Runner, s: &rattle::Stream, seed: u64, wha
     is(s.next() as u64 == m.next, "next");
     is(r.accepted as u64 == m.accepted(), "accepted");
     is(r.mark as u64 == m.mark, "mark");
+    is(r.floor as u64 == m.floor, "floor");
     is(r.past_highest as i64 == m.highest + 1, "highest changed frame");
     is(r.delta_weights_provided == m.taken, "change call taken");
     is(r.input_finished == m.finished, "finished");

@@ -898,6 +898,8 @@ pub struct Record {
     pub accepted: u64,
     pub next: u64,
     pub mark: u64,
+    /// Request 8.
+    pub floor: u64,
     pub waiting: Vec<(u64, f32)>,
     /// Lengths the record was made with, and lengths lent to this call.
     pub made: Vec<u64>,
@@ -923,6 +925,10 @@ fn record_bad(r: &Record) -> bool {
         return true;
     }
     if r.accepted > 1_000_000_000 || r.next > r.accepted || r.mark > r.next.saturating_sub(o.left) {
+        return true;
+    }
+    // request 8
+    if r.mark > r.floor.saturating_sub(o.left) {
         return true;
     }
     let (held, rows) = held(r.accepted, r.mark, o.window);
@@ -975,6 +981,8 @@ pub struct Stream {
     pub stats: Stats,
     pub current: Vec<f64>,
     pub mark: u64,
+    /// Request 8: the highest frame named in a forget.
+    pub floor: u64,
 }
 
 /// A forged part of the record, for one call.
@@ -994,6 +1002,7 @@ pub fn alter(r: &mut Record, al: &[Alter]) {
                 "accepted" => r.accepted = *v,
                 "next" => r.next = *v,
                 "mark" => r.mark = *v,
+                "floor" => r.floor = *v,
                 "left" => r.opts.left = *v,
                 "right" => r.opts.right = *v,
                 "window" => r.opts.window = *v,
@@ -1031,6 +1040,7 @@ impl Stream {
             accepted: 0,
             next: 0,
             mark: 0,
+            floor: 0,
             waiting: vec![],
             made: model_lens.to_vec(),
             lent: model_lens.to_vec(),
@@ -1066,6 +1076,7 @@ impl Stream {
             stats: Stats::new(m.dims.ivec, m.prior),
             current,
             mark: 0,
+            floor: 0,
         };
         let a = s.said(&s.record(&[]), 0);
         Ok((s, a))
@@ -1082,6 +1093,7 @@ impl Stream {
             accepted: self.accepted(),
             next: self.next,
             mark: self.mark,
+            floor: self.floor,
             waiting: self.waiting.clone(),
             made: self.made.clone(),
             lent: self.made.clone(),
@@ -1156,6 +1168,8 @@ impl Stream {
             16
         } else if fr.iter().any(|&f| f >= 1_000_000_000) || w.iter().any(|v| !v.is_finite()) {
             17
+        } else if fr.iter().any(|&f| f < r.floor) {
+            30
         } else if fr.iter().any(|&f| f.saturating_sub(r.opts.left) < r.mark) {
             18
         } else if r.waiting.len() as u64 + fr.len() as u64 > room {
@@ -1163,8 +1177,18 @@ impl Stream {
         } else {
             0
         };
+        if n == 30 {
+            let gone = fr.iter().any(|&f| f.saturating_sub(r.opts.left) < r.mark);
+            ev(if gone { "change: 30, a frame of the splice is gone" } else { "change: 30, all its frames are held" });
+            if r.waiting.len() as u64 + fr.len() as u64 > room {
+                ev("change: 30 before 19");
+            }
+        }
         if n != 0 {
             return self.said(&r, n);
+        }
+        if r.floor > 0 && fr.contains(&r.floor) {
+            ev("change: taken at the floor");
         }
         for i in 0..fr.len() {
             let at = self.waiting.iter().position(|c| c.0 > fr[i]).unwrap_or(self.waiting.len());
@@ -1184,6 +1208,13 @@ impl Stream {
         if let Some(c) = self.waiting.first() {
             m = m.min(c.0);
         }
+        ev(match f {
+            f if f > self.floor && self.waiting.first().is_some_and(|c| c.0 < f) => "forget: floor rises above a waiting change",
+            f if f > self.floor && f > self.accepted() => "forget: floor rises above accepted",
+            f if f > self.floor => "forget: floor rises",
+            _ => "forget: floor stays",
+        });
+        self.floor = self.floor.max(f);
         self.mark = self.mark.max(m.saturating_sub(self.model.opts.left));
         self.done()
     }

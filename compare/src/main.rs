@@ -5,7 +5,8 @@
 //! compare loud FIRST COUNT           views of loud frames in the library's rooms, COUNT lists from the seed FIRST
 //! compare gen FIRST COUNT [KIND]     the lists as a script (FORMAT.md), on standard output
 //! compare answer                     the machine's answers to a script on standard input
-//! KIND: calls wild damage edges rooms forged silence long limit exact nan registers big cuts, or all (all but big and cuts). THREADS: how many (2).
+//! KIND: calls wild damage edges rooms forged silence long limit exact nan registers floor big cuts, or all (all but big and cuts). THREADS: how
+//! many (2).
 //! Exit status 1 on any difference.
 use compare::{day, gen, lists, loud, nearest, script};
 use std::io::{BufRead, Write};

@@ -241,6 +241,7 @@ fn forge_field(s: &mut IvectorStream, n: &str, v: u64) {
         "accepted" => s.accepted = u,
         "next" => s.num_frames_stats = u,
         "mark" => s.mark = u,
+        "floor" => s.floor = u,
         "left" => o.left_context = u,
         "right" => o.right_context = u,
         "window" => o.cmn_window = u,
@@ -288,7 +289,7 @@ fn bits(s: &IvectorStream) -> Vec<u64> {
         t.gconsts, t.means_invvars_t, t.inv_vars_t, t.sigma_inv_m, t.u, t.lda_t, t.lda_offset, t.global_mean_stats,
         r.frames, r.rows, r.waiting_frames, r.waiting_weights, e.cmvn_stats, e.linear, e.quadratic, e.current, e.scratch,
         s.accepted, s.num_frames_stats, s.mark, s.waiting, s.past_highest,
-        usize::from(s.delta_weights_provided), usize::from(s.input_finished),
+        usize::from(s.delta_weights_provided), usize::from(s.input_finished), s.floor,
     ]
     .iter()
     .map(|&x| x as u64)
@@ -368,7 +369,7 @@ impl Stream {
         };
         let rec = IvectorStream {
             info: m.info, lengths: none, accepted: 0, num_frames_stats: 0, mark: 0, waiting: 0, past_highest: 0,
-            delta_weights_provided: false, input_finished: false, num_frames: 0.0,
+            delta_weights_provided: false, input_finished: false, num_frames: 0.0, floor: 0,
         };
         let f = forge(rec, al);
         let l = &f.lent;

@@ -4,34 +4,34 @@ use crate::machine::Stream;
 use crate::script::{Cmd, Runner};
 
 /// A list as it grows, run along on the machine.
-struct Going<'a> {
-    out: &'a mut CallList,
-    run: Runner,
+pub(crate) struct Going<'a> {
+    pub out: &'a mut CallList,
+    pub run: Runner,
 }
 
 impl<'a> Going<'a> {
-    fn new(out: &'a mut CallList) -> Self {
+    pub fn new(out: &'a mut CallList) -> Self {
         Going { out, run: Runner::default() }
     }
 
-    fn put(&mut self, c: Cmd) {
+    pub fn put(&mut self, c: Cmd) {
         self.run.exec(&c);
         self.out.cmds.push(c);
     }
 
-    fn model(&mut self, sp: &Spec) {
+    pub fn model(&mut self, sp: &Spec) {
         let mut v = vec![];
         give(&mut v, sp);
         v.into_iter().for_each(|c| self.put(c));
         self.put(Cmd::Model([0; 8]));
     }
 
-    fn st(&self) -> &Stream {
+    pub fn st(&self) -> &Stream {
         self.run.stream.as_ref().unwrap()
     }
 
     /// The last frame that a fetch may name, if any.
-    fn top(&self) -> Option<u64> {
+    pub fn top(&self) -> Option<u64> {
         let st = self.st();
         let ready = st.ready().checked_sub(1)?;
         Some(if st.taken && ready >= st.next { ready.min(st.highest.max(0) as u64) } else { ready })

@@ -21,15 +21,16 @@ const TABLES: [&str; 8] = ["gconsts", "means_invvars_t", "inv_vars_t", "sigma_in
 const RINGS: [&str; 4] = ["frames", "rows", "waiting_frames", "waiting_weights"];
 const ESTIMATE: [&str; 5] = ["cmvn_stats", "linear", "quadratic", "current", "scratch"];
 #[rustfmt::skip]
-const STREAM: [&str; 10] = [
-    "info", "lengths", "accepted", "num_frames_stats", "mark", "waiting", "past_highest", "delta_weights_provided", "input_finished", "num_frames",
+const STREAM: [&str; 11] = [
+    "info", "lengths", "accepted", "num_frames_stats", "mark", "floor", "waiting", "past_highest", "delta_weights_provided", "input_finished",
+    "num_frames",
 ];
 const SILENCE: [&str; 5] = ["silence_weight", "subsampling", "phones", "table", "length"];
 /// The script's names for options, dimensions and counters, in the order of `Record::fields`.
 #[rustfmt::skip]
-const FIELDS: [&str; 19] = [
+const FIELDS: [&str; 20] = [
     "left", "right", "window", "global", "gselect", "iters", "minpost", "scale", "maxcount", "energy",
-    "gaussg", "gausse", "feat", "ivec", "base", "ldacols", "accepted", "next", "mark",
+    "gaussg", "gausse", "feat", "ivec", "base", "ldacols", "accepted", "next", "mark", "floor",
 ];
 
 // ---- antt
@@ -249,7 +250,7 @@ impl<'a> Session<'a> {
         let mut r = Record { fields: self.options.clone(), lengths: vec![0; 8], ..Record::default() };
         let (mut scratch, mut right) = (0, format!("refused {}", q[0]));
         if let Some(k) = k {
-            r.fields.extend(k[..6].iter().chain(&["0"; 3]).map(|x| x.to_string()));
+            r.fields.extend(k[..6].iter().chain(&["0"; 4]).map(|x| x.to_string()));
             r.prior = k[6].into();
             let (tables, _, load_scratch) = r.needs();
             (r.lengths, scratch) = (lengths(&tables, &v[1..]), load_scratch);
@@ -308,7 +309,10 @@ impl<'a> Session<'a> {
                 r.waiting.sort();
                 format!("change {} {}", list(frames), floats(weights))
             }
-            "d" => format!("forget {}", v[1]),
+            "d" => {
+                r.set("floor", r.field("floor").max(number(v[1])));
+                format!("forget {}", v[1])
+            }
             _ => {
                 let f = number(v[1]);
                 if taken {

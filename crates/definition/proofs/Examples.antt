@@ -1,4 +1,4 @@
--- P1 to P12 of the scope's "Examples": what the definitions say of them, computed. `P1-to-P12` gathers them. Then examples of request 4.
+-- P1 to P12 of the scope's "Examples": what the definitions say of them, computed. `P1-to-P12` gathers them. Then examples of requests 4 and 8.
 use mathlib.Core.Path.{_≡_, refl}
 use Prim.Native.Nat.{ℕ, _*_}
 use mathlib.Core.Bool.{true, false}
@@ -157,7 +157,11 @@ late-model = modelOf 4 late 2
 abbrev twelve : Machine
 twelve =
     machine (replicate 12 (asF64 4 ∷ [])) 8 (record { waiting = (7, asF64 1) ∷ (9, asF64 1) ∷ []; past-highest = 10; called = true }) false
-    (record { cmvn = pair zero₆₄ zero₆₄; stats = newStats 1 (asF64 1); current = asF64 1 ∷ [] }) 0
+    (record { cmvn = pair zero₆₄ zero₆₄; stats = newStats 1 (asF64 1); current = asF64 1 ∷ [] }) 0 0
+
+-- one change of frame f
+abbrev changes-at : ℕ → Call
+changes-at f = change (f ∷ []) (asF64 1 ∷ [])
 
 -- P12's table, of n frames, its rooms, and a call with 4 inputs ready: the answer's lists have 6 places
 abbrev silence : ℕ → SilenceWeighting
@@ -212,8 +216,9 @@ pub record Examples : Type 0 where
   pub P10-above : linearCgd (asF64 1 ∷ []) 1 (f64 0x2000_0000_0000_0001 ∷ []) (zero₆₄ ∷ []) 15 ≡ f64 0x2000_0000_0000_0001 ∷ []
   pub P11-load : load late (filesOf 4 wide-two) (tablesOf 4) 2 ≡ read late-model 0
   pub P11-mark : machineAfter late-model (lengths .rings) twelve (forget 10 ∷ []) .mark ≡ 4
-  pub P11 : answersFrom late-model (lengths .rings) twelve (forget 10 ∷ change (6 ∷ []) (asF64 1 ∷ []) ∷ change (7 ∷ []) (asF64 1 ∷ []) ∷ [])
-      ≡ said 0 8 13 [] 0 ∷ said 18 8 13 [] 0 ∷ said 0 8 13 [] 0 ∷ []
+  -- both changes are below the frame named (request 8)
+  pub P11 : answersFrom late-model (lengths .rings) twelve (forget 10 ∷ changes-at 6 ∷ changes-at 7 ∷ [])
+      ≡ said 0 8 13 [] 0 ∷ said 30 8 13 [] 0 ∷ said 30 8 13 [] 0 ∷ []
   pub P12-new : newTable 1 quarter 3 100 ≡ N.Table (silence 0)
   pub P12 : first .answer ≡ changes 6
   pub P12-frames : first .frames ≡ 0 ∷ 1 ∷ 2 ∷ 3 ∷ 4 ∷ 5 ∷ []
@@ -287,3 +292,18 @@ pub record Counted : Type 0 where
 pub request-4 : Counted
 unfolding computed
 request-4 = record { R4-inputs = refl; R4-fetches = refl; R4-changes = refl }
+
+-- ---- request 8
+
+pub record Floored : Type 0 where
+  -- the floor is the frame named, not where next stands; a change at it is taken
+  pub R8-named : answersFrom late-model (lengths .rings) twelve (forget 10 ∷ changes-at 9 ∷ changes-at 10 ∷ []) ≡ said 0 8 13 [] 0 ∷ said 30 8 13 [] 0 ∷ said 0 8 13 [] 0 ∷ []
+  -- a lower forget leaves it; an empty change is taken, whatever the floor is
+  pub R8-highest : answersFrom late-model (lengths .rings) twelve (forget 10 ∷ forget 2 ∷ changes-at 9 ∷ change [] [] ∷ [])
+      ≡ said 0 8 13 [] 0 ∷ said 0 8 13 [] 0 ∷ said 30 8 13 [] 0 ∷ said 0 8 13 [] 0 ∷ []
+  -- 17 comes before it, whichever entry it is of
+  pub R8-order : answersFrom late-model (lengths .rings) twelve (forget 10 ∷ change (6 ∷ 1000000000 ∷ []) (asF64 1 ∷ asF64 1 ∷ []) ∷ []) ≡ said 0 8 13 [] 0 ∷ said 17 8 13 [] 0 ∷ []
+
+pub request-8 : Floored
+unfolding computed
+request-8 = record { R8-named = refl; R8-highest = refl; R8-order = refl }

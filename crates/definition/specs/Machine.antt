@@ -44,9 +44,10 @@ pub record Machine : Type 0 where
   pub finished : Bool
   pub estimate : Estimate  -- CMVN state, statistics, current vector
   pub mark : ℕ  -- no frame below it will be read again
+  pub floor : ℕ  -- the highest frame named in a forget, 0 at first: no change may name a frame below it (request 8)
 
-abbrev pub machine : List (List Float) → ℕ → Changes → Bool → Estimate → ℕ → Machine
-machine h n c f e m = record { history = h; next = n; changes = c; finished = f; estimate = e; mark = m }
+abbrev pub machine : List (List Float) → ℕ → Changes → Bool → Estimate → ℕ → ℕ → Machine
+machine h n c f e m l = record { history = h; next = n; changes = c; finished = f; estimate = e; mark = m; floor = l }
 
 -- the frames of a whole history; a prefix sum is that of the frames before it
 unfoldable pub allFrames : List (List Float) → Frames
@@ -76,7 +77,7 @@ framesReady o finished accepted = if finished then accepted else accepted - o .�
 unfoldable pub forgotten : ℕ → ℕ → ℕ → List ℕ → ℕ → ℕ
 forgotten left next mark waiting f = max mark (foldl min (min f next) waiting - left)
 
--- "When a call is declined", 11 to 22: tests in checking order, each with its number
+-- "When a call is declined", 11 to 22, and 30 of request 8: tests in checking order, each with its number
 unfoldable pub pushTests : IvectorOptions → Dimensions → RingLengths → ℕ → ℕ → List Float → List (Bool × ℕ)
 pushTests o d z accepted mark x =
     (not (eqb (length x) (d .«base_dim»)), 11)
@@ -89,11 +90,12 @@ pushTests o d z accepted mark x =
 abbrev pub maxChanges : ℕ
 maxChanges = 384
 
--- n changes wait
-unfoldable pub changeTests : IvectorOptions → RingLengths → ℕ → ℕ → List ℕ → List Float → List (Bool × ℕ)
-changeTests o z mark n fs ws =
+-- n changes wait. From a fresh stream on 18 never occurs (`never-18` in proofs/Floor.antt): it is the record's 10 that leaves it no case.
+unfoldable pub changeTests : IvectorOptions → RingLengths → ℕ → ℕ → ℕ → List ℕ → List Float → List (Bool × ℕ)
+changeTests o z mark floor n fs ws =
     (not (eqb (length fs) (length ws)) || ltb maxChanges (length fs), 16)
     ∷ (anyOf (leb 1000000000) fs || anyOf (λ w. not (finite w)) ws, 17)
+    ∷ (anyOf (λ f. ltb f floor) fs, 30)
     ∷ (anyOf (λ f. ltb (f - o .«left_context») mark) fs, 18)
     ∷ (ltb (waitingRoom z) (n + length fs), 19) ∷ []
 
@@ -135,7 +137,7 @@ module _ (M : Model) where
   unfoldable pub fresh : Machine
   fresh =
       let estimate : Estimate = record { cmvn = replicate (dim + 1) zero₆₄; stats = newStats s prior; current = priorVector s prior } in
-      machine [] 0 (record { waiting = []; past-highest = 0; called = false }) false estimate 0
+      machine [] 0 (record { waiting = []; past-highest = 0; called = false }) false estimate 0 0
 
   -- what a fetch gives out: the current vector, narrowed, the prior taken off element 0
   unfoldable pub fetched : List Float → List Float
@@ -145,7 +147,7 @@ module _ (M : Model) where
   unfoldable pub caughtUp : Machine → ℕ → Machine
   caughtUp k f =
       let e = updated M (allFrames (k .history)) (batch o (k .changes) (k .next) f) (k .estimate) in
-      if leb (k .next) f then machine (k .history) (f + 1) (reached (k .changes) f) (k .finished) e (k .mark) else k
+      if leb (k .next) f then machine (k .history) (f + 1) (reached (k .changes) f) (k .finished) e (k .mark) (k .floor) else k
 
   -- request 4: how many likelihoods of a fetch of frame f that is taken are NaN, over the batch that it brings in; 0 where it does no update
   unfoldable pub nansMet : Machine → ℕ → ℕ
@@ -157,14 +159,14 @@ module _ (M : Model) where
   unfoldable pub does : RingLengths → Machine → Call → Move
   does z k (push x) =
       move (pushTests o d z (accepted k) (k .mark) x)
-      (machine (k .history ++ (x ∷ [])) (k .next) (k .changes) (k .finished) (k .estimate) (k .mark)) [] 0
-  does z k finish = move [] (machine (k .history) (k .next) (k .changes) true (k .estimate) (k .mark)) [] 0
+      (machine (k .history ++ (x ∷ [])) (k .next) (k .changes) (k .finished) (k .estimate) (k .mark) (k .floor)) [] 0
+  does z k finish = move [] (machine (k .history) (k .next) (k .changes) true (k .estimate) (k .mark) (k .floor)) [] 0
   does z k (change fs ws) =
-      move (changeTests o z (k .mark) (length (k .changes .waiting)) fs ws)
-      (machine (k .history) (k .next) (changed (k .changes) fs ws) (k .finished) (k .estimate) (k .mark)) [] 0
+      move (changeTests o z (k .mark) (k .floor) (length (k .changes .waiting)) fs ws)
+      (machine (k .history) (k .next) (changed (k .changes) fs ws) (k .finished) (k .estimate) (k .mark) (k .floor)) [] 0
   does z k (forget f) =
       let mark = forgotten left-context (k .next) (k .mark) (map (λ c. c .0) (k .changes .waiting)) f in
-      move [] (machine (k .history) (k .next) (k .changes) (k .finished) (k .estimate) mark) [] 0
+      move [] (machine (k .history) (k .next) (k .changes) (k .finished) (k .estimate) mark (max (k .floor) f)) [] 0
   does z k (fetch f n) =
       move (fetchTests d (framesReady o (k .finished) (accepted k)) (k .next) (k .changes .called) (k .changes .past-highest) f n)
       (caughtUp k f) (fetched (caughtUp k f .estimate .current)) (nansMet k f)

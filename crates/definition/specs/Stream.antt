@@ -72,7 +72,7 @@ unfoldable pub rising : ℕ → List ℕ → Bool
 rising n [] = true
 rising n (f ∷ fs) = leb n f && rising f fs
 
--- what makes a record broken, the waiting frames lying in the room `waiting`
+-- what makes a record broken, the waiting frames lying in the room `waiting`; the mark above the floor less left context is request 8's
 unfoldable pub breaks : IvectorStream → List ℕ → List Bool
 breaks s waiting =
     let o = s .info .opts in
@@ -83,6 +83,7 @@ breaks s waiting =
     ∷ ltb 1000000000 (s .accepted)
     ∷ ltb (s .accepted) (s .«num_frames_stats»)
     ∷ ltb (s .«num_frames_stats» - o .«left_context») (s .mark)
+    ∷ ltb (s .floor - o .«left_context») (s .mark)
     ∷ ltb (rowsIn (s .lengths .rings .frames) (d .«base_dim»)) (framesHeld (s .accepted) (s .mark))
     ∷ ltb (rowsIn (s .lengths .rings .rows) (d .«base_dim»)) (rowsHeld (o .«cmn_window») (s .accepted) (s .mark))
     ∷ ltb (waitingRoom (s .lengths .rings)) (s .waiting)

@@ -184,6 +184,7 @@ fn no_stream(info: IvectorInfo) -> IvectorStream
         delta_weights_provided: false,
         input_finished: false,
         num_frames: 0.0,
+        floor: 0,
     }
 }
 
@@ -340,7 +341,7 @@ pub extern "C" fn shofrakin_update_frame_weights(
     c.answer
 }
 
-// `ivector_stream::forget_before`: an utterance begins at `frame`, and no weight change will reach before it.
+// `ivector_stream::forget_before`: an utterance begins at `frame`, and no weight change may name a frame before it from now on.
 #[no_mangle]
 pub extern "C" fn shofrakin_forget_before(
     s: &mut IvectorStream,
@@ -358,6 +359,7 @@ pub extern "C" fn shofrakin_forget_before(
 {
     let c = ivector_stream::forget_before(*s, frame, frames, rows, waiting_frames, waiting_weights);
     s.mark = c.stream.mark;
+    s.floor = c.stream.floor;
     c.answer
 }
 

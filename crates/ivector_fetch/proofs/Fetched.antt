@@ -112,6 +112,7 @@ module _ (s : IvectorStream) (z : Rooms) (f : ℕ) where
             «delta_weights_provided» = s .«delta_weights_provided»;
             «input_finished» = s .«input_finished»;
             «num_frames» = n;
+            floor = s .floor;
           } ≡ fetchStream s t z f
       unfolding fetchStream reached
       stream-up g = rw (g ∙ ap (λ (e : Estimate). e .stats .num-frames) estimate-up, length-up, sym changes-up, up)

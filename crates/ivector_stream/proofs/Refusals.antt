@@ -1,5 +1,5 @@
 -- What is known once a call is taken; and its refusal number, from the tests as code makes them.
-use mathlib.Core.Path.{_≡_, sym, ap, _∙_}
+use mathlib.Core.Path.{_≡_, refl, sym, ap, _∙_}
 use mathlib.Core.Bool.{Bool, true, false, not, _||_}
 use mathlib.Core.List.{List, [], _∷_, _++_}
 use Prim.Native.Nat.{ℕ, zero, suc, _+_, _-_, _≤_, _<_}
@@ -123,6 +123,12 @@ module _ (fs : List ℕ) (ws : List Float) where
   pub numbers-pass : far ≡ false → wild ≡ false → (far || wild) ≡ false
   numbers-pass = or-none far wild
 
+-- the frames themselves: with nothing taken off
+pub below-floor : (floor : ℕ) (fs : List ℕ) → anyOf (λ f. ltb f floor) fs ≡ anyOf (λ f. ltb (f - 0) floor) fs
+unfolding anyOf
+below-floor floor [] = refl
+below-floor floor (f ∷ fs) = let e : f - 0 ≡ f = omega arith in rw (e, below-floor floor fs)
+
 pub room-short : {room free n m : ℕ} → n ≤ room → free ≡ room - n → free < m → ltb room (n + m) ≡ true
 room-short {room} {n = n} {m = m} l e h = lt-ltb room (n + m) (omega arith)
 
@@ -131,7 +137,7 @@ room-enough {room} {n = n} {m = m} l e h = le-ltb room (n + m) (omega arith)
 
 module _ (s : IvectorStream) (z : Rings) (gs : List ℕ) (ws : List Float) where
   abbrev pub change-tests : List (Bool × ℕ)
-  change-tests = changeTests (s .info .opts) (s .lengths .rings) (s .mark) (s .waiting) gs ws
+  change-tests = changeTests (s .info .opts) (s .lengths .rings) (s .mark) (s .floor) (s .waiting) gs ws
 
   pub record ChangeTaken : Type 0 where
     pub passed : Passed s z
@@ -149,7 +155,7 @@ module _ (s : IvectorStream) (z : Rings) (gs : List ℕ) (ws : List Float) where
         passed = tests-passed s z (h .0) (h .1 .0);
         even = eqb-true _ _ (not-false _ (a .0));
         near = b .0;
-        room-is = ltb-false _ _ (h .1 .1 .1 .1 .1 .0);
+        room-is = ltb-false _ _ (h .1 .1 .1 .1 .1 .1 .0);
       }
 
   pub change-few : {r : ℕ} → r ≡ updateFrameWeights s z gs ws .refusal → (r ≡ 10 → ⊥) → (s .accepted ≤ 1000000000) × (s .mark ≤ 1000000000)

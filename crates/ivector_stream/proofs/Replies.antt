@@ -100,6 +100,7 @@ module _ (s : IvectorStream) (z : Rings) (gs : List ℕ) (vs : List Float) where
         «delta_weights_provided» = true;
         «input_finished» = s .«input_finished»;
         «num_frames» = s .«num_frames»;
+        floor = s .floor;
       } ≡ withChanges s after (s .«num_frames_stats») (s .«num_frames»)
   unfolding changed
   changed-stream e = rw (changed-length, e)

@@ -23,7 +23,7 @@ use Rattle.definition.specs.Stream.{rising}
 use Rattle.limits.proofs.Ordered.{min-first}
 use Rattle.program.specs.Rooms.{ringAt}
 use Rattle.program.specs.Calls.{pushedFrames, pushedRows, forgetMark}
-use Rattle.program.proofs.Waiting.{lowest-under}
+use Rattle.definition.proofs.Floor.{lowest-under}
 
 -- a frame copied in
 pub copied : {A : Type 0} (d : A) (a i : ℕ) (xs room : List A) {s : List A} → i ≤ length xs → length xs ≤ i → s ≡ put a (build i (λ k. getD xs k d)) room → s ≡ put a xs room

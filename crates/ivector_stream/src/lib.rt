@@ -227,6 +227,7 @@ pub fn new(
         delta_weights_provided: false,
         input_finished: false,
         num_frames: 0.0,
+        floor: 0,
     };
     let call = reply(0, stream, 0, 0);
     NewStream::Stream(call)
@@ -421,7 +422,7 @@ fn any_from(frames: &[usize], limit: usize) -> bool
     false
 }
 
-// Whether a frame less the left context is below the mark.
+// Whether a frame less `left` is below `mark`.
 fn any_below(frames: &[usize], left: usize, mark: usize) -> bool
     ensures { λ r. ⌜ r ≡ anyOf (λ f. ltb (f - left) mark) (now (frames .entry)) ⌝ }
 {
@@ -464,6 +465,9 @@ fn change_refusal(
     }
     if any_not_finite(delta_weights) {
         return 17;
+    }
+    if any_below(delta_frames, 0, s.floor) {
+        return 30;
     }
     if any_below(delta_frames, o.left_context, s.mark) {
         return 18;
@@ -529,7 +533,7 @@ fn lowest(low: usize, waiting_frames: &[usize], n: usize) -> usize
     basics::smaller(low, waiting_frames[0])
 }
 
-// An utterance begins at `frame`: no weight change will reach before it.
+// An utterance begins at `frame`: no weight change may name a frame before it from now on.
 pub fn forget_before(
     mut s: IvectorStream,
     frame: usize,
@@ -542,9 +546,9 @@ pub fn forget_before(
         let z : Rings = ringsFrom (now (frames .entry)) (now (rows .entry)) (now («waiting_frames» .entry)) (now («waiting_weights» .entry)) in
         ringCall r z ≡ doneOn s z (forgetBefore s z frame)) ⌝ }
 {
-    let refusal = plain_refusal(s, frames, rows, waiting_frames, waiting_weights);
-    if refusal != 0 {
-        return reply(refusal, s, 0, 0);
+    let number = plain_refusal(s, frames, rows, waiting_frames, waiting_weights);
+    if number != 0 {
+        return reply(number, s, 0, 0);
     }
     let i = s.info;
     let o = i.opts;
@@ -552,6 +556,7 @@ pub fn forget_before(
     let first = lowest(reached, waiting_frames, s.waiting);
     let kept = basics::less(first, o.left_context);
     s.mark = basics::larger(s.mark, kept);
+    s.floor = basics::larger(s.floor, frame);
     reply(0, s, 0, 0)
 }
 

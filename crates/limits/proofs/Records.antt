@@ -113,6 +113,7 @@ pub record Whole (s : IvectorStream) (waiting : List ℕ) : Type 0 where
   pub few : s .accepted ≤ 1000000000
   pub next-is : s .«num_frames_stats» ≤ s .accepted
   pub mark-is : s .mark ≤ s .«num_frames_stats» - s .info .opts .«left_context»
+  pub floor-is : s .mark ≤ s .floor - s .info .opts .«left_context»
   pub frames-fit : s .accepted - s .mark ≤ rowsIn (s .lengths .rings .frames) (s .info .dims .«base_dim»)
   pub rows-fit : s .accepted + 1 - (s .mark + 1 - s .info .opts .«cmn_window») ≤ rowsIn (s .lengths .rings .rows) (s .info .dims .«base_dim»)
   pub waiting-fit : s .waiting ≤ waitingRoom (s .lengths .rings)
@@ -129,11 +130,12 @@ whole s waiting e =
       few = ltb-false _ _ (h .1 .1 .0);
       next-is = ltb-false _ _ (h .1 .1 .1 .0);
       mark-is = ltb-false _ _ (h .1 .1 .1 .1 .0);
-      frames-fit = ltb-false _ _ (h .1 .1 .1 .1 .1 .0);
-      rows-fit = ltb-false _ _ (h .1 .1 .1 .1 .1 .1 .0);
-      waiting-fit = ltb-false _ _ (h .1 .1 .1 .1 .1 .1 .1 .0);
-      in-order = not-false _ (h .1 .1 .1 .1 .1 .1 .1 .1 .0);
-      held-back = h .1 .1 .1 .1 .1 .1 .1 .1 .1 .0;
+      floor-is = ltb-false _ _ (h .1 .1 .1 .1 .1 .0);
+      frames-fit = ltb-false _ _ (h .1 .1 .1 .1 .1 .1 .0);
+      rows-fit = ltb-false _ _ (h .1 .1 .1 .1 .1 .1 .1 .0);
+      waiting-fit = ltb-false _ _ (h .1 .1 .1 .1 .1 .1 .1 .1 .0);
+      in-order = not-false _ (h .1 .1 .1 .1 .1 .1 .1 .1 .1 .0);
+      held-back = h .1 .1 .1 .1 .1 .1 .1 .1 .1 .1 .0;
     }
 
 -- one of the tests holds
@@ -153,13 +155,13 @@ pub counts-at : (s : IvectorStream) (waiting : List ℕ) (k : ℕ) → k < lengt
 unfolding countsBroken
 counts-at s waiting k l h = sym (at-some (λ t. t) false (drop 2 (breaks s waiting)) k l h)
 
-pub waiting-last : (s : IvectorStream) (waiting : List ℕ) {n : ℕ} → n ≡ min (s .waiting) (length waiting) → FirstAre false 6 (drop 2 (breaks s waiting))
+pub waiting-last : (s : IvectorStream) (waiting : List ℕ) {n : ℕ} → n ≡ min (s .waiting) (length waiting) → FirstAre false 7 (drop 2 (breaks s waiting))
     → waitingBroken (take n waiting) (s .info .opts .«left_context») (s .mark) ≡ countsBroken s waiting
 unfolding countsBroken breaks waitingBroken anyOf
 waiting-last s waiting e h =
     ap (λ (l : List ℕ). waitingBroken l (s .info .opts .«left_context») (s .mark)) (ap (λ (k : ℕ). take k waiting) e ∙ take-min (s .waiting) waiting)
     ∙ ap (λ (t : Bool). not (rising 0 (take (s .waiting) waiting)) || t) (sym (or-false _))
-    ∙ any-rest 6 (drop 2 (breaks s waiting)) h
+    ∙ any-rest 7 (drop 2 (breaks s waiting)) h
 
 -- the first two fail
 pub counts-last : (s : IvectorStream) (waiting : List ℕ) {r : Bool} → r ≡ countsBroken s waiting → FirstAre false 2 (breaks s waiting) → r ≡ isBroken s waiting

@@ -373,6 +373,10 @@ fn counts_broken(s: IvectorStream, waiting: &[usize]) -> bool
     if first < s.mark {
         return true;
     }
+    let named = less(s.floor, o.left_context);
+    if named < s.mark {
+        return true;
+    }
     let frames = frames_held(s.accepted, s.mark);
     if r.frames < frames * d.base_dim {
         return true;

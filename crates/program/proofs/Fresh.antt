@@ -93,6 +93,7 @@ module _ (i : IvectorInfo) (t : Tables) (z : Rooms) (n : ℕ) where
           few = omega arith;
           next-is = omega arith;
           mark-is = omega arith;
+          floor-is = omega arith;
           frames-fit = omega arith;
           rows-fit = omega (arith, fit .rows-fit);
           waiting-fit = omega arith;

@@ -1,21 +1,25 @@
--- `keeps`: the program's answers to any list of calls on a fresh stream are the keeping machine's; `held-after`: what the program holds after it.
+-- `keeps`: the program's answers to any list of calls on a fresh stream are the keeping machine's; `held-after`: what the program holds after it;
+-- `never-18`: none of them is 18.
 use mathlib.Core.Path.{_≡_, sym, ap, ap₂, _∙_}
 use Prim.Native.Nat.{ℕ, _-_}
 use native.Mathlib.Omega.{arith}
 use mathlib.Core.List.{List}
 use lib.ListN.{length}
+use lib.Dec.{eqb}
 use lib.Ieee.{Float}
+use Rattle.loops.specs.Lists.{anyOf}
 use Rattle.definition.specs.declared.IvectorInfo.{IvectorInfo}
 use Rattle.definition.specs.declared.StreamCall.{StreamCall}
 use Rattle.definition.specs.declared.NewStream.the-variants as N
 use Rattle.definition.specs.Model.{Tables, Model, tableLengthsOf, modelIn}
 use Rattle.definition.specs.Statistics.{newStats}
 use Rattle.definition.specs.Stream.{newRefusal}
-use Rattle.definition.specs.Machine.{Call, Machine, accepted, allFrames, framesHeld, fresh, toldBy, answer, machineAfter, answers}
+use Rattle.definition.specs.Machine.{Call, Answer, Machine, accepted, allFrames, framesHeld, fresh, toldBy, answer, machineAfter, answers}
+use Rattle.definition.proofs.Floor.{never-18 as machine-never-18}
 use Rattle.program.specs.Rooms.{Rooms, ringLengthsOf, roomLengthsOf}
 use Rattle.program.specs.Calls.{answerOf, callOf, freshStream, newAnswer, freshRooms}
 use Rattle.program.specs.Session.{Program, program, programAfter, programAnswers}
-use Rattle.program.specs.Keeping.{Keeps, framesTaken, Held, Holds, HeldAfter}
+use Rattle.program.specs.Keeping.{Keeps, Never18, framesTaken, Held, Holds, HeldAfter}
 use Rattle.program.proofs.Sound.{streamOf, Made, Inv}
 use Rattle.program.proofs.Moves.{keeps-from, inv-after, history-is}
 use Rattle.program.proofs.Fresh.{made-stream, fresh-made, fresh-inv}
@@ -84,6 +88,9 @@ module _ (i : IvectorInfo) (t : Tables) (z : Rooms) (n : ℕ) (c : StreamCall) (
 
 pub keeps : Keeps
 keeps i t z n c e cs = (begun i t z n c e .answer-is, answers-are i t z n c e cs)
+
+pub never-18 : Never18
+never-18 i t z n c e cs = ap (anyOf (λ (a : Answer). eqb (a .told .refusal) 18)) (answers-are i t z n c e cs) ∙ machine-never-18 (modelIn i t) (ringLengthsOf (z .rings)) cs
 
 pub held-after : HeldAfter
 held-after i t z n c e cs = (held i t z n c e cs, holds i t z n c e cs)

@@ -3,11 +3,10 @@
 use mathlib.Core.Path.{_≡_, refl, sym, ap, ap₂, subst, _∙_}
 use Prim.Native.Nat.{ℕ, zero, suc, _+_, _-_}
 use native.Mathlib.Omega.{arith}
-use mathlib.Core.Bool.{Bool}
 use mathlib.Core.List.{List, [], _∷_, _++_, append-nil, append-assoc}
 use lib.Dec.{leb}
 use borrow.Author.Tests.{ne-eqb}
-use Rattle.loops.specs.Refusal.{firstOf, taken}
+use Rattle.loops.specs.Refusal.{taken}
 use Rattle.loops.proofs.Choose.{by-test}
 use Rattle.loops.proofs.Refusal.{taken-new, taken-old}
 use Rattle.floats.specs.Operators.{at}
@@ -16,6 +15,7 @@ use Rattle.definition.specs.declared.RingLengths.{RingLengths}
 use Rattle.definition.specs.declared.RoomLengths.{RoomLengths}
 use Rattle.definition.specs.Model.{Tables, Model, modelIn}
 use Rattle.definition.specs.Machine.{Call, push, finish, change, forget, fetch, Answer, Machine, Move, moved, pushTests, changeTests, fetchTests, notFinite, caughtUp, does, toldBy, answer, machineAfter, answersFrom, answers}
+use Rattle.definition.proofs.Floor.{first-not}
 use Rattle.program.specs.Rooms.{Rooms}
 use Rattle.program.specs.Calls.{answerOf, Step}
 use Rattle.program.specs.Session.{Program, program, stepped, reply, stepOf, programAfter, programAnswers}
@@ -25,21 +25,12 @@ use Rattle.program.proofs.Steps.{Next, taken-next}
 
 -- ---- the keeping machine never answers 10
 
-AllNot : ℕ → List (Bool × ℕ) → Type 0
-AllNot n [] = Unit {0}
-AllNot n (t ∷ ts) = (t .1 ≡ n → ⊥) × AllNot n ts
-
-first-not : (n : ℕ) (ts : List (Bool × ℕ)) → (0 ≡ n → ⊥) → AllNot n ts → firstOf ts ≡ n → ⊥
-unfolding AllNot firstOf
-first-not n [] z h e = z e
-first-not n (t ∷ ts) z h e = by-test (t .0) (λ q. h .0 (rw q at e)) (λ q. first-not n ts z (h .1) (rw q at e))
-
 module _ (M : Model) (z : RingLengths) (k : Machine) where
   not-ten : (c : Call) → does M z k c .refusal ≡ 10 → ⊥
-  unfolding does pushTests changeTests fetchTests AllNot
+  unfolding does pushTests changeTests fetchTests
   not-ten (push x) e = first-not 10 _ (omega arith) (omega arith, (omega arith, (omega arith, (omega arith, (omega arith, tt))))) e
   not-ten finish e = first-not 10 [] (omega arith) tt e
-  not-ten (change fs ws) e = first-not 10 _ (omega arith) (omega arith, (omega arith, (omega arith, (omega arith, tt)))) e
+  not-ten (change fs ws) e = first-not 10 _ (omega arith) (omega arith, (omega arith, (omega arith, (omega arith, (omega arith, tt))))) e
   not-ten (forget f) e = first-not 10 [] (omega arith) tt e
   not-ten (fetch f m) e = first-not 10 _ (omega arith) (omega arith, (omega arith, (omega arith, tt))) e
 

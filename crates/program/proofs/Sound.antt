@@ -40,6 +40,7 @@ streamOf i z k =
       «delta_weights_provided» = k .changes .called;
       «input_finished» = k .finished;
       «num_frames» = k .estimate .stats .num-frames;
+      floor = k .floor;
     }
 
 -- what never changes: the model's record, the tables and the lengths of the rooms
@@ -55,6 +56,7 @@ module _ (i : IvectorInfo) (z : RoomLengths) (n : ℕ) where
     pub few : accepted k ≤ 1000000000
     pub next-is : k .next ≤ accepted k
     pub mark-is : k .mark ≤ k .next - i .opts .«left_context»
+    pub floor-is : k .mark ≤ k .floor - i .opts .«left_context»
     pub frames-fit : accepted k - k .mark ≤ rowsIn (z .rings .frames) (i .dims .«base_dim»)
     pub rows-fit : accepted k + 1 - (k .mark + 1 - i .opts .«cmn_window») ≤ rowsIn (z .rings .rows) (i .dims .«base_dim»)
     pub waiting-fit : length (k .changes .waiting) ≤ waitingRoom (z .rings)
@@ -94,14 +96,17 @@ module _ (i : IvectorInfo) (z : RoomLengths) (n : ℕ) where
                 (
                   le-ltb (k .next - i .opts .«left_context») (k .mark) (v .mark-is),
                   (
-                    le-ltb _ _ (v .frames-fit),
+                    le-ltb (k .floor - i .opts .«left_context») (k .mark) (v .floor-is),
                     (
-                      le-ltb _ _ (v .rows-fit),
+                      le-ltb _ _ (v .frames-fit),
                       (
-                        le-ltb _ _ (v .waiting-fit),
+                        le-ltb _ _ (v .rows-fit),
                         (
-                          ap (λ fs. not (rising 0 fs)) held-are ∙ ap not (v .in-order),
-                          (ap (anyOf (λ f. ltb (f - i .opts .«left_context») (k .mark))) held-are ∙ v .held-back, tt),
+                          le-ltb _ _ (v .waiting-fit),
+                          (
+                            ap (λ fs. not (rising 0 fs)) held-are ∙ ap not (v .in-order),
+                            (ap (anyOf (λ f. ltb (f - i .opts .«left_context») (k .mark))) held-are ∙ v .held-back, tt),
+                          ),
                         ),
                       ),
                     ),

@@ -32,16 +32,17 @@ use Rattle.definition.specs.Estimate.{Estimate, updated, nansOver}
 use Rattle.definition.specs.Machine.{Call, push, finish, change, forget, fetch, Machine, machine, Move, accepted, allFrames, framesHeld, rowsHeld, framesReady, waitingRoom, forgotten, pushTests, changeTests, fetchTests, fetched, caughtUp, nansMet, does}
 use Rattle.definition.specs.Stream.{rising}
 use Rattle.definition.proofs.Agree.{Agree, Inside, updated-ext, nans-ext}
+use Rattle.definition.proofs.Floor.{lowest-under, low-raised}
 use Rattle.definition.proofs.Lengths.{Long, updated-long}
 use Rattle.definition.proofs.Ranges.{fitting}
 use Rattle.program.specs.Rooms.{Rings, ringsFrom, Rooms, roomsFrom, ringLengthsOf, roomLengthsOf, ringAt, ringFrames, framesIn, framesOf, weightsOf, changesIn}
-use Rattle.program.specs.Calls.{Step, withAccepted, withChanges, pushedFrames, pushedRows, pushFrame, setInputFinished, overWaiting, updateFrameWeights, forgetMark, forgetBefore, overEstimate, fetchEstimate, fetchChanges, fetchStream, fetchRooms, fetchVector, fetchNans, getFrame}
+use Rattle.program.specs.Calls.{Step, withAccepted, withMark, withChanges, pushedFrames, pushedRows, pushFrame, setInputFinished, overWaiting, updateFrameWeights, forgetMark, forgetBefore, overEstimate, fetchEstimate, fetchChanges, fetchStream, fetchRooms, fetchVector, fetchNans, getFrame}
 use Rattle.program.specs.Session.{Program, program, stepOf}
 use Rattle.program.proofs.Pushed.{pushed-agrees}
 use Rattle.program.proofs.WaitingRooms.{waiting-over}
 use Rattle.program.proofs.InOrder.{length-inserts, inserts-rising}
 use Rattle.program.proofs.Facts.{ranges}
-use Rattle.program.proofs.Waiting.{inserts-none, those-rising, those-none, lowest-under, lowest-at, Each, merged-each, those-each}
+use Rattle.program.proofs.Waiting.{inserts-none, those-rising, those-none, lowest-at, Each, merged-each, those-each}
 use Rattle.program.proofs.Sound.{streamOf, Made, Inv, held-are, rings-long}
 
 -- a higher mark holds fewer rows
@@ -124,6 +125,7 @@ module _ (i : IvectorInfo) (z : RoomLengths) (n : ℕ) (t : Tables) (made : Made
         few = v .few;
         next-is = v .next-is;
         mark-is = v .mark-is;
+        floor-is = v .floor-is;
         frames-fit = v .frames-fit;
         rows-fit = v .rows-fit;
         waiting-fit = v .waiting-fit;
@@ -149,23 +151,13 @@ module _ (i : IvectorInfo) (z : RoomLengths) (n : ℕ) (t : Tables) (made : Made
         let back : anyOf (λ g. ltb (g - left) mark′) fs ≡ false =
         at-none (λ g. ltb (g - left) mark′) 0 fs (λ j l. le-ltb (getD fs j 0 - left) mark′ (omega (arith, lowest-at (min f (k .next)) fs j l, ltb-false (getD fs j 0 - left) (k .mark) (none-at (λ g. ltb (g - left) (k .mark)) 0 fs j (v .held-back) l)))) in (
           w,
-          ap (λ (gs : List ℕ). program (record {
-            info = i;
-            lengths = z;
-            accepted = accepted k;
-            «num_frames_stats» = k .next;
-            mark = max (k .mark) (foldl min (min f (k .next)) gs - left);
-            waiting = length (k .changes .waiting);
-            «past_highest» = k .changes .past-highest;
-            «delta_weights_provided» = k .changes .called;
-            «input_finished» = k .finished;
-            «num_frames» = k .estimate .stats .num-frames;
-          }) w) (held-are i z n t made k w v),
+          ap (λ (gs : List ℕ). program (withMark (streamOf i z k) (max (k .mark) (foldl min (min f (k .next)) gs - left)) (max (k .floor) f)) w) (held-are i z n t made k w v),
           record {
             lengths-are = v .lengths-are;
             few = v .few;
             next-is = v .next-is;
             mark-is = m;
+            floor-is = low-raised (k .mark) (k .floor) left low f (v .floor-is) (omega (arith, below));
             frames-fit = omega (arith, v .frames-fit);
             rows-fit = rows-fewer (accepted k) (k .mark) mark′ window (rowsIn (z .rings .rows) dim) (omega arith) (v .rows-fit);
             waiting-fit = v .waiting-fit;
@@ -210,6 +202,7 @@ module _ (i : IvectorInfo) (z : RoomLengths) (n : ℕ) (t : Tables) (made : Made
             few = v .few;
             next-is = v .next-is;
             mark-is = v .mark-is;
+            floor-is = v .floor-is;
             frames-fit = v .frames-fit;
             rows-fit = v .rows-fit;
             waiting-fit = omega (arith, many, room);
@@ -253,6 +246,7 @@ module _ (i : IvectorInfo) (z : RoomLengths) (n : ℕ) (t : Tables) (made : Made
             few = omega (arith, len);
             next-is = omega (arith, len, v .next-is);
             mark-is = v .mark-is;
+            floor-is = v .floor-is;
             frames-fit = omega (arith, len, room);
             rows-fit = omega (arith, len, more);
             waiting-fit = v .waiting-fit;
@@ -274,7 +268,7 @@ module _ (i : IvectorInfo) (z : RoomLengths) (n : ℕ) (t : Tables) (made : Made
     filled e c = roomsFrom (overWaiting c (w .rings)) (overEstimate e (w .estimate))
 
     abbrev moved : ℕ → Changes → Estimate → Machine
-    moved next c e = machine (k .history) next c (k .finished) e (k .mark)
+    moved next c e = machine (k .history) next c (k .finished) e (k .mark) (k .floor)
 
     filled-inv : (next : ℕ) (c : Changes) (e : Estimate) → k .next ≤ next → next ≤ accepted k → length (c .waiting) ≤ waitingRoom (z .rings) → rising 0 (framesOf (c .waiting)) ≡ true
         → anyOf (λ f. ltb (f - left) (k .mark)) (framesOf (c .waiting)) ≡ false → Long dim (i .dims .«ivector_dim») e → Inv i z n (moved next c e) (filled e c)
@@ -296,6 +290,7 @@ module _ (i : IvectorInfo) (z : RoomLengths) (n : ℕ) (t : Tables) (made : Made
           few = v .few;
           next-is = low;
           mark-is = omega (arith, v .mark-is, up);
+          floor-is = v .floor-is;
           frames-fit = v .frames-fit;
           rows-fit = v .rows-fit;
           waiting-fit = room;
@@ -418,6 +413,6 @@ module _ (i : IvectorInfo) (z : RoomLengths) (n : ℕ) (t : Tables) (made : Made
         let c : accepted k + 1 - (k .mark + 1 - window) ≡ rowsIn (z .rings .rows) dim → ⊥ = eqb-false _ _ (h .1 .1 .1 .1 .0) in
         push-next x (eqb-true _ _ (not-false _ (h .0))) (omega (arith, v .few)) (less-than _ _ (v .frames-fit) b) (less-than _ _ (v .rows-fit) c)
     taken-next finish e = finish-next
-    taken-next (change fs ws) e = let h = none-first _ tt e in change-next fs ws (h .1 .1 .0) (ltb-false _ _ (h .1 .1 .1 .0))
+    taken-next (change fs ws) e = let h = none-first _ tt e in change-next fs ws (h .1 .1 .1 .0) (ltb-false _ _ (h .1 .1 .1 .1 .0))
     taken-next (forget f) e = forget-next f
     taken-next (fetch f m) e = fetch-next f m (fetch-ready f m e)

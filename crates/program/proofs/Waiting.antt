@@ -14,6 +14,7 @@ use Rattle.loops.proofs.Choose.{by-test, and-holds, and-both, or-fails, or-none
 use Rattle.floats.specs.Operators.{at}
 use Rattle.definition.specs.Changes.{Change, insertChange, mergedFrom, merged}
 use Rattle.definition.specs.Stream.{rising}
+use Rattle.definition.proofs.Floor.{lowest-under}
 use Rattle.program.specs.Rooms.{framesOf}
 
 -- ---- in order
@@ -60,10 +61,6 @@ module _ (p : ℕ → Bool) where
       by-test (q d) (λ t. rw t (or-none (p (d .0)) _ (a .0) (those-none q ds (a .1)))) (λ t. rw t (those-none q ds (a .1)))
 
 -- ---- the lowest
-
-pub lowest-under : (a : ℕ) (fs : List ℕ) → foldl min a fs ≤ a
-lowest-under a [] = omega arith
-lowest-under a (f ∷ fs) = omega (arith, lowest-under (min a f) fs)
 
 pub lowest-at : (a : ℕ) (fs : List ℕ) (k : ℕ) → k < length fs → foldl min a fs ≤ getD fs k 0
 lowest-at a [] k h = absurd (not-suc-le-zero h)

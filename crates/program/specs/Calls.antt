@@ -1,6 +1,6 @@
 -- The calls on a stream as functions on values: the record, and what the lent rooms hold. Each call is here once: the contract of the code, that
 -- of the exported call and the claim over lists of calls cite it.
-use Prim.Native.Nat.{ℕ, _+_}
+use Prim.Native.Nat.{ℕ, _+_, max}
 use mathlib.Core.Bool.{Bool, true, false, not}
 use mathlib.Core.List.{List, [], _∷_, _++_}
 use lib.ListN.{length, take, replicate}
@@ -30,9 +30,9 @@ use Rattle.program.specs.Rooms.{Rings, ringsFrom, EstimateRooms, estimat
 -- ---- the record
 
 -- accepted, next, mark, how many changes wait, one more than the highest changed frame, whether a change call was taken, finished, the statistics'
--- frame count
-abbrev pub streamFrom : IvectorInfo → RoomLengths → ℕ → ℕ → ℕ → ℕ → ℕ → Bool → Bool → Float → IvectorStream
-streamFrom i z accepted next mark waiting past-highest called finished n =
+-- frame count, and the floor
+abbrev pub streamFrom : IvectorInfo → RoomLengths → ℕ → ℕ → ℕ → ℕ → ℕ → Bool → Bool → Float → ℕ → IvectorStream
+streamFrom i z accepted next mark waiting past-highest called finished n floor =
     record {
       info = i;
       lengths = z;
@@ -44,6 +44,7 @@ streamFrom i z accepted next mark waiting past-highest called finished n =
       «delta_weights_provided» = called;
       «input_finished» = finished;
       «num_frames» = n;
+      floor = floor;
     }
 
 -- ---- answers
@@ -63,7 +64,7 @@ callOf r s n m = record { answer = answerOf r s n m; stream = s }
 -- ---- a fresh stream
 
 unfoldable pub freshStream : IvectorInfo → RoomLengths → IvectorStream
-freshStream i z = streamFrom i z 0 0 0 0 0 false false zero₆₄
+freshStream i z = streamFrom i z 0 0 0 0 0 false false zero₆₄ 0
 
 -- on tables and rooms of these lengths
 unfoldable pub newAnswer : IvectorInfo → TableLengths → RoomLengths → NewStream
@@ -84,20 +85,21 @@ freshRooms i z =
 
 abbrev pub withAccepted : IvectorStream → ℕ → IvectorStream
 withAccepted s n =
-    streamFrom (s .info) (s .lengths) n (s .«num_frames_stats») (s .mark) (s .waiting) (s .«past_highest») (s .«delta_weights_provided») (s .«input_finished») (s .«num_frames»)
+    streamFrom (s .info) (s .lengths) n (s .«num_frames_stats») (s .mark) (s .waiting) (s .«past_highest») (s .«delta_weights_provided») (s .«input_finished») (s .«num_frames») (s .floor)
 
 abbrev pub withFinished : IvectorStream → IvectorStream
 withFinished s =
-    streamFrom (s .info) (s .lengths) (s .accepted) (s .«num_frames_stats») (s .mark) (s .waiting) (s .«past_highest») (s .«delta_weights_provided») true (s .«num_frames»)
+    streamFrom (s .info) (s .lengths) (s .accepted) (s .«num_frames_stats») (s .mark) (s .waiting) (s .«past_highest») (s .«delta_weights_provided») true (s .«num_frames») (s .floor)
 
-abbrev pub withMark : IvectorStream → ℕ → IvectorStream
-withMark s m =
-    streamFrom (s .info) (s .lengths) (s .accepted) (s .«num_frames_stats») m (s .waiting) (s .«past_highest») (s .«delta_weights_provided») (s .«input_finished») (s .«num_frames»)
+-- with mark and floor
+abbrev pub withMark : IvectorStream → ℕ → ℕ → IvectorStream
+withMark s m floor =
+    streamFrom (s .info) (s .lengths) (s .accepted) (s .«num_frames_stats») m (s .waiting) (s .«past_highest») (s .«delta_weights_provided») (s .«input_finished») (s .«num_frames») floor
 
 -- with changes, next and the statistics' frame count
 abbrev pub withChanges : IvectorStream → Changes → ℕ → Float → IvectorStream
 withChanges s c next n =
-    streamFrom (s .info) (s .lengths) (s .accepted) next (s .mark) (length (c .waiting)) (c .past-highest) (c .called) (s .«input_finished») n
+    streamFrom (s .info) (s .lengths) (s .accepted) next (s .mark) (length (c .waiting)) (c .past-highest) (c .called) (s .«input_finished») n (s .floor)
 
 -- ---- push, finish, change and forget: a call on the rings
 
@@ -150,14 +152,14 @@ overWaiting c z = ringsFrom (z .frames) (z .rows) (over (framesOf (c .waiting)) 
 unfoldable pub updateFrameWeights : IvectorStream → Rings → List ℕ → List Float → RingStep
 updateFrameWeights s z fs ws =
     let c = changed (changesIn s z) fs ws in
-    ringStep (recordTests s z ++ changeTests (s .info .opts) (s .lengths .rings) (s .mark) (s .waiting) fs ws)
+    ringStep (recordTests s z ++ changeTests (s .info .opts) (s .lengths .rings) (s .mark) (s .floor) (s .waiting) fs ws)
     (withChanges s c (s .«num_frames_stats») (s .«num_frames»)) (overWaiting c z)
 
 unfoldable pub forgetMark : IvectorStream → List ℕ → ℕ → ℕ
 forgetMark s fs f = forgotten (s .info .opts .«left_context») (s .«num_frames_stats») (s .mark) (take (s .waiting) fs) f
 
 unfoldable pub forgetBefore : IvectorStream → Rings → ℕ → RingStep
-forgetBefore s z f = ringStep (recordTests s z) (withMark s (forgetMark s (z .waiting-frames) f)) z
+forgetBefore s z f = ringStep (recordTests s z) (withMark s (forgetMark s (z .waiting-frames) f) (max (s .floor) f)) z
 
 -- ---- fetch
 

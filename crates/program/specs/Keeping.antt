@@ -1,9 +1,12 @@
 -- The claim over every list of calls: the program's answers are the keeping machine's, and what the program holds after any list.
 use mathlib.Core.Path.{_≡_}
 use Prim.Native.Nat.{ℕ, _+_, _-_, _≤_, _<_}
+use mathlib.Core.Bool.{false}
 use mathlib.Core.List.{List, [], _∷_}
 use lib.ListN.{length, getD}
+use lib.Dec.{eqb}
 use lib.Ieee.{Float}
+use Rattle.loops.specs.Lists.{anyOf}
 use Rattle.loops.specs.Refusal.{taken}
 use Rattle.floats.specs.Operators.{zero₆₄, at, sum₆₄}
 use Rattle.definition.specs.declared.IvectorInfo.{IvectorInfo}
@@ -26,6 +29,14 @@ Keeps =
     → let M = modelIn i t in
     (c .answer ≡ toldBy M 0 (fresh M) 0 0)
     × (programAnswers t n (program (c .stream) (freshRooms i z)) cs ≡ answers M (ringLengthsOf (z .rings)) cs)
+
+-- request 8: whatever is called, no answer is 18
+abbrev pub Never18 : Type 0
+Never18 =
+    (i : IvectorInfo) (t : Tables) (z : Rooms) (n : ℕ) (c : StreamCall)
+    → newAnswer i (tableLengthsOf t) (roomLengthsOf z n) ≡ N.Stream c
+    → (cs : List Call)
+    → anyOf (λ a. eqb (a .told .refusal) 18) (programAnswers t n (program (c .stream) (freshRooms i z)) cs) ≡ false
 
 -- the frames of the pushes that were taken, by the calls and their answers
 unfoldable pub framesTaken : List Call → List Answer → List (List Float)

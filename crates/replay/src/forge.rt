@@ -126,6 +126,10 @@ fn forge_stream(text: &[u8], at: usize, v: usize, stream: IvectorStream) -> Ivec
         s.mark = v;
         return s;
     }
+    if is_word(text, at, b"floor") {
+        s.floor = v;
+        return s;
+    }
     s.info = forge_model(text, at, v, stream.info);
     s
 }

@@ -129,6 +129,7 @@ records! {
         delta_weights_provided: bool,
         input_finished: bool,
         num_frames: f64,
+        floor: usize,
     }
 
     shofrakin_stream_answer: struct StreamAnswer {

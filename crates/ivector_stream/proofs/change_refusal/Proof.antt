@@ -1,5 +1,5 @@
 -- `ivector_stream::change_refusal` meets its contract: the tests of the record, then `changeTests` in their order.
--- The first two have two parts each, which the code tests one after the other. `past-3` to `past-6` say which tests failed at a place.
+-- The first two have two parts each, which the code tests one after the other. `past-3` to `past-7` say which tests failed at a place.
 use borrow.Author.Needs.{needs}
 use mathlib.Core.Path.{_≡_, sym, ap, _∙_}
 use mathlib.Core.Bool.{Bool}
@@ -11,7 +11,7 @@ use Rattle.definition.specs.Machine.{waitingRoom, changeTests}
 use Rattle.program.specs.Rooms.{Rings, ringsFrom}
 use Rattle.program.specs.Calls.{updateFrameWeights}
 use Rattle.ivector_stream.proofs.Records.{Passed, plain-passed}
-use Rattle.ivector_stream.proofs.Refusals.{Past, change-tests, lists-differ, lists-long, lists-pass, frames-far, weights-wild, numbers-pass, room-short, room-enough, change-already, change-first, change-none}
+use Rattle.ivector_stream.proofs.Refusals.{Past, change-tests, lists-differ, lists-long, lists-pass, frames-far, weights-wild, numbers-pass, below-floor, room-short, room-enough, change-already, change-first, change-none}
 use Rattle.ivector_stream.proofs.change_refusal.Statement.{statement}
 use Rattle.ivector_stream.proofs.change_refusal.Tie as tie
 
@@ -33,8 +33,11 @@ first-3 c = first-2 (c .before)
 abbrev third : tie.Else5 → tie.Else3
 third c = c .before .before .before .before
 
-abbrev first-6 : tie.Else6 → tie.Else1
-first-6 c = first-3 (third (c .before .before))
+abbrev fifth : tie.Else7 → tie.Else5
+fifth c = c .before .before .before .before
+
+abbrev first-7 : tie.Else7 → tie.Else1
+first-7 c = first-3 (third (fifth c))
 
 -- ---- what is known there
 
@@ -68,9 +71,13 @@ past-5 c p =
     let tame = sym (c .before .any-not-finite .ensures) ∙ c .if5 .left in
     past-3 (third c) (numbers-pass (frames (first-3 (third c))) (weights (first-3 (third c))) near tame, p)
 
-past-6 : (c : tie.Else6) {P : Type 0} → P → Past 3 (tests (first-6 c)) P
+past-6 : (c : tie.Else6) {P : Type 0} → P → Past 3 (tests (first-3 (third (c .before .before)))) P
 unfolding changeTests
-past-6 c p = past-5 (c .before .before) (sym (c .before .any-below .ensures) ∙ c .if6 .left, p)
+past-6 c p = past-5 (c .before .before) (below-floor _ (frames (first-3 (third (c .before .before)))) ∙ sym (c .before .any-below .ensures) ∙ c .if6 .left, p)
+
+past-7 : (c : tie.Else7) {P : Type 0} → P → Past 4 (tests (first-7 c)) P
+unfolding changeTests
+past-7 c p = past-6 (c .before .before) (sym (c .before .any-below2 .ensures) ∙ c .if7 .left, p)
 
 -- ---- the answers
 
@@ -119,7 +126,16 @@ returns-6 : tie.Need-returns-6
 unfolding changeTests
 returns-6 c =
     let at-if5 = c .before .before in
-    at (first-3 (third at-if5)) 2 (past-5 at-if5 (sym (c .before .any-below .ensures) ∙ c .if6 .taken))
+    at (first-3 (third at-if5)) 2 (past-5 at-if5 (below-floor _ (frames (first-3 (third at-if5))) ∙ sym (c .before .any-below .ensures) ∙ c .if6 .taken))
+
+any-below-requires-2 : tie.Need-any-below-requires-2
+any-below-requires-2 c κs = search needs
+
+returns-7 : tie.Need-returns-7
+unfolding changeTests
+returns-7 c =
+    let at-if6 = c .before .before in
+    at (first-3 (third (at-if6 .before .before))) 3 (past-6 at-if6 (sym (c .before .any-below2 .ensures) ∙ c .if7 .taken))
 
 smaller-requires : tie.Need-smaller-requires
 smaller-requires c κs = search needs
@@ -128,23 +144,23 @@ less-requires : tie.Need-less-requires
 less-requires c κs = search needs
 
 -- how many changes there is room for
-room : (c : tie.After-less) → c .less .result ≡ waitingRoom (begun (first-6 (c .before .before)) .args .s .lengths .rings) - begun (first-6 (c .before .before)) .args .s .waiting
-room c = c .less .ensures ∙ ap (λ (k : ℕ). k - begun (first-6 (c .before .before)) .args .s .waiting) (c .before .smaller .ensures)
-
-returns-7 : tie.Need-returns-7
-unfolding changeTests
-returns-7 c =
-    let at-if6 = c .before .before .before in
-    let at-if1 = first-6 at-if6 in
-    at at-if1 3 (past-6 at-if6 (room-short (known at-if1 .whole-is .waiting-fit) (room (c .before)) (c .if7 .taken)))
+room : (c : tie.After-less) → c .less .result ≡ waitingRoom (begun (first-7 (c .before .before)) .args .s .lengths .rings) - begun (first-7 (c .before .before)) .args .s .waiting
+room c = c .less .ensures ∙ ap (λ (k : ℕ). k - begun (first-7 (c .before .before)) .args .s .waiting) (c .before .smaller .ensures)
 
 returns-8 : tie.Need-returns-8
 unfolding changeTests
 returns-8 c =
-    let at-if6 = c .before .before .before in
-    let at-if1 = first-6 at-if6 in
-    let enough = room-enough (known at-if1 .whole-is .waiting-fit) (room (c .before)) (c .if7 .left) in
-    change-none _ _ _ _ (at-if1 .before .plain-refusal .ensures) (at-if1 .if1 .left) (past-6 at-if6 (enough, tt))
+    let at-if7 = c .before .before .before in
+    let at-if1 = first-7 at-if7 in
+    at at-if1 4 (past-7 at-if7 (room-short (known at-if1 .whole-is .waiting-fit) (room (c .before)) (c .if8 .taken)))
+
+returns-9 : tie.Need-returns-9
+unfolding changeTests
+returns-9 c =
+    let at-if7 = c .before .before .before in
+    let at-if1 = first-7 at-if7 in
+    let enough = room-enough (known at-if1 .whole-is .waiting-fit) (room (c .before)) (c .if8 .left) in
+    change-none _ _ _ _ (at-if1 .before .plain-refusal .ensures) (at-if1 .if1 .left) (past-7 at-if7 (enough, tt))
 
 pub change-refusal-spec : {M : Type 1} → statement M
 change-refusal-spec =
@@ -160,7 +176,9 @@ change-refusal-spec =
     returns-5
     any-below-requires
     returns-6
+    any-below-requires-2
+    returns-7
     smaller-requires
     less-requires
-    returns-7
-    returns-8)
+    returns-8
+    returns-9)

@@ -1,6 +1,7 @@
--- `ivector_stream::forget_before` meets its contract: refused or taken, the rings are as they were; the new mark is no later than the statistics.
+-- `ivector_stream::forget_before` meets its contract: refused or taken, the rings are as they were; the new mark is no later than the statistics;
+-- the new floor is the larger of the old one and the frame named.
 use borrow.Author.Needs.{needs}
-use mathlib.Core.Path.{refl, ap, _∙_}
+use mathlib.Core.Path.{refl, ap₂, _∙_}
 use mathlib.Core.List.{[]}
 use Prim.Native.Nat.{ℕ}
 use native.Mathlib.Omega.{arith}
@@ -57,25 +58,30 @@ less-requires c κs = search needs
 larger-requires : tie.Need-larger-requires
 larger-requires c κs = search needs
 
+larger-requires-2 : tie.Need-larger-requires-2
+larger-requires-2 c κs = search needs
+
 reply-requires-2 : tie.Need-reply-requires-2
 reply-requires-2 c κs =
-    let at-if1 = to-if1 (c .before .before .before) in
+    let at-larger = c .before in
+    let at-if1 = to-if1 (at-larger .before .before .before) in
     let start = begun (at-if1 .before) in
     λ h.
     let k = known at-if1 in
     let a = start .args in
-    (few _ _ k .0, forget-under (a .s) (a .waiting-frames .now) (a .frame) (c .before .before .before .smaller .ensures) (c .before .before .lowest .ensures) (c .before .less .ensures) (c .larger .ensures) (few _ _ k .1) (omega (arith, k .whole-is)))
+    (few _ _ k .0, forget-under (a .s) (a .waiting-frames .now) (a .frame) (at-larger .before .before .before .smaller .ensures) (at-larger .before .before .lowest .ensures) (at-larger .before .less .ensures) (at-larger .larger .ensures) (few _ _ k .1) (omega (arith, k .whole-is)))
 
 returns-2 : tie.Need-returns-2
 unfolding forgetBefore
 returns-2 c =
-    let at-smaller = c .before .before .before .before in
+    let at-larger = c .before .before in
+    let at-smaller = at-larger .before .before .before in
     let at-if1 = to-if1 at-smaller in
     let at-plain-refusal = at-if1 .before in
     let start = begun at-plain-refusal in
     let a = start .args in
-    let mark = forget-is (a .s) (a .waiting-frames .now) (a .frame) (at-smaller .smaller .ensures) (c .before .before .before .lowest .ensures) (c .before .before .less .ensures) (c .before .larger .ensures) in
-    done (a .s) (lent start) (step start) (at-plain-refusal .plain-refusal .ensures) (at-if1 .if1 .left) (c .reply2 .ensures ∙ ap (λ (m : ℕ). callOf 0 (withMark (a .s) m) 0 0) mark) refl
+    let mark = forget-is (a .s) (a .waiting-frames .now) (a .frame) (at-smaller .smaller .ensures) (at-larger .before .before .lowest .ensures) (at-larger .before .less .ensures) (at-larger .larger .ensures) in
+    done (a .s) (lent start) (step start) (at-plain-refusal .plain-refusal .ensures) (at-if1 .if1 .left) (c .reply2 .ensures ∙ ap₂ (λ (m l : ℕ). callOf 0 (withMark (a .s) m l) 0 0) mark (c .before .larger2 .ensures)) refl
 
 pub forget-before-spec : {M : Type 1} → statement M
 forget-before-spec =
@@ -88,5 +94,6 @@ forget-before-spec =
     lowest-requires
     less-requires
     larger-requires
+    larger-requires-2
     reply-requires-2
     returns-2)

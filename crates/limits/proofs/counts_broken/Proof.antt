@@ -21,9 +21,12 @@ sound : (c : tie.Else1) →
     DimRanges (start .args .s .info .dims)
 sound c = let start = c .before .before .before .before .before .before .before .before in dim-ranges _ (start .pre)
 
--- from the test of frames held back to the first; from that of rows held to that of frames held
+-- from the test of frames held back to the third and to the first; from that of rows held to that of frames held
+abbrev third : tie.After-frames-held → tie.Else3
+third c = c .before .before .before .before
+
 abbrev first : tie.After-frames-held → tie.Else1
-first c = c .before .before .before .before .before .before
+first c = third c .before .before .before .before .before
 
 abbrev frames-of : tie.After-rows-held → tie.After-frames-held
 frames-of c = c .before .before .before .before
@@ -40,60 +43,66 @@ returns-3 : tie.Need-returns-3
 unfolding breaks
 returns-3 c = counts-at _ _ 2 (omega arith) (lt-test (c .before .before .less .ensures) refl (c .if3 .taken))
 
-mul-if4 : tie.Need-mul-if4
-mul-if4 c =
+returns-4 : tie.Need-returns-4
+unfolding breaks
+returns-4 c = counts-at _ _ 3 (omega arith) (lt-test (c .before .before .less2 .ensures) refl (c .if4 .taken))
+
+mul-if5 : tie.Need-mul-if5
+mul-if5 c =
     let at-frames-held = c .before in
     let at-if1 = first at-frames-held in
     let few : at-frames-held .frames-held .result ≤ 1000000000 = omega (arith, frames-few _ _ (at-frames-held .frames-held .ensures), at-if1 .if1 .left) in
     omega (arith, mul-le-mul few (sound at-if1 .base-is))
 
-returns-4 : tie.Need-returns-4
+returns-5 : tie.Need-returns-5
 unfolding breaks
-returns-4 c =
+returns-5 c =
     let at-frames-held = c .before .before .before in
     let some = sound (first at-frames-held) .some-base in
-    counts-at _ _ 3 (omega arith) (lt-test refl (at-frames-held .frames-held .ensures) (rows-under _ _ (at-frames-held .frames-held .result) some (c .if4 .taken)))
+    counts-at _ _ 4 (omega arith) (lt-test refl (at-frames-held .frames-held .ensures) (rows-under _ _ (at-frames-held .frames-held .result) some (c .if5 .taken)))
 
 rows-held-requires : tie.Need-rows-held-requires
 rows-held-requires c κs =
-    let at-if3 = c .before .before .before .before in
+    let at-if3 = third (c .before .before .before) in
     let at-less = at-if3 .before .before in
     let at-if2 = at-less .before in
     let at-if1 = at-if2 .before .before in
     omega (arith, at-if1 .if1 .left, at-if2 .if2 .left, at-if3 .if3 .left, at-less .less .ensures)
 
-mul-if5 : tie.Need-mul-if5
-mul-if5 c =
+mul-if6 : tie.Need-mul-if6
+mul-if6 c =
     let at-rows-held = c .before in
     let at-if1 = first (frames-of at-rows-held) in
     let few : at-rows-held .rows-held .result ≤ 1000000001 = omega (arith, rows-few _ _ _ (at-rows-held .rows-held .ensures), at-if1 .if1 .left) in
     omega (arith, mul-le-mul few (sound at-if1 .base-is))
 
-returns-5 : tie.Need-returns-5
-unfolding breaks
-returns-5 c =
-    let at-rows-held = c .before .before .before in
-    let some = sound (first (frames-of at-rows-held)) .some-base in
-    counts-at _ _ 4 (omega arith) (lt-test refl (at-rows-held .rows-held .ensures) (rows-under _ _ (at-rows-held .rows-held .result) some (c .if5 .taken)))
-
 returns-6 : tie.Need-returns-6
 unfolding breaks
-returns-6 c = counts-at _ _ 5 (omega arith) (lt-test (c .before .before .smaller .ensures) refl (c .if6 .taken))
+returns-6 c =
+    let at-rows-held = c .before .before .before in
+    let some = sound (first (frames-of at-rows-held)) .some-base in
+    counts-at _ _ 5 (omega arith) (lt-test refl (at-rows-held .rows-held .ensures) (rows-under _ _ (at-rows-held .rows-held .result) some (c .if6 .taken)))
+
+returns-7 : tie.Need-returns-7
+unfolding breaks
+returns-7 c = counts-at _ _ 6 (omega arith) (lt-test (c .before .before .smaller .ensures) refl (c .if7 .taken))
 
 slice-aggregate-waiting-broken : tie.Need-slice-aggregate-waiting-broken
 slice-aggregate-waiting-broken c = sym (length-take-le _ _ (omega (arith, c .before .smaller2 .ensures)))
 
-returns-7 : tie.Need-returns-7
+returns-8 : tie.Need-returns-8
 unfolding breaks
-returns-7 c =
+returns-8 c =
     let at-smaller2 = c .before .before in
-    let at-if6 = at-smaller2 .before in
-    let at-smaller = at-if6 .before .before in
-    let at-if5 = at-smaller .before in
-    let at-rows-held = at-if5 .before .before .before in
-    let at-if4 = at-rows-held .before in
+    let at-if7 = at-smaller2 .before in
+    let at-smaller = at-if7 .before .before in
+    let at-if6 = at-smaller .before in
+    let at-rows-held = at-if6 .before .before .before in
+    let at-if5 = at-rows-held .before in
     let at-frames-held = frames-of at-rows-held in
-    let at-if3 = at-frames-held .before in
+    let at-if4 = at-frames-held .before in
+    let at-less2 = at-if4 .before .before in
+    let at-if3 = third at-frames-held in
     let at-less = at-if3 .before .before in
     let at-if2 = at-less .before in
     let at-if1 = first at-frames-held in
@@ -105,10 +114,13 @@ returns-7 c =
         (
           le-test (at-less .less .ensures) refl (at-if3 .if3 .left),
           (
-            le-test refl (at-frames-held .frames-held .ensures) (rows-reach _ _ (at-frames-held .frames-held .result) some (at-if4 .if4 .left)),
+            le-test (at-less2 .less2 .ensures) refl (at-if4 .if4 .left),
             (
-              le-test refl (at-rows-held .rows-held .ensures) (rows-reach _ _ (at-rows-held .rows-held .result) some (at-if5 .if5 .left)),
-              (le-test (at-smaller .smaller .ensures) refl (at-if6 .if6 .left), tt),
+              le-test refl (at-frames-held .frames-held .ensures) (rows-reach _ _ (at-frames-held .frames-held .result) some (at-if5 .if5 .left)),
+              (
+                le-test refl (at-rows-held .rows-held .ensures) (rows-reach _ _ (at-rows-held .rows-held .result) some (at-if6 .if6 .left)),
+                (le-test (at-smaller .smaller .ensures) refl (at-if7 .if7 .left), tt),
+              ),
             ),
           ),
         ),
@@ -118,5 +130,5 @@ returns-7 c =
 pub counts-broken-spec : {M : Type 1} → statement M
 counts-broken-spec =
     tie.close
-    (tie.spec returns returns-2 (λ c κs. search needs) returns-3 (λ c κs. search needs) mul-if4 returns-4 rows-held-requires mul-if5 returns-5
-    (λ c κs. search needs) returns-6 (λ c κs. search needs) slice-aggregate-waiting-broken (λ c κs. search needs) returns-7)
+    (tie.spec returns returns-2 (λ c κs. search needs) returns-3 (λ c κs. search needs) returns-4 (λ c κs. search needs) mul-if5 returns-5 rows-held-requires mul-if6 returns-6
+    (λ c κs. search needs) returns-7 (λ c κs. search needs) slice-aggregate-waiting-broken (λ c κs. search needs) returns-8)
