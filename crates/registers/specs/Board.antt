@@ -63,8 +63,7 @@ roomForPush s z = eqb (pushFrame s z (replicate (s .info .dims .«base_dim») ze
 
 -- ---- one step
 
--- the plain call that a block's command is, x being the frame buffer and m the length of the vector buffer: one call, or none. A block of another
--- length than sixteen asks for none.
+-- the plain call that the command of a block of sixteen bytes is, x being the frame buffer and m the length of the vector buffer: one call, or none
 unfoldable pub commandOf : List ℕ → List Float → ℕ → List Call
 commandOf b x m =
     let k = byte b 0 in
@@ -129,7 +128,7 @@ pub record HostStep : Type 0 where
 abbrev pub lentTo : Program → HostStep → Board
 lentTo p h = board p (h .block) (h .vector)
 
--- the plain calls of a step, and of a list of steps
+-- the plain calls of a step, and of a list of steps; a block of another length asks for none
 unfoldable pub callsOf : HostStep → List Call
 callsOf h = taken (blockRefusal (h .block)) (commandOf (h .block) (h .frame) (length (h .vector))) []
 
