@@ -2,7 +2,7 @@
 use mathlib.Core.Path.{_≡_, refl, sym, ap, _∙_, subst}
 use mathlib.Core.Bool.{not}
 use Prim.Native.Nat.{ℕ, zero, suc, _+_, _-_, _*_, _/_, _%_, _^_, _≤_, _<_, compare, Ordering, Ordering·lt, Ordering·eq, Ordering·gt}
-use native.Mathlib.Nat.{le-trans, lt-of-lt-of-le, lt-of-le-of-lt, mod-eq-of-lt, mod-eq-sub-div-mul, div-mul-le-self, div-eq-of-lt, le-div-iff-mul-le, add-mul, mul-assoc, mul-left-comm, one-mul, pow-suc, add-zero}
+use native.Mathlib.Nat.{le-trans, lt-of-lt-of-le, lt-of-le-of-lt, mod-eq-of-lt, mod-eq-sub-div-mul, div-add-mod', div-mul-le-self, div-eq-of-lt, mod-lt, le-div-iff-mul-le, add-mul, mul-assoc, mul-left-comm, one-mul, pow-suc, add-zero}
 use native.Mathlib.Numerals.{suc-eq-add-one}
 use native.Mathlib.Omega.{arith}
 use lib.Dec.{T, isLe, isEq, eqb, leb→le, nleb→lt, eqb→eq, eqb-refl, lit<}
@@ -123,54 +123,89 @@ between a p y l u = go (a % 2) refl
     go (suc zero) e = at-odd (a / 2) (halved a 1 e)
     go (suc (suc r)) e = absurd (never a r e)
 
--- ---- the words of `shifted`
-whole-part : (a k : ℕ) → a < 2 ^ 64 → a / 2 ^ k * 2 ^ k % 2 ^ 64 ≡ a / 2 ^ k * 2 ^ k
-whole-part a k h = mod-eq-of-lt (lt-of-le-of-lt (div-mul-le-self a (2 ^ k)) h)
-
-pub shift-back : (a k : ℕ) → a < 2 ^ 64 → a / 2 ^ k * 2 ^ k % 2 ^ 64 ≤ a
-shift-back a k h = subst (λ (x : ℕ). x ≤ a) (sym (whole-part a k h)) (div-mul-le-self a (2 ^ k))
-
--- a shift by one place at least leaves room for a carry
-pub shift-room : (a k : ℕ) → a < 2 ^ 64 → 0 < k → a / 2 ^ k < 2 ^ 63
-shift-room a k h p = shr-lt 63 k (lt-of-lt-of-le h (pow-mono (more k p)))
+-- ---- half a unit y is added, less one where the whole part is even, and what is past the units d is cut off
+carried : (q d x : ℕ) → d ≤ x → x < d + d → (q * d + x) / d ≡ q + 1
+carried q d x l u = ap (λ (z : ℕ). z / d) (split (q * d) d x ((q + 1) * d) (add-mul q 1 d ∙ ap (λ (z : ℕ). q * d + z) (one-mul d)) l) ∙ digits-div (q + 1) (less d x l u)
   where
-    more : (k : ℕ) → 0 < k → 64 ≤ 63 + k
-    more k p = omega arith
+    split : (m d x n : ℕ) → n ≡ m + d → d ≤ x → m + x ≡ n + (x - d)
+    split m d x n e l = omega arith
 
-module _ (a k : ℕ) (h : a < 2 ^ 64) (b : (0 < k) × (k < 64)) where
-  abbrev rest : ℕ
-  rest = a - a / 2 ^ k * 2 ^ k % 2 ^ 64
+    less : (d x : ℕ) → d ≤ x → x < d + d → x - d < d
+    less d x l u = omega arith
 
+module _ (a d y : ℕ) (p : 0 < y) (e : y * 2 ≡ d) where
+  abbrev past : ℕ
+  past = a % d + (y - 1) + a / d % 2
+
+  parted : a + (y - 1) + a / d % 2 ≡ a / d * d + past
+  parted = go a (a / d * d) (a % d) (y - 1) (a / d % 2) (div-add-mod' a d)
+    where
+      go : (a w r h m : ℕ) → w + r ≡ a → a + h + m ≡ w + (r + h + m)
+      go a w r h m f = omega arith
+
+  -- the number that is past the units, by the rest r: less than a unit, or a unit and less than another
+  in-unit : (r y d w : ℕ) → 0 < y → y * 2 ≡ d → r * 2 < d → r + (y - 1) + w % 2 < d
+  in-unit r y d w p e h = omega arith
+
+  past-unit : (r y d w : ℕ) → y * 2 ≡ d → r < d → d < r * 2 → (d ≤ r + (y - 1) + w % 2) × (r + (y - 1) + w % 2 < d + d)
+  past-unit r y d w e l h = (omega arith, omega arith)
+
+  tie-even : (r y d w : ℕ) → 0 < y → y * 2 ≡ d → r * 2 ≡ d → w % 2 ≡ 0 → (r + (y - 1) + w % 2 < d) × (w ≡ w + w % 2)
+  tie-even r y d w p e h f = (omega arith, omega arith)
+
+  tie-odd : (r y d w : ℕ) → 0 < y → y * 2 ≡ d → r * 2 ≡ d → w % 2 ≡ 1 → (d ≤ r + (y - 1) + w % 2) × (r + (y - 1) + w % 2 < d + d) × (w + 1 ≡ w + w % 2)
+  tie-odd r y d w p e h f = (omega arith, omega arith, omega arith)
+
+  some : 0 < d
+  some = go y d p e
+    where
+      go : (y d : ℕ) → 0 < y → y * 2 ≡ d → 0 < d
+      go y d p e = omega arith
+
+  nearest-cut : (a + (y - 1) + a / d % 2) / d ≡ closest a d
+  nearest-cut = ap (λ (z : ℕ). z / d) parted ∙ go (compare (a % d * 2) d) (compares (a % d * 2) d)
+    where
+      tied : a % d * 2 ≡ d → (m : ℕ) → a / d % 2 ≡ m → (a / d * d + past) / d ≡ closest a d
+      tied h zero f =
+          let t = tie-even (a % d) y d (a / d) p e h f in
+          digits-div (a / d) (t .0) ∙ t .1 ∙ sym (closest-tie a d h)
+      tied h (suc zero) f =
+          let t = tie-odd (a % d) y d (a / d) p e h f in
+          carried (a / d) d past (t .0) (t .1) ∙ t .2 ∙ sym (closest-tie a d h)
+      tied h (suc (suc m)) f = absurd (never (a / d) m f)
+        where
+          never : (w m : ℕ) → w % 2 ≡ suc (suc m) → ⊥
+          never w m f = omega arith
+
+      go : (o : Ordering) → Compares o (a % d * 2) d → (a / d * d + past) / d ≡ closest a d
+      go Ordering·lt h = digits-div (a / d) (in-unit (a % d) y d (a / d) p e h) ∙ sym (closest-under a d h)
+      go Ordering·eq h = tied h (a / d % 2) refl
+      go Ordering·gt h =
+          let t = past-unit (a % d) y d (a / d) e (mod-lt a some) h in
+          carried (a / d) d past (t .0) (t .1) ∙ sym (closest-over a d h)
+
+-- ---- the words of `shifted`
+module _ (a k : ℕ) (b : (0 < k) × (k < 64)) where
   abbrev half : ℕ
   half = 1 * 2 ^ (k - 1) % 2 ^ 64
 
-  rest-is : rest ≡ a % 2 ^ k
-  rest-is = ap (λ (x : ℕ). a - x) (whole-part a k h) ∙ sym (mod-eq-sub-div-mul a (2 ^ k))
-
-  half-is : half * 2 ≡ 2 ^ k
-  half-is =
-      ap (λ (x : ℕ). x % 2 ^ 64 * 2) (one-mul (2 ^ (k - 1)))
-      ∙ ap (λ (x : ℕ). x * 2) (mod-eq-of-lt (pow-lt (less k (b .1))))
-      ∙ sym (pow-suc 2 (k - 1))
-      ∙ ap (λ (x : ℕ). 2 ^ x) (one-back k (b .0))
+  half-as : half ≡ 2 ^ (k - 1)
+  half-as = ap (λ (x : ℕ). x % 2 ^ 64) (one-mul (2 ^ (k - 1))) ∙ mod-eq-of-lt (pow-lt (less k (b .1)))
     where
       less : (k : ℕ) → k < 64 → k - 1 < 64
       less k h = omega arith
 
-  pub shift-under : rest < half → a / 2 ^ k ≡ closest a (2 ^ k)
-  shift-under l = sym (closest-under a (2 ^ k) (go rest half (a % 2 ^ k) (2 ^ k) rest-is half-is l))
-    where
-      go : (x y r d : ℕ) → x ≡ r → y * 2 ≡ d → x < y → r * 2 < d
-      go x y r d p q l = omega arith
+  half-is : half * 2 ≡ 2 ^ k
+  half-is = ap (λ (x : ℕ). x * 2) half-as ∙ sym (pow-suc 2 (k - 1)) ∙ ap (λ (x : ℕ). 2 ^ x) (one-back k (b .0))
 
-  pub shift-over : half < rest → a / 2 ^ k + 1 ≡ closest a (2 ^ k)
-  shift-over l = sym (closest-over a (2 ^ k) (go rest half (a % 2 ^ k) (2 ^ k) rest-is half-is l))
-    where
-      go : (x y r d : ℕ) → x ≡ r → y * 2 ≡ d → y < x → d < r * 2
-      go x y r d p q l = omega arith
+  pub half-some : 0 < half
+  half-some = subst (λ (x : ℕ). 0 < x) (sym half-as) (pow-pos (k - 1))
 
-  pub shift-tie : half ≤ rest → rest ≤ half → a / 2 ^ k + a / 2 ^ k % 2 ≡ closest a (2 ^ k)
-  shift-tie l m = sym (closest-tie a (2 ^ k) (go rest half (a % 2 ^ k) (2 ^ k) rest-is half-is l m))
+  pub half-small : half ≤ 2 ^ 62
+  half-small = subst (λ (x : ℕ). x ≤ 2 ^ 62) (sym half-as) (pow-mono (less k (b .1)))
     where
-      go : (x y r d : ℕ) → x ≡ r → y * 2 ≡ d → y ≤ x → x ≤ y → r * 2 ≡ d
-      go x y r d p q l m = omega arith
+      less : (k : ℕ) → k < 64 → k - 1 ≤ 62
+      less k h = omega arith
+
+  pub shift-nearest : (a + (half - 1) + a / 2 ^ k % 2) / 2 ^ k ≡ closest a (2 ^ k)
+  shift-nearest = nearest-cut a (2 ^ k) half half-some half-is

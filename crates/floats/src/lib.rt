@@ -20,21 +20,15 @@ const INFINITE: u64 = 0x7ff0_0000_0000_0000;
 
 const SIGN: u64 = 0x8000_0000_0000_0000;
 
-// The whole number nearest to a / 2^by, a tie to the even one.
+// The whole number nearest to a / 2^by, a tie to the even one: half a unit is added, less one where the whole part is even, and what is past the
+// units is cut off. No branch waits for the digits.
 fn shifted(a: u64, by: u64) -> u64
-    requires { ⌜ (0 < by) × (by < 64) ⌝ }
+    requires { ⌜ (0 < by) × (by < 64) × (a < 2 ^ 63) ⌝ }
     ensures { λ r. ⌜ r ≡ closest a (2 ^ by) ⌝ }
 {
     let q = a >> by;
-    let r = a - (q << by);
     let half = 1u64 << (by - 1);
-    if r < half {
-        q
-    } else if r > half {
-        q + 1
-    } else {
-        q + q % 2
-    }
+    (a + (half - 1) + q % 2) >> by
 }
 
 // The pattern of the f32 nearest to the f64 of the pattern a, which has no sign and is no NaN's.

@@ -61,6 +61,11 @@ mul-y c = omega (arith, few (c .before))
 add-y : tie.Need-add-y
 add-y c = omega (arith, few (c .before .before .before))
 
+shifted-requires : tie.Need-shifted-requires
+shifted-requires c κs =
+    let short = few (root-known c) in
+    (omega arith, omega arith, ⊎-elim (λ w. omega (arith, short)) (λ w. omega (arith, short)) (c .if1 .came))
+
 add-result-2 : tie.Need-add-result-2
 add-result-2 c =
     let z = parted (root-known (c .before)) in
@@ -80,4 +85,4 @@ pub root-bits-spec : {M : Type 1} → statement M
 root-bits-spec =
     tie.close
     (tie.spec (λ c κs. search needs) (λ c. search needs) root-requires mul-y add-y (λ c. search needs)
-    (λ c. search needs) (λ c κs. search needs) add-result-2 returns)
+    (λ c. search needs) shifted-requires add-result-2 returns)
