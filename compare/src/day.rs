@@ -8,9 +8,8 @@ use crate::rattle::{self, Call};
 use crate::resident;
 use crate::script::{canon32, canon64};
 
-/// Frames of the longest utterance, and the room for frames, rows and changes.
+/// Frames of the longest utterance, and the room for changes.
 const UTTERANCE: u64 = 400;
-const FRAMES: usize = 512;
 const WAITING: usize = 2048;
 
 fn us(v: &[u64]) -> Vec<usize> {
@@ -27,8 +26,10 @@ pub fn run(frames: u64, seed: u64) -> bool {
     let lens = us(&model_needs(&m.dims, &m.opts));
     let (n, loaded, wrong) = rattle::load(&o, &files, &lens, rattle::load_scratch(z.feat, z.ivec), Some(&m));
     assert!(n == 0 && wrong.is_none(), "load: {n} {wrong:?}");
-    let rows = FRAMES + o.window as usize + 1;
-    let mut l: Vec<usize> = vec![FRAMES * z.base, rows * z.base, WAITING, WAITING];
+    // rooms as long as the rules ask, and no longer: each utterance ends with a fetch of its last ready frame, and the next begins with a forget
+    let room = (UTTERANCE + o.left + o.right) as usize;
+    let rows = room + o.window as usize;
+    let mut l: Vec<usize> = vec![room * z.base, rows * z.base, WAITING, WAITING];
     l.extend(us(&stream_needs(&m.dims)));
     let (n, s, wrong) = rattle::Stream::fresh(&loaded.unwrap(), l[..].try_into().unwrap(), &[]);
     assert!(n == 0 && wrong.is_none(), "fresh stream: {n} {wrong:?}");
@@ -155,7 +156,7 @@ pub fn run(frames: u64, seed: u64) -> bool {
         }
     }
     println!(
-        "frames {accepted}  held at most {most} of {FRAMES} frames, {most_rows} of {rows} rows  calls {calls} fetches {fetches} changes {changes}  VmRSS {} kB  {:.0} s",
+        "frames {accepted}  held at most {most} of {room} frames, {most_rows} of {rows} rows  calls {calls} fetches {fetches} changes {changes}  VmRSS {} kB  {:.0} s",
         resident(),
         begun.elapsed().as_secs_f64()
     );

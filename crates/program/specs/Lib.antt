@@ -5,3 +5,4 @@ pub mod Session
 pub mod Keeping
 pub mod Played
 pub mod Loud
+pub mod Habit
