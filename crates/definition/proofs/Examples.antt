@@ -1,10 +1,10 @@
--- P1 to P12 of the scope's "Examples": what the definitions say of them, computed. `P1-to-P12` gathers them. Then examples of requests 4 and 8.
+-- P1 to P12 of the scope's "Examples": what the definitions say of them, computed. `P1-to-P12` gathers them. Then examples of requests 4, 8 and 5.
 use mathlib.Core.Path.{_≡_, refl}
 use Prim.Native.Nat.{ℕ, _*_}
 use mathlib.Core.Bool.{true, false}
 use mathlib.Core.List.{List, [], _∷_, _++_}
 use lib.ListN.{replicate}
-use lib.Ieee.{Float, nan, inf, neg}
+use lib.Ieee.{Float, Format, binary32, binary64, nan, inf, neg}
 use Rattle.loops.specs.Lists.{flat}
 use Rattle.floats.specs.Operators.{f32, f64, asF64, zero₃₂, zero₆₄, one₃₂, _+₆₄_}
 use Rattle.floats.specs.Narrow.{narrowed}
@@ -17,7 +17,8 @@ use Rattle.definition.specs.declared.StreamAnswer.{StreamAnswer}
 use Rattle.definition.specs.declared.SilenceWeighting.{SilenceWeighting}
 use Rattle.definition.specs.declared.NewTable.the-variants as N
 use Rattle.definition.specs.declared.SilenceAnswer.{SilenceAnswer}
-use Rattle.definition.specs.Reader.{read, refused, text}
+use Rattle.definition.specs.Reader.{read, refused, text, byWidth, byteWidth, floats}
+use Rattle.definition.specs.Kaldi.{vectorTag, matrixTag, packedTag, blockWidth, skipped}
 use Rattle.definition.specs.Text.{number}
 use Rattle.definition.specs.Model.{tablesFrom, Model, Files, load}
 use Rattle.definition.specs.Views.{cmvnState, cmvnFrame, normalisedRow}
@@ -62,24 +63,35 @@ one = 0 ∷ 0 ∷ 128 ∷ 63 ∷ []
 abbrev wide-one : List ℕ
 wide-one = 0 ∷ 0 ∷ 0 ∷ 0 ∷ 0 ∷ 0 ∷ 240 ∷ 63 ∷ []
 
+abbrev two : List ℕ
+two = 0 ∷ 0 ∷ 0 ∷ 64 ∷ []
+
 abbrev pub wide-two : List ℕ
 wide-two = 0 ∷ 0 ∷ 0 ∷ 0 ∷ 0 ∷ 0 ∷ 0 ∷ 64 ∷ []
 
 abbrev pub wide-zero : List ℕ
 wide-zero = replicate 8 0
 
--- P9's files, with M and an LDA of n columns
-abbrev filesOf : ℕ → List ℕ → Files
-filesOf n m =
+-- P9's files: a weight, an M, and an LDA of n columns, the GMM and the LDA at width v, the extractor at width w
+abbrev filesAt : Format → Format → ℕ → List ℕ → List ℕ → Files
+filesAt v w n weight m =
+    let unit : Format → List ℕ = byWidth one wide-one in
+    let gap = text " " in
     record {
-      gmm = (0 ∷ 66 ∷ []) ++ text "<DiagGMM> <WEIGHTS> FV " ++ len 1 ++ one ++ text "<MEANS_INVVARS> FM " ++ len 1 ++ len 1 ++ one
-          ++ text "<INV_VARS> FM " ++ len 1 ++ len 1 ++ one;
-      extractor = (0 ∷ 66 ∷ []) ++ text "<IvectorExtractor> <w> DM " ++ len 0 ++ len 0 ++ text "<w_vec> DV " ++ len 0 ++ text "<M> " ++ len 1
-          ++ text "DM " ++ len 1 ++ len 1 ++ m ++ text "<SigmaInv> DP " ++ len 1 ++ wide-one ++ text "<IvectorOffset> " ++ (8 ∷ []) ++ wide-one
+      gmm = (0 ∷ 66 ∷ []) ++ text "<DiagGMM> <WEIGHTS> " ++ vectorTag v ++ gap ++ len 1 ++ weight
+          ++ text "<MEANS_INVVARS> " ++ matrixTag v ++ gap ++ len 1 ++ len 1 ++ unit v
+          ++ text "<INV_VARS> " ++ matrixTag v ++ gap ++ len 1 ++ len 1 ++ unit v;
+      extractor = (0 ∷ 66 ∷ []) ++ text "<IvectorExtractor> <w> " ++ matrixTag w ++ gap ++ len 0 ++ len 0
+          ++ text "<w_vec> " ++ vectorTag w ++ gap ++ len 0 ++ text "<M> " ++ len 1 ++ matrixTag w ++ gap ++ len 1 ++ len 1 ++ m
+          ++ text "<SigmaInv> " ++ packedTag w ++ gap ++ len 1 ++ unit w ++ text "<IvectorOffset> " ++ (byteWidth w ∷ []) ++ unit w
           ++ text "</IvectorExtractor> ";
-      lda = (0 ∷ 66 ∷ []) ++ text "FM " ++ len 1 ++ len n ++ flat n (λ i. one);
+      lda = (0 ∷ 66 ∷ []) ++ matrixTag v ++ gap ++ len 1 ++ len n ++ flat n (λ i. unit v);
       cmvn = text " [ 50 100" ++ (10 ∷ []) ++ text "1 0 ]" ++ (10 ∷ []);
     }
+
+-- with the weight 1, at the widths that the Rust reads
+abbrev filesOf : ℕ → List ℕ → Files
+filesOf n m = filesAt binary32 binary64 n one m
 
 abbrev pub files : List ℕ → Files
 files = filesOf 1
@@ -307,3 +319,53 @@ pub record Floored : Type 0 where
 pub request-8 : Floored
 unfolding computed
 request-8 = record { R8-named = refl; R8-highest = refl; R8-order = refl }
+
+-- ---- request 5
+
+-- f64 around the least f32 above 0, and around the infinite one: 2^-150, which is half the least, and the next one above it; half a place above
+-- the largest f32, and the one before it
+abbrev least-half : List ℕ
+least-half = replicate 6 0 ++ (144 ∷ 54 ∷ [])
+
+abbrev least-over-half : List ℕ
+least-over-half = (1 ∷ replicate 5 0) ++ (144 ∷ 54 ∷ [])
+
+abbrev over-largest : List ℕ
+over-largest = replicate 3 0 ++ (240 ∷ 255 ∷ 255 ∷ 239 ∷ 71 ∷ [])
+
+abbrev near-largest : List ℕ
+near-largest = replicate 3 255 ++ (239 ∷ 255 ∷ 255 ∷ 239 ∷ 71 ∷ [])
+
+pub record EitherWidth : Type 0 where
+  -- the other width at every block, and each width throughout: the same model
+  pub R5-other : load (single 15) (filesAt binary64 binary32 1 wide-one two) tables 2 ≡ read (model (single 15) 2) 0
+  pub R5-singles : load (single 15) (filesAt binary32 binary32 1 one two) tables 2 ≡ read (model (single 15) 2) 0
+  pub R5-doubles : load (single 15) (filesAt binary64 binary64 1 wide-one wide-two) tables 2 ≡ read (model (single 15) 2) 0
+  -- a weight is judged as it is kept: one that narrows to 0 is refused
+  pub R5-weight : load (single 15) (filesAt binary64 binary64 1 least-half wide-two) tables 2 ≡ refused 6
+  pub R5-least : floats binary32 binary64 true 1 least-over-half 0 ≡ read (f32 1 ∷ []) 8
+  pub R5-over : floats binary32 binary64 false 1 over-largest 0 ≡ refused 6
+  pub R5-near : floats binary32 binary64 false 1 near-largest 0 ≡ read (f32 0x7f7f_ffff ∷ []) 8
+  -- for a table of f64 it is kept as it is
+  pub R5-wide : floats binary64 binary64 false 1 over-largest 0 ≡ read (f64 0x47ef_ffff_f000_0000 ∷ []) 8
+  -- a tag of another kind, and a skipped block whose entries are eight bytes each
+  pub R5-kind : blockWidth vectorTag (text "DM ") 0 ≡ refused 3
+  pub R5-skipped : skipped (text "DV " ++ len 2 ++ replicate 16 0) 0 ≡ read tt 24
+  pub R5-skipped-short : skipped (text "DV " ++ len 2 ++ replicate 15 0) 0 ≡ refused 2
+
+pub request-5 : EitherWidth
+unfolding computed
+request-5 =
+    record {
+      R5-other = refl;
+      R5-singles = refl;
+      R5-doubles = refl;
+      R5-weight = refl;
+      R5-least = refl;
+      R5-over = refl;
+      R5-near = refl;
+      R5-wide = refl;
+      R5-kind = refl;
+      R5-skipped = refl;
+      R5-skipped-short = refl;
+    }

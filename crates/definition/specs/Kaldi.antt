@@ -8,7 +8,7 @@ use lib.Ieee.{Float, Format, binary32, binary64, ofBits}
 use lib.Ieee.Scale.{finite}
 use Rattle.loops.specs.Lists.{if_then_else_, allOf}
 use Rattle.definition.specs.Options.{within, maxGauss, maxFeat, maxIvector, maxColumns}
-use Rattle.definition.specs.Reader.{read, refused, Parser, _>>=_, _>>_, give, need, times, bytes, run, text, same, littleEndian, byteWidth, floats}
+use Rattle.definition.specs.Reader.{read, refused, Parser, _>>=_, _>>_, give, need, times, bytes, run, text, same, littleEndian, byWidth, byteWidth, floats}
 
 -- ---- items
 
@@ -44,28 +44,39 @@ dim low high = do
   need (within low high (littleEndian b)) 4
   give (littleEndian b)
 
--- ---- blocks, at either width
+-- ---- blocks, each at either width, which its tag says (request 5)
 
 abbrev pub vectorTag : Format → List ℕ
-vectorTag binary32 = text "FV"
-vectorTag binary64 = text "DV"
+vectorTag = byWidth (text "FV") (text "DV")
 
 abbrev pub matrixTag : Format → List ℕ
-matrixTag binary32 = text "FM"
-matrixTag binary64 = text "DM"
+matrixTag = byWidth (text "FM") (text "DM")
 
+abbrev pub packedTag : Format → List ℕ
+packedTag = byWidth (text "FP") (text "DP")
+
+-- the width whose mark it is; 3 where it is neither's
+unfoldable pub widthBy : (Format → List ℕ) → List ℕ → Parser Format
+widthBy marks b = if same b (marks binary32) then give binary32 else (need (same b (marks binary64)) 3 >> give binary64)
+
+unfoldable pub blockWidth : (Format → List ℕ) → Parser Format
+blockWidth tags = do
+  b ← word
+  widthBy tags b
+
+-- f is the width that its numbers are kept at
 unfoldable pub vector : Format → Bool → ℕ → Parser (List Float)
 vector f positive most = do
-  token (vectorTag f)
+  w ← blockWidth vectorTag
   n ← dim 1 most
-  floats f positive n
+  floats f w positive n
 
 -- skipped by its length
-unfoldable pub skipped : Format → Parser (Unit {0})
-skipped f = do
-  token (vectorTag f)
+unfoldable pub skipped : Parser (Unit {0})
+skipped = do
+  w ← blockWidth vectorTag
   n ← dim 0 1_000_000
-  bytes (n * byteWidth f)
+  bytes (n * byteWidth w)
   give tt
 
 pub record Matrix : Type 0 where
@@ -75,10 +86,10 @@ pub record Matrix : Type 0 where
 
 unfoldable pub matrix : Format → Bool → ℕ → ℕ → Parser Matrix
 matrix f positive most-rows most-cols = do
-  token (matrixTag f)
+  w ← blockWidth matrixTag
   r ← dim 1 most-rows
   c ← dim 1 most-cols
-  xs ← floats f positive (r * c)
+  xs ← floats f w positive (r * c)
   give (record { rows = r; cols = c; nums = xs })
 
 abbrev pub triangle : ℕ → ℕ
@@ -91,9 +102,9 @@ pub record Packed : Type 0 where
 
 unfoldable pub packedMatrix : Parser Packed
 packedMatrix = do
-  token (text "DP")
+  w ← blockWidth packedTag
   n ← dim 1 maxFeat
-  xs ← floats binary64 false (triangle n)
+  xs ← floats binary64 w false (triangle n)
   give (record { rows = n; nums = xs })
 
 -- ---- the GMM
@@ -107,7 +118,7 @@ pub record Gmm : Type 0 where
 unfoldable pub weightsHeading : Parser (Unit {0})
 weightsHeading = do
   w ← word
-  if same w (text "<GCONSTS>") then (skipped binary32 >> token (text "<WEIGHTS>")) else need (same w (text "<WEIGHTS>")) 3
+  if same w (text "<GCONSTS>") then (skipped >> token (text "<WEIGHTS>")) else need (same w (text "<WEIGHTS>")) 3
 
 unfoldable pub gmm : Parser Gmm
 gmm = do
@@ -135,7 +146,7 @@ pub record Extractor : Type 0 where
 -- `<w>` has no rows: seen once both lengths are read
 unfoldable pub rowless : Parser (Unit {0})
 rowless = do
-  token (matrixTag binary64)
+  w ← blockWidth matrixTag
   r ← dim 0 1_000_000
   c ← dim 0 1_000_000
   need (eqb r 0) 5
@@ -147,17 +158,17 @@ extractorHeading = do
   token (text "<w>")
   rowless
   token (text "<w_vec>")
-  skipped binary64
+  skipped
   token (text "<M>")
 
--- a number by itself: the size byte 8, its bytes, its value
+-- a number by itself: the size byte 4 or 8, its bytes, its value
 unfoldable pub single : Parser Float
 single = do
   z ← bytes 1
-  need (same z (8 ∷ [])) 3
-  b ← bytes 8
-  need (finite (ofBits binary64 (littleEndian b))) 6
-  give (ofBits binary64 (littleEndian b))
+  w ← widthBy (λ f. byteWidth f ∷ []) z
+  b ← bytes (byteWidth w)
+  need (finite (ofBits w (littleEndian b))) 6
+  give (ofBits w (littleEndian b))
 
 -- matrix i of a list
 abbrev pub matrixAt : List Matrix → ℕ → Matrix

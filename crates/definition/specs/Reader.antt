@@ -11,6 +11,7 @@ use lib.Ieee.{Float, Format, binary32, binary64, ofBits, lt}
 use lib.Ieee.Scale.{finite}
 use Rattle.loops.specs.Lists.{if_then_else_, allOf, pairwise}
 use Rattle.floats.specs.Operators.{zero₃₂}
+use Rattle.floats.specs.Narrow.{narrowed}
 
 pub data Got (A : Type 0) : Type 0 where
   refused : ℕ → Got A
@@ -72,24 +73,34 @@ unfoldable pub littleEndian : List ℕ → ℕ
 littleEndian [] = 0
 littleEndian (b ∷ s) = b + 256 * littleEndian s
 
+-- one thing for an f32, another for an f64
+abbrev pub byWidth : {A : Type 0} → A → A → Format → A
+byWidth a b binary32 = a
+byWidth a b binary64 = b
+
 -- bytes of a float
 abbrev pub byteWidth : Format → ℕ
-byteWidth binary32 = 4
-byteWidth binary64 = 8
+byteWidth = byWidth 4 8
 
--- the first n floats of a list of bytes
-unfoldable pub numbers : Format → ℕ → List ℕ → List Float
-numbers f zero b = []
-numbers f (suc n) b = ofBits f (littleEndian (take (byteWidth f) b)) ∷ numbers f n (drop (byteWidth f) b)
+-- a number that is written at width w, as a table of width f keeps it: an f64 is narrowed for one of f32; an f32 is an f64 as it stands (request 5)
+abbrev pub keptAs : Format → Format → Float → Float
+keptAs binary32 binary32 x = x
+keptAs binary32 binary64 x = narrowed x
+keptAs binary64 w x = x
+
+-- the first n floats of a list of bytes, written at width w, as a table of width f keeps them
+unfoldable pub numbers : Format → Format → ℕ → List ℕ → List Float
+numbers f w zero b = []
+numbers f w (suc n) b = keptAs f w (ofBits w (littleEndian (take (byteWidth w) b))) ∷ numbers f w n (drop (byteWidth w) b)
 
 -- what a kept number has to be: finite, and above 0 where `positive` says so
 unfoldable pub kept : Bool → Float → Bool
 kept false x = finite x
 kept true x = finite x && lt zero₃₂ x
 
--- n kept floats, their whole extent (2) before their values (6)
-unfoldable pub floats : Format → Bool → ℕ → Parser (List Float)
-floats f positive n = do
-  b ← bytes (n * byteWidth f)
-  need (allOf (kept positive) (numbers f n b)) 6
-  give (numbers f n b)
+-- n kept floats, their whole extent (2) before their values (6), which are judged as they are kept
+unfoldable pub floats : Format → Format → Bool → ℕ → Parser (List Float)
+floats f w positive n = do
+  b ← bytes (n * byteWidth w)
+  need (allOf (kept positive) (numbers f w n b)) 6
+  give (numbers f w n b)
