@@ -97,7 +97,8 @@ typedef struct {
 
 /* Loads a model from the bytes of its four files (final.dubm, final.ie, final.mat, global_cmvn.stats) into eight tables. Refusals 1 to
  * 8. With k = b (left + 1 + right), the tables keep g, dg, dg, eds, es(s+1)/2, kd, d and b+1 numbers; longer ones are taken. Scratch is
- * d(d+1)/2 + ds numbers, and free afterwards. */
+ * d(d+1)/2 + ds numbers, and free afterwards. A block's numbers may be f32 or f64, as its tag says; an f64 for a table of floats is
+ * rounded to the nearest. */
 shofrakin_load_answer shofrakin_load(shofrakin_options opts,
     const uint8_t *gmm, size_t gmm_len, const uint8_t *extractor, size_t extractor_len,
     const uint8_t *lda, size_t lda_len, const uint8_t *cmvn, size_t cmvn_len,

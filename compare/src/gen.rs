@@ -53,8 +53,18 @@ pub enum Kind {
     WRows,
     F32(bool),
     F64,
+    /// Request 5: an f64 where an f32 is kept, and an f32 where an f64 is.
+    Narrowed(bool),
+    Widened,
     Skipped,
 }
+
+impl Kind {
+    fn is_number(self) -> bool {
+        matches!(self, Kind::F32(_) | Kind::F64 | Kind::Narrowed(_) | Kind::Widened)
+    }
+}
+
 #[derive(Clone, Copy, Debug)]
 pub struct Item {
     pub kind: Kind,
@@ -69,7 +79,7 @@ pub struct File {
 }
 
 impl File {
-    fn put(&mut self, kind: Kind, b: &[u8]) {
+    pub fn put(&mut self, kind: Kind, b: &[u8]) {
         self.items.push(Item { kind, at: self.b.len(), len: b.len() });
         self.b.extend(b);
     }
@@ -574,18 +584,20 @@ pub enum What {
     Registers,
     /// Request No. 8: changes and forgets around the floor.
     Floor,
+    /// Request No. 5: models whose blocks have either width.
+    Widths,
 }
 
 /// What `all` stands for (Big and Cuts are asked for by name).
 #[rustfmt::skip]
-pub const KINDS: [What; 13] = [
+pub const KINDS: [What; 14] = [
     What::Calls, What::Wild, What::Damage, What::Edges, What::Rooms, What::Forged, What::Silence, What::Long, What::Limit,
-    What::Exact, What::Nan, What::Registers, What::Floor,
+    What::Exact, What::Nan, What::Registers, What::Floor, What::Widths,
 ];
 #[rustfmt::skip]
-pub const NAMED: [What; 15] = [
+pub const NAMED: [What; 16] = [
     What::Calls, What::Wild, What::Damage, What::Edges, What::Rooms, What::Forged, What::Silence, What::Long, What::Limit,
-    What::Exact, What::Nan, What::Registers, What::Floor, What::Big, What::Cuts,
+    What::Exact, What::Nan, What::Registers, What::Floor, What::Widths, What::Big, What::Cuts,
 ];
 
 pub struct CallList {
@@ -613,6 +625,7 @@ pub fn call_list(seed: u64, what: What) -> CallList {
         What::Exact => crate::requests::exact(&mut r, &mut s),
         What::Registers => crate::registers::registers(&mut r, &mut s),
         What::Floor => crate::requests_floor::floor(&mut r, &mut s),
+        What::Widths => crate::requests_widths::widths(&mut r, &mut s),
     }
     s.cmds.push(Cmd::End);
     s
@@ -863,6 +876,11 @@ pub fn forge(r: &mut Rng, sp: &Spec, run: &Runner, c: &Cmd, out: &mut Vec<Cmd>) 
     }
 }
 
+/// Place of the item after one.
+fn it_after(f: &File, it: Item) -> usize {
+    f.items.iter().position(|x| x.at == it.at).unwrap() + 1
+}
+
 /// One damage at an item: new bytes, expected number.
 fn damage_item(r: &mut Rng, f: &File, it: Item) -> Option<(Vec<u8>, u32)> {
     let mut b = f.b.clone();
@@ -880,15 +898,22 @@ fn damage_item(r: &mut Rng, f: &File, it: Item) -> Option<(Vec<u8>, u32)> {
         }
         Kind::Token => {
             let k = r.n(it.len as u64 - 1) as usize;
-            let mut c = b[it.at + k] ^ (1 + r.n(255) as u8);
-            if k == 0 && (c == 32 || c == 10 || c == 9) {
+            let was = b[it.at + k];
+            let mut c = was ^ (1 + r.n(255) as u8);
+            // not a blank, and not the tag of the other width
+            if k == 0 && (c == 32 || c == 10 || c == 9 || was ^ c == b'F' ^ b'D') {
                 c = b'x';
             }
             b[it.at + k] = c;
             (b, 3)
         }
         Kind::Size => {
-            b[it.at] ^= 1 + r.n(255) as u8;
+            // the offset's may be 4 or 8
+            let own = b[it.at];
+            let offset = f.items.get(it_after(f, it)).is_some_and(|n| n.kind.is_number());
+            while b[it.at] == own || offset && (b[it.at] == 4 || b[it.at] == 8) {
+                b[it.at] = own ^ (1 + r.n(255) as u8);
+            }
             if r.p(30) {
                 b.truncate(it.at + 1);
             }
@@ -950,6 +975,31 @@ fn damage_item(r: &mut Rng, f: &File, it: Item) -> Option<(Vec<u8>, u32)> {
         Kind::F64 => {
             let v = r.pick(&[f64::NAN, f64::INFINITY, f64::NEG_INFINITY]);
             b[it.at..it.at + 8].copy_from_slice(&v.to_bits().to_le_bytes());
+            (b, 6)
+        }
+        Kind::Narrowed(pos) => {
+            // half a place above the largest f32, and half of the least above 0
+            let over = f64::from_bits(0x47ef_ffff_f000_0000);
+            let half = f64::from_bits(0x3690_0000_0000_0000);
+            let v = match r.n(if pos { 11 } else { 6 }) {
+                0 => f64::NAN,
+                1 => f64::INFINITY,
+                2 => f64::NEG_INFINITY,
+                3 => over,
+                4 => -over,
+                5 => f64::MAX,
+                6 => 0.0,
+                7 => -0.0,
+                8 => half,
+                9 => 1e-300,
+                _ => -1.0,
+            };
+            b[it.at..it.at + 8].copy_from_slice(&v.to_bits().to_le_bytes());
+            (b, 6)
+        }
+        Kind::Widened => {
+            let v = r.pick(&[f32::NAN, f32::INFINITY, f32::NEG_INFINITY]);
+            b[it.at..it.at + 4].copy_from_slice(&v.to_bits().to_le_bytes());
             (b, 6)
         }
         Kind::Skipped => return None,
@@ -1037,6 +1087,11 @@ fn damage_text(r: &mut Rng, b: &[u8]) -> Vec<u8> {
 fn damage(r: &mut Rng, out: &mut CallList) {
     let wild = r.p(20);
     let sp = spec(r, wild);
+    damage_of(r, out, sp, 0);
+}
+
+/// `percent` of the blocks have the other width, also in files that are put in.
+pub fn damage_of(r: &mut Rng, out: &mut CallList, sp: Spec, percent: u64) {
     give(&mut out.cmds, &sp);
     out.cmds.push(Cmd::Model([0; 8]));
     out.expect.push((out.cmds.len() - 1, 0));
@@ -1087,7 +1142,10 @@ fn damage(r: &mut Rng, out: &mut CallList) {
                         continue;
                     }
                 }
-                let other = build(r, sp.opts, g, ge, d, s, base, false);
+                let mut other = build(r, sp.opts, g, ge, d, s, base, false);
+                if percent > 0 {
+                    other = crate::requests_widths::mixed(r, &other, percent);
+                }
                 let touched = match k {
                     0 => d != sp.d || g != sp.g,
                     1 => d != sp.d || ge != sp.ge,
@@ -1120,13 +1178,15 @@ fn damage(r: &mut Rng, out: &mut CallList) {
                             b.truncate(end - 1);
                             n = 2;
                         }
+                        // all ones: a NaN at either width
                         1 if k == 0 => {
-                            b[end - 4..end].copy_from_slice(&f32::NAN.to_bits().to_le_bytes());
+                            b[end - last.len..end].fill(0xff);
                             n = 6;
                         }
                         1 => {
-                            let at = f.items[f.items.len() - 2].at - gone;
-                            b[at..at + 8].copy_from_slice(&f64::INFINITY.to_bits().to_le_bytes());
+                            let it = f.items[f.items.len() - 2];
+                            let at = it.at - gone;
+                            b[at..at + it.len].fill(0xff);
                             n = 6;
                         }
                         2 if k == 1 => {
@@ -1145,7 +1205,7 @@ fn damage(r: &mut Rng, out: &mut CallList) {
                 if k == 1 && r.p(12) {
                     i = f.items.iter().position(|x| x.kind == Kind::WRows).unwrap();
                 }
-                let isnum = |j: usize| j < f.items.len() && matches!(f.items[j].kind, Kind::F32(_) | Kind::F64);
+                let isnum = |j: usize| j < f.items.len() && f.items[j].kind.is_number();
                 if isnum(i) && isnum(i + 1) && r.p(25) {
                     // the block's extent before its numbers
                     let mut j = i + 1;
@@ -1168,7 +1228,7 @@ fn damage(r: &mut Rng, out: &mut CallList) {
                 // sometimes a second fault at a later place of this file that keeps the layout
                 if b.len() == f.b.len() && r.p(40) && i + 1 < f.items.len() && f.items[i].kind != Kind::WRows {
                     let j = r.r(i as u64 + 1, f.items.len() as u64 - 1) as usize;
-                    let same_block = matches!(f.items[i].kind, Kind::F32(_) | Kind::F64);
+                    let same_block = f.items[i].kind.is_number();
                     let cuts = File { b: b.clone(), items: f.items.clone() };
                     if let Some((b2, n2)) = damage_item(r, &cuts, f.items[j]) {
                         // an extent is judged before its numbers: a cut in the same block would come first
@@ -1211,7 +1271,7 @@ fn disagree_inside(r: &mut Rng, sp: &Spec, k: usize) -> Option<Vec<u8>> {
     let i = r.pick(&dims);
     // the block: a vector/packed (number follows) or a matrix (size, dim follow)
     let val = |j: usize| i32::from_le_bytes(f.b[f.items[j].at..f.items[j].at + 4].try_into().unwrap()) as usize;
-    let isnum = |j: usize| j < f.items.len() && matches!(f.items[j].kind, Kind::F32(_) | Kind::F64);
+    let isnum = |j: usize| j < f.items.len() && f.items[j].kind.is_number();
     let mut b = f.b.clone();
     if f.items[i + 1].kind == Kind::Size {
         // rows of a matrix
@@ -1247,7 +1307,8 @@ fn disagree_inside(r: &mut Rng, sp: &Spec, k: usize) -> Option<Vec<u8>> {
     }
     b[f.items[i].at..f.items[i].at + 4].copy_from_slice(&(n as i32 - 1).to_le_bytes());
     let w = f.items[i + 1].len;
-    let (all, less) = if w == 8 { (n * (n + 1) / 2, n * (n - 1) / 2) } else { (n, n - 1) };
+    // a triangle of the extractor, or the GMM's weights
+    let (all, less) = if k == 1 { (n * (n + 1) / 2, n * (n - 1) / 2) } else { (n, n - 1) };
     let from = f.items[i + 1].at;
     b.drain(from + less * w..from + all * w);
     Some(b)
@@ -1673,7 +1734,11 @@ fn cuts(r: &mut Rng, out: &mut CallList) {
     let (g, d, s) = (r.r(1, 2) as usize, r.r(1, 2) as usize, r.r(1, 2) as usize);
     let o = Options { left: 0, right: r.n(2), ..DEFAULT };
     let sp = build(r, o, g, g, d, s, 1, false);
-    give(&mut out.cmds, &sp);
+    cuts_of(out, &sp);
+}
+
+pub fn cuts_of(out: &mut CallList, sp: &Spec) {
+    give(&mut out.cmds, sp);
     for k in 0..4 {
         let f = &sp.files[k];
         let end = if k == 3 { f.b.iter().position(|&c| c == b']').unwrap() + 1 } else { f.items.last().map_or(0, |i| i.at + i.len) };

@@ -13,6 +13,7 @@ pub mod registers;
 pub mod requests;
 pub mod requests_floor;
 pub mod requests_nan;
+pub mod requests_widths;
 pub mod script;
 pub mod timed;
 #[allow(dead_code, warnings)]

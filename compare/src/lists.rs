@@ -25,6 +25,8 @@ pub struct Tally {
     pub expects: u64,
     pub silence: u64,
     pub forged: u64,
+    /// Models with a block of the other width (request 5).
+    pub other_width: u64,
     pub differences: u64,
     pub told: Vec<String>,
     /// By call and number, as the machine answered.
@@ -55,6 +57,7 @@ impl Tally {
         self.expects += o.expects;
         self.silence += o.silence;
         self.forged += o.forged;
+        self.other_width += o.other_width;
         self.differences += o.differences;
         self.told.extend(o.told);
         for (k, v) in o.refusals {
@@ -73,7 +76,7 @@ impl Tally {
 
     pub fn print(&self) {
         println!("lists {}  calls {}  answered by the library {}  forged {}", self.lists, self.calls, self.library, self.forged);
-        println!("models compared {}  load numbers known beforehand {}", self.tables, self.expects);
+        println!("models compared {} ({} with a block of the other width)  load numbers known beforehand {}", self.tables, self.other_width, self.expects);
         println!(
             "fetches {} (updating {}, finite {}), against the original as published {}, lists leaving its domain {}",
             self.fetches, self.updates, self.finite, self.against_plain, self.left_domain
@@ -111,6 +114,19 @@ fn c32(v: &[f32]) -> Vec<u32> {
 }
 fn us(v: &[u64]) -> Vec<usize> {
     v.iter().map(|x| *x as usize).collect()
+}
+
+/// The model's files as the original reads them: each block at its own width.
+fn original_bytes(run: &Runner) -> [Vec<u8>; 4] {
+    let mut b = run.bytes.clone();
+    if let Some((m, _)) = &run.model {
+        for (f, p) in b.iter_mut().zip(&m.by_place) {
+            if let Some(p) = p {
+                f.clone_from(p);
+            }
+        }
+    }
+    b
 }
 
 pub fn one(seed: u64, what: What, t: &mut Tally) {
@@ -175,12 +191,22 @@ pub fn one(seed: u64, what: What, t: &mut Tally) {
                     t.did('m', n, "not run");
                     continue;
                 }
-                let a = plain::open(&o, &run.bytes);
-                let how = match &a {
+                let mut a = plain::open(&o, &run.bytes);
+                let mut how = match &a {
                     Ok(Some(_)) => "took it",
                     Ok(None) => "reported an error",
                     Err(_) => "panicked",
                 };
+                // request 5: a block of the other width, which the original reports; it gets the same numbers at its own widths
+                let by_place = original_bytes(&run);
+                if n == 0 && by_place != run.bytes {
+                    t.did('m', n, if how == "reported an error" { "reported a block of the other width" } else { how });
+                    if how != "reported an error" {
+                        t.diff(seed, what, i, format!("a block has the other width, the original {how}"));
+                    }
+                    t.other_width += 1;
+                    (a, how) = (plain::open(&o, &by_place), "took the numbers at its own widths");
+                }
                 t.did('m', n, how);
                 if n == 0 {
                     match a {
@@ -201,7 +227,7 @@ pub fn one(seed: u64, what: What, t: &mut Tally) {
                                 t.diff(seed, what, i, "model tables differ from the original's".into());
                             }
                             pinfo = Some(p);
-                            ninfo = nan::open(&o, &run.bytes).unwrap();
+                            ninfo = nan::open(&o, &by_place).unwrap();
                         }
                         _ => t.diff(seed, what, i, format!("machine takes the model, the original {how}")),
                     }
@@ -233,7 +259,10 @@ pub fn one(seed: u64, what: What, t: &mut Tally) {
                         let o = run.opts.unwrap();
                         let (p, q) = match (pinfo.take(), ninfo.take()) {
                             (Some(p), Some(q)) => (p, q),
-                            _ => (plain::open(&o, &run.bytes).unwrap().unwrap(), nan::open(&o, &run.bytes).unwrap().unwrap()),
+                            _ => {
+                                let b = original_bytes(&run);
+                                (plain::open(&o, &b).unwrap().unwrap(), nan::open(&o, &b).unwrap().unwrap())
+                            }
                         };
                         ps = Some(plain::Owned::new(p));
                         ns = Some(nan::Owned::new(q));

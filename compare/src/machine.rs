@@ -130,16 +130,20 @@ pub fn options_ok(o: &Options) -> bool {
 }
 
 // ---------------------------------------------------------------- model bytes
+/// A file as it is read, and the same model with each block at the width that the original reads there.
 struct Rd<'a> {
     b: &'a [u8],
     at: usize,
+    by_place: Vec<u8>,
+    /// some block has the other width (request 5)
+    other: bool,
 }
 
 type Re<T> = Result<T, u32>;
 
 impl<'a> Rd<'a> {
     fn new(b: &'a [u8]) -> Self {
-        Rd { b, at: 0 }
+        Rd { b, at: 0, by_place: vec![], other: false }
     }
     fn left(&self) -> usize {
         self.b.len() - self.at
@@ -152,9 +156,10 @@ impl<'a> Rd<'a> {
             return Err(3);
         }
         self.at += 2;
+        self.by_place.extend(b"\0B");
         Ok(())
     }
-    fn token(&mut self) -> Re<&'a [u8]> {
+    fn word(&mut self) -> Re<&'a [u8]> {
         let blank = |c: u8| c == 32 || c == 10 || c == 9;
         while self.left() > 0 && blank(self.b[self.at]) {
             self.at += 1;
@@ -170,11 +175,34 @@ impl<'a> Rd<'a> {
         self.at += 1;
         Ok(t)
     }
+    fn token(&mut self) -> Re<&'a [u8]> {
+        let t = self.word()?;
+        self.by_place.extend(t);
+        self.by_place.push(b' ');
+        Ok(t)
+    }
     fn want(&mut self, t: &str) -> Re<()> {
         if self.token()? == t.as_bytes() {
             Ok(())
         } else {
             Err(3)
+        }
+    }
+    /// A block's tag, F or D and the letter of its kind: the bytes of a number. `own`: the width that the original reads there.
+    fn block(&mut self, kind: u8, own: usize) -> Re<usize> {
+        let width = match self.word()? {
+            [b'F', k] if *k == kind => 4,
+            [b'D', k] if *k == kind => 8,
+            _ => return Err(3),
+        };
+        self.by_place.extend([if own == 4 { b'F' } else { b'D' }, kind, b' ']);
+        self.differs(width, own);
+        Ok(width)
+    }
+    fn differs(&mut self, width: usize, own: usize) {
+        if width != own {
+            ev(if own == 4 { "block of f64 where f32 are kept" } else { "block of f32 where f64 are kept" });
+            self.other = true;
         }
     }
     fn sized(&mut self, n: usize) -> Re<&'a [u8]> {
@@ -201,33 +229,54 @@ impl<'a> Rd<'a> {
         if n < lo || n > hi {
             return Err(4);
         }
+        self.by_place.push(4);
+        self.by_place.extend(s);
         Ok(n as usize)
     }
-    fn f32s(&mut self, n: usize, positive: bool) -> Re<Vec<f32>> {
-        let s = self.extent(4 * n as u64)?;
+    fn skip(&mut self, n: usize, width: usize, own: usize) -> Re<()> {
+        self.extent((width * n) as u64)?;
+        self.by_place.resize(self.by_place.len() + own * n, 0);
+        Ok(())
+    }
+    /// Numbers for a table of f32: an f64 is narrowed, then judged.
+    fn f32s(&mut self, n: usize, width: usize, positive: bool) -> Re<Vec<f32>> {
+        let s = self.extent((width * n) as u64)?;
         let mut v = Vec::new();
-        for i in 0..n {
-            let x = f32::from_bits(u32::from_le_bytes([s[4 * i], s[4 * i + 1], s[4 * i + 2], s[4 * i + 3]]));
+        for c in s.chunks_exact(width) {
+            let x = if width == 4 {
+                f32::from_le_bytes(c.try_into().unwrap())
+            } else {
+                let y = f64::from_le_bytes(c.try_into().unwrap());
+                if f64::from(y as f32) != y {
+                    ev("number that narrowing changes");
+                }
+                y as f32
+            };
             if !x.is_finite() || positive && !(x > 0.0) {
                 return Err(6);
             }
+            self.by_place.extend(x.to_le_bytes());
             v.push(x);
         }
         Ok(v)
     }
-    fn f64s(&mut self, n: usize) -> Re<Vec<f64>> {
-        let s = self.extent(8 * n as u64)?;
+    /// Numbers for a table of f64.
+    fn f64s(&mut self, n: usize, width: usize) -> Re<Vec<f64>> {
+        let s = self.extent((width * n) as u64)?;
         let mut v = Vec::new();
-        for i in 0..n {
-            let mut b = [0u8; 8];
-            b.copy_from_slice(&s[8 * i..8 * i + 8]);
-            let x = f64::from_bits(u64::from_le_bytes(b));
+        for c in s.chunks_exact(width) {
+            let x = if width == 8 { f64::from_le_bytes(c.try_into().unwrap()) } else { f64::from(f32::from_le_bytes(c.try_into().unwrap())) };
             if !x.is_finite() {
                 return Err(6);
             }
+            self.by_place.extend(x.to_le_bytes());
             v.push(x);
         }
         Ok(v)
+    }
+    /// The model at the original's widths, where some block has the other one.
+    fn rewritten(self) -> Option<Vec<u8>> {
+        self.other.then_some(self.by_place)
     }
 }
 
@@ -264,9 +313,12 @@ pub struct Model {
     pub lda_offset: Vec<f32>,
     pub global: Vec<f64>,
     pub prior: f64,
+    /// GMM, extractor and LDA at the original's widths, where a file has a block of the other one.
+    pub by_place: [Option<Vec<u8>>; 3],
 }
 
 struct Gmm {
+    by_place: Option<Vec<u8>>,
     g: usize,
     d: usize,
     gconsts: Vec<f32>,
@@ -280,27 +332,27 @@ fn parse_gmm(b: &[u8]) -> Re<Gmm> {
     r.want("<DiagGMM>")?;
     let mut tok = r.token()?;
     if tok == b"<GCONSTS>" {
-        r.want("FV")?;
+        let w = r.block(b'V', 4)?;
         let n = r.dim(0, SKIP)?;
-        r.extent(4 * n as u64)?;
+        r.skip(n, w, 4)?;
         tok = r.token()?;
     }
     if tok != b"<WEIGHTS>" {
         return Err(3);
     }
-    r.want("FV")?;
+    let w = r.block(b'V', 4)?;
     let gw = r.dim(1, GAUSS)?;
-    let weights = r.f32s(gw, true)?;
+    let weights = r.f32s(gw, w, true)?;
     r.want("<MEANS_INVVARS>")?;
-    r.want("FM")?;
+    let w = r.block(b'M', 4)?;
     let g = r.dim(1, GAUSS)?;
     let d = r.dim(1, FEAT)?;
-    let miv = r.f32s(g * d, false)?;
+    let miv = r.f32s(g * d, w, false)?;
     r.want("<INV_VARS>")?;
-    r.want("FM")?;
+    let w = r.block(b'M', 4)?;
     let g2 = r.dim(1, GAUSS)?;
     let d2 = r.dim(1, FEAT)?;
-    let iv = r.f32s(g2 * d2, true)?;
+    let iv = r.f32s(g2 * d2, w, true)?;
     if g != g2 || d != d2 || gw != g {
         return Err(5);
     }
@@ -319,7 +371,7 @@ fn parse_gmm(b: &[u8]) -> Re<Gmm> {
         }
         gconsts.push(gc as f32);
     }
-    Ok(Gmm { g, d, gconsts, means_t: mt, invvars_t: it })
+    Ok(Gmm { by_place: r.rewritten(), g, d, gconsts, means_t: mt, invvars_t: it })
 }
 
 /// Place of (i, j), i ≥ j, in a packed lower triangle.
@@ -329,6 +381,7 @@ fn tri(i: usize, j: usize) -> usize {
 }
 
 struct Ext {
+    by_place: Option<Vec<u8>>,
     g: usize,
     d: usize,
     s: usize,
@@ -342,40 +395,41 @@ fn parse_ext(b: &[u8]) -> Re<Ext> {
     r.mark()?;
     r.want("<IvectorExtractor>")?;
     r.want("<w>")?;
-    r.want("DM")?;
+    r.block(b'M', 8)?;
     let w_rows = r.dim(0, SKIP)?;
     let _w_cols = r.dim(0, SKIP)?;
     if w_rows != 0 {
         return Err(5);
     }
     r.want("<w_vec>")?;
-    r.want("DV")?;
+    let w = r.block(b'V', 8)?;
     let n = r.dim(0, SKIP)?;
-    r.extent(8 * n as u64)?;
+    r.skip(n, w, 8)?;
     r.want("<M>")?;
     let g = r.dim(1, GAUSS)?;
     let mut ms = vec![];
     for _ in 0..g {
-        r.want("DM")?;
+        let w = r.block(b'M', 8)?;
         let d = r.dim(1, FEAT)?;
         let s = r.dim(1, IVEC)?;
-        ms.push((d, s, r.f64s(d * s)?));
+        ms.push((d, s, r.f64s(d * s, w)?));
     }
     r.want("<SigmaInv>")?;
     let mut ss = vec![];
     for _ in 0..g {
-        r.want("DP")?;
+        let w = r.block(b'P', 8)?;
         let d = r.dim(1, FEAT)?;
-        ss.push((d, r.f64s(d * (d + 1) / 2)?));
+        ss.push((d, r.f64s(d * (d + 1) / 2, w)?));
     }
     r.want("<IvectorOffset>")?;
-    let s = r.sized(8)?;
-    let mut b8 = [0u8; 8];
-    b8.copy_from_slice(s);
-    let prior = f64::from_bits(u64::from_le_bytes(b8));
-    if !prior.is_finite() {
-        return Err(6);
-    }
+    let w = match r.extent(1)? {
+        [4] => 4,
+        [8] => 8,
+        _ => return Err(3),
+    };
+    r.by_place.push(8);
+    r.differs(w, 8);
+    let prior = r.f64s(1, w)?[0];
     r.want("</IvectorExtractor>")?;
     let (d, s) = (ms[0].0, ms[0].1);
     for i in 0..g {
@@ -407,17 +461,18 @@ fn parse_ext(b: &[u8]) -> Re<Ext> {
         }
         sim.extend(x);
     }
-    Ok(Ext { g, d, s, sim, u, prior })
+    Ok(Ext { by_place: r.rewritten(), g, d, s, sim, u, prior })
 }
 
-fn parse_lda(b: &[u8]) -> Re<(usize, usize, Vec<f32>)> {
+#[allow(clippy::type_complexity)]
+fn parse_lda(b: &[u8]) -> Re<(usize, usize, Vec<f32>, Option<Vec<u8>>)> {
     let mut r = Rd::new(b);
     r.mark()?;
-    r.want("FM")?;
+    let w = r.block(b'M', 4)?;
     let rows = r.dim(1, FEAT)?;
     let cols = r.dim(1, LDACOLS)?;
-    let v = r.f32s(rows * cols, false)?;
-    Ok((rows, cols, v))
+    let v = r.f32s(rows * cols, w, false)?;
+    Ok((rows, cols, v, r.rewritten()))
 }
 
 fn is_blank(c: u8) -> bool {
@@ -542,7 +597,7 @@ pub fn load(o: &Options, gmm: &[u8], ext: &[u8], lda: &[u8], cmvn: &[u8], deltas
     }
     let g = parse_gmm(gmm)?;
     let e = parse_ext(ext)?;
-    let (lr, lc, lv) = parse_lda(lda)?;
+    let (lr, lc, lv, lda_by_place) = parse_lda(lda)?;
     let global = parse_cmvn(cmvn)?;
     let dims = Dims { gmm_gauss: g.g, ext_gauss: e.g, feat: g.d, ivec: e.s, base: global.len() - 1, lda_cols: lc };
     if !cross_ok(&dims, o, lr, e.d) {
@@ -572,6 +627,7 @@ pub fn load(o: &Options, gmm: &[u8], ext: &[u8], lda: &[u8], cmvn: &[u8], deltas
         lda_offset,
         global,
         prior: e.prior,
+        by_place: [g.by_place, e.by_place, lda_by_place],
     })
 }
 

@@ -52,10 +52,10 @@ module _ (o : IvectorOptions) (z : TableLengths) {f : Files} {d : Dimensions} (p
   here = contentsAt f d (d .«feat_dim») (d .«feat_dim») prior at
 
   abbrev theirs : Gmm
-  theirs = gmmAt (f .gmm) (d .«num_gauss») (d .«feat_dim») (at .weights) (at .«means_invvars») (at .«inv_vars»)
+  theirs = gmmAt (f .gmm) (d .«num_gauss») (d .«feat_dim») (at .weights) (at .«weights_double») (at .«means_invvars») (at .«means_double») (at .«inv_vars») (at .«vars_double»)
 
   abbrev turning : Matrix
-  turning = floatMatrix (f .lda) (d .«feat_dim») (d .«lda_cols») (at .lda)
+  turning = floatMatrix (f .lda) (d .«feat_dim») (d .«lda_cols») (at .lda) (at .«lda_double»)
 
   pub loaded-is : L.Model (record { opts = o; dims = d; «prior_offset» = prior; tables = z }) ≡ loadedOf g
   loaded-is =

@@ -12,7 +12,7 @@ use Rattle.definition.specs.Reader.{Got, read, refused, Parser, _>>=_, give}
 use Rattle.definition.specs.Kaldi.{gmm, extractor, lda}
 use Rattle.definition.specs.Text.{cmvn, line}
 use Rattle.definition.specs.Model.{Contents, Files, Model, reading, modelOf, tablesFit, loadScratch}
-use Rattle.kaldi_io.specs.Answers.{MatrixIn}
+use Rattle.kaldi_io.specs.Answers.{width, MatrixIn}
 use Rattle.kaldi_files.specs.Answers.{GmmIn, ExtractorIn, means, inverses, items}
 use Rattle.kaldi_text.specs.Answers.{cells, RowIn}
 use Rattle.ivector_tables.specs.Steps.{floatMatrix, gmmAt}
@@ -30,7 +30,7 @@ contents f = reading f [] 0
 abbrev pub contentsAt : Files → Dimensions → ℕ → ℕ → Float → Places → Contents
 contentsAt f d dim rows prior at =
     record {
-      gmm = gmmAt (f .gmm) (d .«num_gauss») dim (at .weights) (at .«means_invvars») (at .«inv_vars»);
+      gmm = gmmAt (f .gmm) (d .«num_gauss») dim (at .weights) (at .«weights_double») (at .«means_invvars») (at .«means_double») (at .«inv_vars») (at .«vars_double»);
       extractor =
           record {
             num-gauss = d .«ext_gauss»;
@@ -40,7 +40,7 @@ contentsAt f d dim rows prior at =
             sigma-inv = items (inverses (f .extractor) (d .«ext_gauss») (at .«sigma_inv»));
             prior-offset = prior;
           };
-      lda = floatMatrix (f .lda) rows (d .«lda_cols») (at .lda);
+      lda = floatMatrix (f .lda) rows (d .«lda_cols») (at .lda) (at .«lda_double»);
       global-row = cells (line (f .cmvn) (at .row));
     }
 
@@ -50,9 +50,9 @@ checkedOf f (C.Refused n) = refused n
 
 -- what a fill has to know: the numbers can be read, and there are few
 pub record CheckedIn (f : Files) (d : Dimensions) (dim rows : ℕ) (at : Places) : Type 0 where
-  pub gmm-in : GmmIn (f .gmm) (d .«num_gauss») dim (at .weights) (at .«means_invvars») (at .«inv_vars»)
+  pub gmm-in : GmmIn (f .gmm) (d .«num_gauss») dim (at .weights) (at .«weights_double») (at .«means_invvars») (at .«means_double») (at .«inv_vars») (at .«vars_double»)
   pub extractor-in : ExtractorIn (f .extractor) (d .«ext_gauss») (d .«feat_dim») (d .«ivector_dim») (at .m) (at .«sigma_inv»)
-  pub lda-in : MatrixIn binary32 maxFeat maxColumns (f .lda) rows (d .«lda_cols») (at .lda)
+  pub lda-in : MatrixIn binary32 (width (at .«lda_double»)) maxFeat maxColumns (f .lda) rows (d .«lda_cols») (at .lda)
   pub row-in : RowIn (f .cmvn) (d .«base_dim» + 1) (at .row)
 
 abbrev pub checkedIn : Files → Checked → Type 0
@@ -79,13 +79,13 @@ judgedIn o z scratch f (J.Refused n) = Unit {0}
 -- ---- what the fills are lent
 
 pub record GmmFits (s : List ℕ) (d : Dimensions) (at : Places) (gconsts means vars : ℕ) : Type 0 where
-  pub gmm-in : GmmIn s (d .«num_gauss») (d .«feat_dim») (at .weights) (at .«means_invvars») (at .«inv_vars»)
+  pub gmm-in : GmmIn s (d .«num_gauss») (d .«feat_dim») (at .weights) (at .«weights_double») (at .«means_invvars») (at .«means_double») (at .«inv_vars») (at .«vars_double»)
   pub gconsts-fit : d .«num_gauss» ≤ gconsts
   pub means-fit : d .«feat_dim» * d .«num_gauss» ≤ means
   pub vars-fit : d .«feat_dim» * d .«num_gauss» ≤ vars
 
 pub record LdaFits (o : IvectorOptions) (lda cmvn : List ℕ) (d : Dimensions) (at : Places) (turned offset row : ℕ) : Type 0 where
-  pub lda-in : MatrixIn binary32 maxFeat maxColumns lda (d .«feat_dim») (d .«lda_cols») (at .lda)
+  pub lda-in : MatrixIn binary32 (width (at .«lda_double»)) maxFeat maxColumns lda (d .«feat_dim») (d .«lda_cols») (at .lda)
   pub row-in : RowIn cmvn (d .«base_dim» + 1) (at .row)
   pub options-in : optionsInRange o ≡ true
   pub spliced-in : spliced o d ≤ d .«lda_cols»

@@ -33,14 +33,19 @@ ghost use Rattle.ivector_tables.specs.Steps.{floatMatrix, gmmAt};
 ghost use Rattle.ivector_info.specs.Load.{filesOf, scratchKept};
 ghost use Rattle.ivector_info.specs.Steps.{contents, checkedOf, checkedIn, judgedOf, judgedIn, GmmFits, LdaFits};
 
-// Where the numbers stand in their files, and where the text's first row is looked for.
+// Where the numbers stand in their files, and whether they are f64 (the extractor's blocks say it again when they are filled); and where the
+// text's first row is looked for.
 pub struct Places {
     pub weights: usize,
+    pub weights_double: bool,
     pub means_invvars: usize,
+    pub means_double: bool,
     pub inv_vars: usize,
+    pub vars_double: bool,
     pub m: usize,
     pub sigma_inv: usize,
     pub lda: usize,
+    pub lda_double: bool,
     pub row: usize,
 }
 
@@ -69,8 +74,11 @@ fn check_files(gmm: &[u8], extractor: &[u8], lda: &[u8], cmvn: &[u8]) -> Checked
             num_gauss,
             dim: gmm_dim,
             weights,
+            weights_double,
             means_invvars,
+            means_double,
             inv_vars,
+            vars_double,
             next: _,
         } => match check_extractor(extractor) {
             Extractor::Refused(e) => Checked::Refused(e),
@@ -87,6 +95,7 @@ fn check_files(gmm: &[u8], extractor: &[u8], lda: &[u8], cmvn: &[u8]) -> Checked
                 Matrix::Is {
                     rows: lda_rows,
                     cols: lda_cols,
+                    double: lda_double,
                     from: matrix,
                     next: _,
                 } => match check_cmvn(cmvn) {
@@ -106,11 +115,15 @@ fn check_files(gmm: &[u8], extractor: &[u8], lda: &[u8], cmvn: &[u8]) -> Checked
                         };
                         let places = Places {
                             weights,
+                            weights_double,
                             means_invvars,
+                            means_double,
                             inv_vars,
+                            vars_double,
                             m,
                             sigma_inv,
                             lda: matrix,
+                            lda_double,
                             row,
                         };
                         Checked::Is {
@@ -199,7 +212,7 @@ fn fill_gmm(
 )
     requires { ⌜ GmmFits (now s) dims places (length (now gconsts)) (length (now «means_invvars_t»)) (length (now «inv_vars_t»)) ⌝ }
     ensures { λ _. ⌜ (
-        let x = gmmAt (now (s .entry)) (dims .«num_gauss») (dims .«feat_dim») (places .weights) (places .«means_invvars») (places .«inv_vars») in
+        let x = gmmAt (now (s .entry)) (dims .«num_gauss») (dims .«feat_dim») (places .weights) (places .«weights_double») (places .«means_invvars») (places .«means_double») (places .«inv_vars») (places .«vars_double») in
         (now (gconsts .exit) ≡ over (build (dims .«num_gauss») (gconst x)) (now (gconsts .entry)))
         × (now («means_invvars_t» .exit) ≡ over (transposed (dims .«feat_dim») (x .means-invvars)) (now («means_invvars_t» .entry)))
         × (now («inv_vars_t» .exit) ≡ over (transposed (dims .«feat_dim») (x .inv-vars)) (now («inv_vars_t» .entry)))) ⌝ }
@@ -211,12 +224,23 @@ fn fill_gmm(
         g,
         d,
         places.weights,
+        places.weights_double,
         places.means_invvars,
+        places.means_double,
         places.inv_vars,
+        places.vars_double,
         gconsts,
     );
-    fill_transposed(s, places.means_invvars, g, d, d, means_invvars_t);
-    fill_transposed(s, places.inv_vars, g, d, d, inv_vars_t);
+    fill_transposed(
+        s,
+        places.means_invvars,
+        places.means_double,
+        g,
+        d,
+        d,
+        means_invvars_t,
+    );
+    fill_transposed(s, places.inv_vars, places.vars_double, g, d, d, inv_vars_t);
 }
 
 fn fill_lda(
@@ -231,16 +255,17 @@ fn fill_lda(
 )
     requires { ⌜ LdaFits opts (now lda) (now cmvn) dims places (length (now «lda_t»)) (length (now «lda_offset»)) (length (now «global_mean_stats»)) ⌝ }
     ensures { λ _. ⌜ (
-        let x = floatMatrix (now (lda .entry)) (dims .«feat_dim») (dims .«lda_cols») (places .lda) in
+        let x = floatMatrix (now (lda .entry)) (dims .«feat_dim») (dims .«lda_cols») (places .lda) (places .«lda_double») in
         (now («lda_t» .exit) ≡ over (transposed (spliced opts dims) x) (now («lda_t» .entry)))
         × (now («lda_offset» .exit) ≡ over (build (dims .«feat_dim») (ldaOffset (spliced opts dims) x)) (now («lda_offset» .entry)))
         × (now («global_mean_stats» .exit) ≡ over (cells (line (now (cmvn .entry)) (places .row))) (now («global_mean_stats» .entry)))) ⌝ }
 {
     let rows = dims.feat_dim;
     let cols = dims.lda_cols;
+    let double = places.lda_double;
     let spliced = dims.base_dim * (opts.left_context + 1 + opts.right_context);
-    fill_transposed(lda, places.lda, rows, cols, spliced, lda_t);
-    fill_offset(lda, places.lda, rows, cols, spliced, lda_offset);
+    fill_transposed(lda, places.lda, double, rows, cols, spliced, lda_t);
+    fill_offset(lda, places.lda, double, rows, cols, spliced, lda_offset);
     fill_global(cmvn, places.row, dims.base_dim + 1, global_mean_stats);
 }
 

@@ -6,7 +6,7 @@ use Prim.Native.Nat.{ℕ, _+_, _-_, _*_, _<_}
 use native.Mathlib.Omega.{arith}
 use borrow.Author.Tests.{eqb-true}
 use lib.ListN.{length, drop, getD}
-use lib.Ieee.{Float, binary64}
+use lib.Ieee.{Float, Format, binary64}
 use Rattle.loops.specs.Lists.{flat, over}
 use Rattle.loops.proofs.Tests.{each-at}
 use Rattle.definition.specs.Options.{maxFeat, maxIvector}
@@ -26,8 +26,8 @@ module _ {d n : ℕ} {s : List ℕ} {p : ℕ} (o : MAt d n s p) where
   pub m-there : {r : ℕ} → matrix binary64 false maxFeat maxIvector s p ≡ refused r → ⊥
   m-there e = not-read (sym e ∙ o .stands)
 
-  module _ (rows cols from next : ℕ) (e : matrix binary64 false maxFeat maxIvector s p ≡ read (record { rows = rows; cols = cols; nums = numbers binary64 (rows * cols) (drop from s) }) next) where
-    m-block : record { rows = rows; cols = cols; nums = numbers binary64 (rows * cols) (drop from s) } ≡ o .block
+  module _ (rows cols : ℕ) (w : Format) (from next : ℕ) (e : matrix binary64 false maxFeat maxIvector s p ≡ read (record { rows = rows; cols = cols; nums = numbers binary64 w (rows * cols) (drop from s) }) next) where
+    m-block : record { rows = rows; cols = cols; nums = numbers binary64 w (rows * cols) (drop from s) } ≡ o .block
     m-block = same-value (sym e ∙ o .stands)
 
     m-rows : rows ≡ d
@@ -39,11 +39,11 @@ module _ {d n : ℕ} {s : List ℕ} {p : ℕ} (o : MAt d n s p) where
     m-size : rows * cols ≡ d * n
     m-size = rw (m-rows, m-cols)
 
-    pub m-ready : MatrixIn binary64 maxFeat maxIvector s rows cols from → Ready binary64 (d * n) s from
-    m-ready b = subst (λ (k : ℕ). Ready binary64 k s from) m-size (b .ready)
+    pub m-ready : MatrixIn binary64 w maxFeat maxIvector s rows cols from → Ready binary64 w (d * n) s from
+    m-ready b = subst (λ (k : ℕ). Ready binary64 w k s from) m-size (b .ready)
 
-    pub m-nums : numbers binary64 (d * n) (drop from s) ≡ matrixNums (matrix binary64 false maxFeat maxIvector s p)
-    m-nums = ap (λ (k : ℕ). numbers binary64 k (drop from s)) (sym m-size) ∙ sym (ap matrixNums e)
+    pub m-nums : numbers binary64 w (d * n) (drop from s) ≡ matrixNums (matrix binary64 false maxFeat maxIvector s p)
+    m-nums = ap (λ (k : ℕ). numbers binary64 w k (drop from s)) (sym m-size) ∙ sym (ap matrixNums e)
 
     pub m-after : next ≡ placeOf (matrix binary64 false maxFeat maxIvector s p)
     m-after = sym (ap placeOf e)
@@ -54,15 +54,15 @@ module _ {d : ℕ} {s : List ℕ} {q : ℕ} (o : SigmaAt d s q) where
   pub sigma-there : {r : ℕ} → packedMatrix s q ≡ refused r → ⊥
   sigma-there e = not-read (sym e ∙ o .stands)
 
-  module _ (dim from next : ℕ) (e : packedMatrix s q ≡ read (record { rows = dim; nums = numbers binary64 (triangle dim) (drop from s) }) next) where
+  module _ (dim : ℕ) (w : Format) (from next : ℕ) (e : packedMatrix s q ≡ read (record { rows = dim; nums = numbers binary64 w (triangle dim) (drop from s) }) next) where
     sigma-size : triangle dim ≡ triangle d
     sigma-size = ap triangle (ap (λ (v : Packed). v .rows) (same-value (sym e ∙ o .stands)) ∙ o .size-is)
 
-    pub sigma-ready : PackedIn s dim from → Ready binary64 (triangle d) s from
-    sigma-ready b = subst (λ (k : ℕ). Ready binary64 k s from) sigma-size (b .ready)
+    pub sigma-ready : PackedIn w s dim from → Ready binary64 w (triangle d) s from
+    sigma-ready b = subst (λ (k : ℕ). Ready binary64 w k s from) sigma-size (b .ready)
 
-    pub sigma-nums : numbers binary64 (triangle d) (drop from s) ≡ packedNums (packedMatrix s q)
-    sigma-nums = ap (λ (k : ℕ). numbers binary64 k (drop from s)) (sym sigma-size) ∙ sym (ap packedNums e)
+    pub sigma-nums : numbers binary64 w (triangle d) (drop from s) ≡ packedNums (packedMatrix s q)
+    sigma-nums = ap (λ (k : ℕ). numbers binary64 w k (drop from s)) (sym sigma-size) ∙ sym (ap packedNums e)
 
     pub sigma-after : next ≡ placeOf (packedMatrix s q)
     sigma-after = sym (ap placeOf e)

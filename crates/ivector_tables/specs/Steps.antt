@@ -1,6 +1,6 @@
 -- What a fill reads again, once the bytes are checked, and what it makes of it.
 use mathlib.Core.Path.{_≡_}
-use mathlib.Core.Bool.{false}
+use mathlib.Core.Bool.{Bool, false}
 use mathlib.Core.List.{List, []}
 use Prim.Native.Nat.{ℕ, _+_, _*_}
 use lib.ListN.{drop, getD}
@@ -13,19 +13,20 @@ use Rattle.definition.specs.Options.{maxFeat, maxIvector}
 use Rattle.definition.specs.Reader.{Got, read, refused, numbers}
 use Rattle.definition.specs.Kaldi.{Matrix, Packed, Gmm, matrix, packedMatrix, matrixAt}
 use Rattle.definition.specs.Model.{sigmaInvM, quadraticTerm}
+use Rattle.kaldi_io.specs.Answers.{width}
 use Rattle.kaldi_files.specs.Answers.{means, inverses, items}
 
 -- ---- numbers that stand in the bytes s
 
-abbrev pub floatMatrix : List ℕ → ℕ → ℕ → ℕ → Matrix
-floatMatrix s rows cols from = record { rows = rows; cols = cols; nums = numbers binary32 (rows * cols) (drop from s) }
+abbrev pub floatMatrix : List ℕ → ℕ → ℕ → ℕ → Bool → Matrix
+floatMatrix s rows cols from double = record { rows = rows; cols = cols; nums = numbers binary32 (width double) (rows * cols) (drop from s) }
 
-abbrev pub gmmAt : List ℕ → ℕ → ℕ → ℕ → ℕ → ℕ → Gmm
-gmmAt s gauss dim weights means vars =
+abbrev pub gmmAt : List ℕ → ℕ → ℕ → ℕ → Bool → ℕ → Bool → ℕ → Bool → Gmm
+gmmAt s gauss dim weights wd means md vars vd =
     record {
-      weights = numbers binary32 gauss (drop weights s);
-      means-invvars = floatMatrix s gauss dim means;
-      inv-vars = floatMatrix s gauss dim vars;
+      weights = numbers binary32 (width wd) gauss (drop weights s);
+      means-invvars = floatMatrix s gauss dim means md;
+      inv-vars = floatMatrix s gauss dim vars vd;
     }
 
 -- ---- blocks that stand in the bytes s

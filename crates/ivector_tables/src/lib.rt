@@ -8,8 +8,8 @@ use kaldi_io::Matrix;
 use kaldi_io::Packed;
 use kaldi_io::check_double_matrix;
 use kaldi_io::check_packed_double;
-use kaldi_io::f32_at;
-use kaldi_io::fill_f64s;
+use kaldi_io::fill_doubles;
+use kaldi_io::single_at;
 use kaldi_text::fill_row;
 use packed_matrix::packed_index;
 ghost use mathlib.Core.Path.{_≡_};
@@ -25,7 +25,7 @@ ghost use Rattle.definition.specs.Reader.{numbers};
 ghost use Rattle.definition.specs.Kaldi.{triangle, matrix, packedMatrix};
 ghost use Rattle.definition.specs.Text.{line};
 ghost use Rattle.definition.specs.Model.{gconst as gconstOf, transposed, packed, sigmaInvM, quadraticTerm, gconstOffset, ldaOffset};
-ghost use Rattle.kaldi_io.specs.Answers.{placeOf, Ready};
+ghost use Rattle.kaldi_io.specs.Answers.{placeOf, width, Ready};
 ghost use Rattle.kaldi_files.specs.Answers.{GmmIn, ExtractorIn};
 ghost use Rattle.kaldi_text.specs.Answers.{cells, RowIn};
 ghost use Rattle.ivector_tables.specs.Steps.{floatMatrix, gmmAt, matrixNums, packedNums, MAt, SigmaAt, sigmaInvMs, quadraticTerms};
@@ -54,22 +54,25 @@ fn gconst(
     num_gauss: usize,
     d: usize,
     weights: usize,
+    weights_double: bool,
     means_invvars: usize,
+    means_double: bool,
     inv_vars: usize,
+    vars_double: bool,
     offset: f64,
     g: usize,
 ) -> f32
-    requires { ⌜ GmmIn (now s) «num_gauss» d weights «means_invvars» «inv_vars» ⌝ }
+    requires { ⌜ GmmIn (now s) «num_gauss» d weights «weights_double» «means_invvars» «means_double» «inv_vars» «vars_double» ⌝ }
     requires { ⌜ (offset ≡ gconstOffset d) × (g < «num_gauss») ⌝ }
-    ensures { λ r. ⌜ r ≡ gconstOf (gmmAt (now (s .entry)) «num_gauss» d weights «means_invvars» «inv_vars») g ⌝ }
+    ensures { λ r. ⌜ r ≡ gconstOf (gmmAt (now (s .entry)) «num_gauss» d weights «weights_double» «means_invvars» «means_double» «inv_vars» «vars_double») g ⌝ }
 {
     let n = num_gauss * d;
     let start = g * d;
-    let w = f32_at(s, weights, num_gauss, g);
+    let w = single_at(s, weights, weights_double, num_gauss, g);
     let mut gc = floats::ln(std::num::f32_to_f64_with_nan(w)) + offset;
     for k in 0..d {
-        let m = f32_at(s, means_invvars, n, start + k);
-        let v = f32_at(s, inv_vars, n, start + k);
+        let m = single_at(s, means_invvars, means_double, n, start + k);
+        let v = single_at(s, inv_vars, vars_double, n, start + k);
         gc += gconst_term(m, v);
     }
     floats::narrow(gc)
@@ -80,31 +83,54 @@ pub fn fill_gconsts(
     num_gauss: usize,
     d: usize,
     weights: usize,
+    weights_double: bool,
     means_invvars: usize,
+    means_double: bool,
     inv_vars: usize,
+    vars_double: bool,
     out: &mut [f32],
 )
-    requires { ⌜ GmmIn (now s) «num_gauss» d weights «means_invvars» «inv_vars» ⌝ }
+    requires { ⌜ GmmIn (now s) «num_gauss» d weights «weights_double» «means_invvars» «means_double» «inv_vars» «vars_double» ⌝ }
     requires { ⌜ «num_gauss» ≤ length (now out) ⌝ }
-    ensures { λ _. ⌜ now (out .exit) ≡ over (build «num_gauss» (gconstOf (gmmAt (now (s .entry)) «num_gauss» d weights «means_invvars» «inv_vars»))) (now (out .entry)) ⌝ }
+    ensures { λ _. ⌜ now (out .exit) ≡ over (build «num_gauss» (gconstOf (gmmAt (now (s .entry)) «num_gauss» d weights «weights_double» «means_invvars» «means_double» «inv_vars» «vars_double»))) (now (out .entry)) ⌝ }
 {
     let offset = gconst_offset(d);
     for g in 0..num_gauss {
-        out[g] = gconst(s, num_gauss, d, weights, means_invvars, inv_vars, offset, g);
+        out[g] = gconst(
+            s,
+            num_gauss,
+            d,
+            weights,
+            weights_double,
+            means_invvars,
+            means_double,
+            inv_vars,
+            vars_double,
+            offset,
+            g,
+        );
     }
 }
 
 // ---- matrices whose columns become rows
 
 // Column c, into a room that it fills.
-fn fill_column(s: &[u8], from: usize, rows: usize, cols: usize, c: usize, out: &mut [f32])
-    requires { ⌜ Ready binary32 (rows * cols) (now s) from ⌝ }
+fn fill_column(
+    s: &[u8],
+    from: usize,
+    double: bool,
+    rows: usize,
+    cols: usize,
+    c: usize,
+    out: &mut [f32],
+)
+    requires { ⌜ Ready binary32 (width double) (rows * cols) (now s) from ⌝ }
     requires { ⌜ (rows ≤ 1024) × (cols ≤ 1089) × (c < cols) × (length (now out) ≡ rows) ⌝ }
-    ensures { λ _. ⌜ now (out .exit) ≡ build rows (λ r. at (numbers binary32 (rows * cols) (drop from (now (s .entry)))) (r * cols + c)) ⌝ }
+    ensures { λ _. ⌜ now (out .exit) ≡ build rows (λ r. at (numbers binary32 (width double) (rows * cols) (drop from (now (s .entry)))) (r * cols + c)) ⌝ }
 {
     let n = rows * cols;
     for r in 0..rows {
-        out[r] = f32_at(s, from, n, r * cols + c);
+        out[r] = single_at(s, from, double, n, r * cols + c);
     }
 }
 
@@ -112,44 +138,61 @@ fn fill_column(s: &[u8], from: usize, rows: usize, cols: usize, c: usize, out: &
 pub fn fill_transposed(
     s: &[u8],
     from: usize,
+    double: bool,
     rows: usize,
     cols: usize,
     kept: usize,
     out: &mut [f32],
 )
-    requires { ⌜ Ready binary32 (rows * cols) (now s) from ⌝ }
+    requires { ⌜ Ready binary32 (width double) (rows * cols) (now s) from ⌝ }
     requires { ⌜ (rows ≤ 1024) × (cols ≤ 1089) × (kept ≤ cols) × (kept * rows ≤ length (now out)) ⌝ }
-    ensures { λ _. ⌜ now (out .exit) ≡ over (transposed kept (floatMatrix (now (s .entry)) rows cols from)) (now (out .entry)) ⌝ }
+    ensures { λ _. ⌜ now (out .exit) ≡ over (transposed kept (floatMatrix (now (s .entry)) rows cols from double)) (now (out .entry)) ⌝ }
 {
     for c in 0..kept {
         let start = c * rows;
         let end = start + rows;
-        fill_column(s, from, rows, cols, c, &mut out[start..end]);
+        fill_column(s, from, double, rows, cols, c, &mut out[start..end]);
     }
 }
 
 // ---- the LDA's offset
 
 // Row r of the column after the spliced ones, or 0 where there is none.
-fn offset_at(s: &[u8], from: usize, rows: usize, cols: usize, spliced: usize, r: usize) -> f32
-    requires { ⌜ Ready binary32 (rows * cols) (now s) from ⌝ }
+fn offset_at(
+    s: &[u8],
+    from: usize,
+    double: bool,
+    rows: usize,
+    cols: usize,
+    spliced: usize,
+    r: usize,
+) -> f32
+    requires { ⌜ Ready binary32 (width double) (rows * cols) (now s) from ⌝ }
     requires { ⌜ (rows ≤ 1024) × (cols ≤ 1089) × (r < rows) ⌝ }
-    ensures { λ v. ⌜ v ≡ ldaOffset spliced (floatMatrix (now (s .entry)) rows cols from) r ⌝ }
+    ensures { λ v. ⌜ v ≡ ldaOffset spliced (floatMatrix (now (s .entry)) rows cols from double) r ⌝ }
 {
     if spliced < cols {
-        f32_at(s, from, rows * cols, r * cols + spliced)
+        single_at(s, from, double, rows * cols, r * cols + spliced)
     } else {
         0.0
     }
 }
 
-pub fn fill_offset(s: &[u8], from: usize, rows: usize, cols: usize, spliced: usize, out: &mut [f32])
-    requires { ⌜ Ready binary32 (rows * cols) (now s) from ⌝ }
+pub fn fill_offset(
+    s: &[u8],
+    from: usize,
+    double: bool,
+    rows: usize,
+    cols: usize,
+    spliced: usize,
+    out: &mut [f32],
+)
+    requires { ⌜ Ready binary32 (width double) (rows * cols) (now s) from ⌝ }
     requires { ⌜ (rows ≤ 1024) × (cols ≤ 1089) × (rows ≤ length (now out)) ⌝ }
-    ensures { λ _. ⌜ now (out .exit) ≡ over (build rows (ldaOffset spliced (floatMatrix (now (s .entry)) rows cols from))) (now (out .entry)) ⌝ }
+    ensures { λ _. ⌜ now (out .exit) ≡ over (build rows (ldaOffset spliced (floatMatrix (now (s .entry)) rows cols from double))) (now (out .entry)) ⌝ }
 {
     for r in 0..rows {
-        out[r] = offset_at(s, from, rows, cols, spliced, r);
+        out[r] = offset_at(s, from, double, rows, cols, spliced, r);
     }
 }
 
@@ -218,17 +261,26 @@ fn quadratic_term(m: &[f64], sigma_inv_m: &[f64], d: usize, s: usize, out: &mut 
 }
 
 // One Gaussian's Σ⁻¹, and behind it its M.
-fn read_gaussian(s: &[u8], m: usize, sigma_inv: usize, d: usize, n: usize, scratch: &mut [f64])
-    requires { ⌜ Ready binary64 (d * n) (now s) m ⌝ }
-    requires { ⌜ Ready binary64 (triangle d) (now s) «sigma_inv» ⌝ }
+fn read_gaussian(
+    s: &[u8],
+    m: usize,
+    m_double: bool,
+    sigma_inv: usize,
+    sigma_double: bool,
+    d: usize,
+    n: usize,
+    scratch: &mut [f64],
+)
+    requires { ⌜ Ready binary64 (width «m_double») (d * n) (now s) m ⌝ }
+    requires { ⌜ Ready binary64 (width «sigma_double») (triangle d) (now s) «sigma_inv» ⌝ }
     requires { ⌜ (d ≤ 64) × (n ≤ 128) × (triangle d + d * n ≤ length (now scratch)) ⌝ }
-    ensures { λ _. ⌜ take (triangle d) (now (scratch .exit)) ≡ numbers binary64 (triangle d) (drop «sigma_inv» (now (s .entry))) ⌝ }
-    ensures { λ _. ⌜ take (d * n) (drop (triangle d) (now (scratch .exit))) ≡ numbers binary64 (d * n) (drop m (now (s .entry))) ⌝ }
+    ensures { λ _. ⌜ take (triangle d) (now (scratch .exit)) ≡ numbers binary64 (width «sigma_double») (triangle d) (drop «sigma_inv» (now (s .entry))) ⌝ }
+    ensures { λ _. ⌜ take (d * n) (drop (triangle d) (now (scratch .exit))) ≡ numbers binary64 (width «m_double») (d * n) (drop m (now (s .entry))) ⌝ }
 {
     let start = d * (d + 1) / 2;
     let end = start + d * n;
-    fill_f64s(s, sigma_inv, &mut scratch[..start]);
-    fill_f64s(s, m, &mut scratch[start..end]);
+    fill_doubles(s, sigma_inv, sigma_double, &mut scratch[..start]);
+    fill_doubles(s, m, m_double, &mut scratch[start..end]);
 }
 
 // Its two tables, from Σ⁻¹ and M behind it.
@@ -248,21 +300,23 @@ fn fill_tables(numbers: &[f64], d: usize, n: usize, sim: &mut [f64], u: &mut [f6
 fn fill_from(
     s: &[u8],
     m: usize,
+    m_double: bool,
     sigma_inv: usize,
+    sigma_double: bool,
     d: usize,
     n: usize,
     scratch: &mut [f64],
     sim: &mut [f64],
     u: &mut [f64],
 )
-    requires { ⌜ Ready binary64 (d * n) (now s) m ⌝ }
-    requires { ⌜ Ready binary64 (triangle d) (now s) «sigma_inv» ⌝ }
+    requires { ⌜ Ready binary64 (width «m_double») (d * n) (now s) m ⌝ }
+    requires { ⌜ Ready binary64 (width «sigma_double») (triangle d) (now s) «sigma_inv» ⌝ }
     requires { ⌜ (d ≤ 64) × (n ≤ 128) × (triangle d + d * n ≤ length (now scratch)) × (length (now sim) ≡ d * n) × (length (now u) ≡ triangle n) ⌝ }
-    ensures { λ _. ⌜ now (sim .exit) ≡ sigmaInvM d n (numbers binary64 (triangle d) (drop «sigma_inv» (now (s .entry)))) (numbers binary64 (d * n) (drop m (now (s .entry)))) ⌝ }
-    ensures { λ _. ⌜ now (u .exit) ≡ quadraticTerm d n (numbers binary64 (d * n) (drop m (now (s .entry))))
-        (sigmaInvM d n (numbers binary64 (triangle d) (drop «sigma_inv» (now (s .entry)))) (numbers binary64 (d * n) (drop m (now (s .entry))))) ⌝ }
+    ensures { λ _. ⌜ now (sim .exit) ≡ sigmaInvM d n (numbers binary64 (width «sigma_double») (triangle d) (drop «sigma_inv» (now (s .entry)))) (numbers binary64 (width «m_double») (d * n) (drop m (now (s .entry)))) ⌝ }
+    ensures { λ _. ⌜ now (u .exit) ≡ quadraticTerm d n (numbers binary64 (width «m_double») (d * n) (drop m (now (s .entry))))
+        (sigmaInvM d n (numbers binary64 (width «sigma_double») (triangle d) (drop «sigma_inv» (now (s .entry)))) (numbers binary64 (width «m_double») (d * n) (drop m (now (s .entry))))) ⌝ }
 {
-    read_gaussian(s, m, sigma_inv, d, n, scratch);
+    read_gaussian(s, m, m_double, sigma_inv, sigma_double, d, n, scratch);
     fill_tables(scratch, d, n, sim, u);
 }
 
@@ -296,16 +350,18 @@ fn fill_gaussian(
         Matrix::Is {
             rows: _,
             cols: _,
+            double: m_double,
             from: a,
             next: m,
         } => match check_packed_double(s, at.sigma_inv) {
             Packed::Refused(_) => at,
             Packed::Is {
                 dim: _,
+                double: sigma_double,
                 from: b,
                 next: sigma_inv,
             } => {
-                fill_from(s, a, b, d, n, scratch, sim, u);
+                fill_from(s, a, m_double, b, sigma_double, d, n, scratch, sim, u);
                 Blocks { m, sigma_inv }
             }
         },

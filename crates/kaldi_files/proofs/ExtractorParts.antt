@@ -4,7 +4,7 @@ use mathlib.Core.Bool.{Bool, true, false, _&&_}
 use mathlib.Core.List.{List, _∷_}
 use Prim.Native.Nat.{ℕ, _-_, _≤_}
 use borrow.Author.Tests.{eq-eqb, eqb-true}
-use lib.Ieee.{Float, binary64}
+use lib.Ieee.{Float, Format, binary64}
 use Rattle.loops.specs.Lists.{allOf}
 use Rattle.loops.proofs.Choose.{and-holds}
 use Rattle.definition.specs.Options.{maxGauss, maxFeat, maxIvector}
@@ -73,7 +73,7 @@ module _ (s : List ℕ) (count from : ℕ) (low : 1 ≤ count) (m : Matrix) (p :
       simp (eq-eqb (m .rows) (m .rows) refl, eq-eqb (m .cols) (m .cols) refl)
       (tally-value (sizedAs (m .rows) (m .cols)) true (means s (count - 1) p) rest)
 
-  pub means-in : count ≤ maxGauss → {at : ℕ} → MatrixIn binary64 64 128 s (m .rows) (m .cols) at → MeansIn s count (m .rows) (m .cols) even from next
+  pub means-in : count ≤ maxGauss → {w : Format} {at : ℕ} → MatrixIn binary64 w 64 128 s (m .rows) (m .cols) at → MeansIn s count (m .rows) (m .cols) even from next
   means-in high b =
       record {
         stands = all-of ∙ ap (λ (l : List Matrix). read l next) (sym they-are);

@@ -10,7 +10,7 @@ use lib.Ieee.{Float, binary32}
 use Rattle.definition.specs.Options.{maxGauss, maxFeat}
 use Rattle.definition.specs.Reader.{Got, read, refused, _>>_, after, give, need, numbers, text}
 use Rattle.definition.specs.Kaldi.{Matrix, Gmm, binary, token, vector, matrix, weightsHeading, gmm}
-use Rattle.kaldi_io.specs.Answers.{Ready, VectorIn, MatrixIn}
+use Rattle.kaldi_io.specs.Answers.{width, Ready, VectorIn, MatrixIn}
 use Rattle.kaldi_io.proofs.Chain.{goes, stops, both-go, both-stop, met, unmet}
 use Rattle.kaldi_files.specs.Answers.{gmmOf, GmmIn}
 use Rattle.kaldi_files.specs.Steps.{opening, headed}
@@ -29,24 +29,24 @@ module _ (n g d r c : ℕ) where
   pub dims-agree : g ≡ r → d ≡ c → n ≡ g → (eqb g r && (eqb d c && eqb n g)) ≡ true
   dims-agree e f x = simp (eq-eqb _ _ e, eq-eqb _ _ f, eq-eqb _ _ x)
 
-module _ (s : List ℕ) (w m v : ℕ) {n g d r c : ℕ} (e : g ≡ r) (f : d ≡ c) (x : n ≡ g) where
+module _ (s : List ℕ) (w m v : ℕ) (wd md vd : Bool) {n g d r c : ℕ} (e : g ≡ r) (f : d ≡ c) (x : n ≡ g) where
   -- the tables by the dimensions of the means are those that were read
-  pub gmm-is : (next : ℕ) → gmmOf s (G.Is g d w m v next)
+  pub gmm-is : (next : ℕ) → gmmOf s (G.Is g d w wd m md v vd next)
       ≡ read
       (record {
-        weights = numbers binary32 n (drop w s);
-        means-invvars = record { rows = g; cols = d; nums = numbers binary32 (g * d) (drop m s) };
-        inv-vars = record { rows = r; cols = c; nums = numbers binary32 (r * c) (drop v s) };
+        weights = numbers binary32 (width wd) n (drop w s);
+        means-invvars = record { rows = g; cols = d; nums = numbers binary32 (width md) (g * d) (drop m s) };
+        inv-vars = record { rows = r; cols = c; nums = numbers binary32 (width vd) (r * c) (drop v s) };
       })
       next
   gmm-is next = simp (x, e, f)
 
-  pub gmm-in : VectorIn binary32 1024 s n w → MatrixIn binary32 1024 64 s g d m → MatrixIn binary32 1024 64 s r c v → GmmIn s g d w m v
+  pub gmm-in : VectorIn binary32 (width wd) 1024 s n w → MatrixIn binary32 (width md) 1024 64 s g d m → MatrixIn binary32 (width vd) 1024 64 s r c v → GmmIn s g d w wd m md v vd
   gmm-in a b z =
       record {
-        weights-ready = subst (λ (k : ℕ). Ready binary32 k s w) x (a .ready);
+        weights-ready = subst (λ (k : ℕ). Ready binary32 (width wd) k s w) x (a .ready);
         means-ready = b .ready;
-        vars-ready = subst (λ (k : ℕ). Ready binary32 (k * d) s v) (sym e) (subst (λ (k : ℕ). Ready binary32 (r * k) s v) (sym f) (z .ready));
+        vars-ready = subst (λ (k : ℕ). Ready binary32 (width vd) (k * d) s v) (sym e) (subst (λ (k : ℕ). Ready binary32 (width vd) (r * k) s v) (sym f) (z .ready));
         gauss-low = b .rows-low;
         gauss-high = b .rows-high;
         dim-low = b .cols-low;

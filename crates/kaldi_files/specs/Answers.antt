@@ -12,7 +12,7 @@ use Rattle.definition.specs.Options.{maxGauss, maxFeat, maxIvector}
 use Rattle.definition.specs.Reader.{Got, read, refused, numbers, times}
 use Rattle.definition.specs.Kaldi as K
 use Rattle.definition.specs.Kaldi.{matrix, packedMatrix}
-use Rattle.kaldi_io.specs.Answers.{Ready}
+use Rattle.kaldi_io.specs.Answers.{width, Ready}
 use Rattle.kaldi_files.specs.declared.Gmm.{Gmm}
 use Rattle.kaldi_files.specs.declared.Gmm.the-variants as G
 use Rattle.kaldi_files.specs.declared.Extractor.{Extractor}
@@ -21,28 +21,28 @@ use Rattle.kaldi_files.specs.declared.Extractor.the-variants as E
 -- ---- the GMM
 
 abbrev pub gmmOf : List ℕ → Gmm → Got K.Gmm
-gmmOf s (G.Is gauss dim weights means vars next) =
+gmmOf s (G.Is gauss dim weights wd means md vars vd next) =
     read
     (record {
-      weights = numbers binary32 gauss (drop weights s);
-      means-invvars = record { rows = gauss; cols = dim; nums = numbers binary32 (gauss * dim) (drop means s) };
-      inv-vars = record { rows = gauss; cols = dim; nums = numbers binary32 (gauss * dim) (drop vars s) };
+      weights = numbers binary32 (width wd) gauss (drop weights s);
+      means-invvars = record { rows = gauss; cols = dim; nums = numbers binary32 (width md) (gauss * dim) (drop means s) };
+      inv-vars = record { rows = gauss; cols = dim; nums = numbers binary32 (width vd) (gauss * dim) (drop vars s) };
     })
     next
 gmmOf s (G.Refused r) = refused r
 
 -- what a fill has to know: the numbers can be read, and there are few
-pub record GmmIn (s : List ℕ) (gauss dim weights means vars : ℕ) : Type 0 where
-  pub weights-ready : Ready binary32 gauss s weights
-  pub means-ready : Ready binary32 (gauss * dim) s means
-  pub vars-ready : Ready binary32 (gauss * dim) s vars
+pub record GmmIn (s : List ℕ) (gauss dim weights : ℕ) (wd : Bool) (means : ℕ) (md : Bool) (vars : ℕ) (vd : Bool) : Type 0 where
+  pub weights-ready : Ready binary32 (width wd) gauss s weights
+  pub means-ready : Ready binary32 (width md) (gauss * dim) s means
+  pub vars-ready : Ready binary32 (width vd) (gauss * dim) s vars
   pub gauss-low : 1 ≤ gauss
   pub gauss-high : gauss ≤ maxGauss
   pub dim-low : 1 ≤ dim
   pub dim-high : dim ≤ maxFeat
 
 abbrev pub gmmIn : List ℕ → Gmm → Type 0
-gmmIn s (G.Is gauss dim weights means vars next) = GmmIn s gauss dim weights means vars
+gmmIn s (G.Is gauss dim weights wd means md vars vd next) = GmmIn s gauss dim weights wd means md vars vd
 gmmIn s (G.Refused r) = Unit {0}
 
 -- ---- the extractor

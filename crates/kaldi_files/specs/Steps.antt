@@ -29,7 +29,7 @@ abbrev pub rowlessW : Parser (Unit {0})
 rowlessW = token (text "<w>") >> rowless
 
 abbrev pub skippedW : Parser (Unit {0})
-skippedW = token (text "<w_vec>") >> skipped binary64
+skippedW = token (text "<w_vec>") >> skipped
 
 -- ---- runs of blocks
 

@@ -10,6 +10,7 @@ use kaldi_io::Matrix;
 use kaldi_io::Next;
 use kaldi_io::Number;
 use kaldi_io::Packed;
+use kaldi_io::Tagged;
 use kaldi_io::Vector;
 use kaldi_io::Word;
 use kaldi_io::check_double_matrix;
@@ -22,8 +23,7 @@ use kaldi_io::read_dim;
 use kaldi_io::read_f64;
 use kaldi_io::read_token;
 use kaldi_io::same_at;
-use kaldi_io::skip_double_vec;
-use kaldi_io::skip_float_vec;
+use kaldi_io::skip_vec;
 use kaldi_io::tagged_dim;
 ghost use mathlib.Core.Path.{_≡_};
 ghost use mathlib.Core.Bool.{true, false, _&&_};
@@ -55,7 +55,7 @@ fn expect_weights(s: &[u8], at: usize) -> Next
         Word::Refused(e) => Next::Refused(e),
         Word::Is { from, len, next } => {
             if same_at(s, from, len, b"<GCONSTS>") {
-                match skip_float_vec(s, next) {
+                match skip_vec(s, next) {
                     Next::Refused(e) => Next::Refused(e),
                     Next::At(p) => expect_token(s, p, b"<WEIGHTS>"),
                 }
@@ -68,14 +68,17 @@ fn expect_weights(s: &[u8], at: usize) -> Next
     }
 }
 
-// The GMM's sizes, and where its numbers stand.
+// The GMM's sizes, and where the numbers of each block stand and whether they are f64.
 pub enum Gmm {
     Is {
         num_gauss: usize,
         dim: usize,
         weights: usize,
+        weights_double: bool,
         means_invvars: usize,
+        means_double: bool,
         inv_vars: usize,
+        vars_double: bool,
         next: usize,
     },
     Refused(usize),
@@ -108,6 +111,7 @@ pub fn check_gmm(s: &[u8]) -> Gmm
         Vector::Refused(e) => Gmm::Refused(e),
         Vector::Is {
             len,
+            double: weights_double,
             from: weights,
             next: c,
         } => match check_headed(s, c, b"<MEANS_INVVARS>", false) {
@@ -115,6 +119,7 @@ pub fn check_gmm(s: &[u8]) -> Gmm
             Matrix::Is {
                 rows,
                 cols,
+                double: means_double,
                 from: means,
                 next: d,
             } => match check_headed(s, d, b"<INV_VARS>", true) {
@@ -122,6 +127,7 @@ pub fn check_gmm(s: &[u8]) -> Gmm
                 Matrix::Is {
                     rows: rows2,
                     cols: cols2,
+                    double: vars_double,
                     from: vars,
                     next,
                 } => {
@@ -138,8 +144,11 @@ pub fn check_gmm(s: &[u8]) -> Gmm
                         num_gauss: rows,
                         dim: cols,
                         weights,
+                        weights_double,
                         means_invvars: means,
+                        means_double,
                         inv_vars: vars,
+                        vars_double,
                         next,
                     }
                 }
@@ -154,9 +163,13 @@ pub fn check_gmm(s: &[u8]) -> Gmm
 fn expect_rowless(s: &[u8], at: usize) -> Next
     ensures { λ r. ⌜ nextOf r ≡ rowless (now (s .entry)) at ⌝ }
 {
-    match tagged_dim(s, at, b"DM", 0, MAX_SKIPPED) {
-        Dim::Refused(e) => Next::Refused(e),
-        Dim::Is { n: rows, next: q } => match read_dim(s, q, 0, MAX_SKIPPED) {
+    match tagged_dim(s, at, b"FM", b"DM", 0, MAX_SKIPPED) {
+        Tagged::Refused(e) => Next::Refused(e),
+        Tagged::Is {
+            n: rows,
+            double: _,
+            next: q,
+        } => match read_dim(s, q, 0, MAX_SKIPPED) {
             Dim::Refused(e) => Next::Refused(e),
             Dim::Is { n: _, next } => {
                 if rows != 0 {
@@ -185,7 +198,7 @@ fn skip_w_vec(s: &[u8], at: usize) -> Next
 {
     match expect_token(s, at, b"<w_vec>") {
         Next::Refused(e) => Next::Refused(e),
-        Next::At(next) => skip_double_vec(s, next),
+        Next::At(next) => skip_vec(s, next),
     }
 }
 
@@ -231,6 +244,7 @@ fn check_matrices(s: &[u8], at: usize, count: usize, rows: usize, cols: usize) -
             Matrix::Is {
                 rows: r,
                 cols: c,
+                double: _,
                 from: _,
                 next,
             } => {
@@ -254,6 +268,7 @@ fn check_packeds(s: &[u8], at: usize, count: usize, dim: usize) -> Run
             Packed::Refused(e) => return Run::Refused(e),
             Packed::Is {
                 dim: d,
+                double: _,
                 from: _,
                 next,
             } => {
@@ -293,6 +308,7 @@ fn check_means(s: &[u8], at: usize) -> Means
             Matrix::Is {
                 rows,
                 cols,
+                double: _,
                 from: _,
                 next: p,
             } => match check_matrices(s, p, count - 1, rows, cols) {

@@ -10,13 +10,14 @@ use mir.Syntax.{w64}
 use mir.Val.{Fits}
 use borrow.Author.Tests.{le-leb, lt-leb, eq-eqb, ne-eqb, lt-ltb, le-ltb}
 use lib.Dec.{leb, eqb}
+use lib.Ieee.{Format}
 use lib.ListN.{length, take, drop, getD, drop-of-length-le}
 use Rattle.loops.specs.Lists.{if_then_else_}
 use Rattle.loops.proofs.Choose.{by-test}
 use Rattle.loops.proofs.Parts.{drop-next, length-part, at-part}
 use Rattle.definition.specs.Options.{within}
 use Rattle.definition.specs.Reader.{Got, Parser, after, _>>=_, _>>_, give, need, bytes, run, same, littleEndian, refused, read}
-use Rattle.definition.specs.Kaldi.{binary, blank, word, token, dim}
+use Rattle.definition.specs.Kaldi.{binary, blank, word, dim, blockWidth}
 use Rattle.definition.proofs.Ranges.{in-limits}
 use Rattle.kaldi_io.specs.Answers.{tagged}
 use Rattle.kaldi_io.proofs.Chain.{not-read, same-value}
@@ -221,12 +222,16 @@ dim-in low high s at e =
     subst (λ (n : ℕ). (low ≤ n) × (n ≤ high)) (h .1) (in-limits low high _ (h .0))
 
 -- and so is one behind a tag
-pub tagged-in : (tag : List ℕ) (low high : ℕ) (s : List ℕ) (at : ℕ) {n z : ℕ} → tagged tag low high s at ≡ read n z → (low ≤ n) × (n ≤ high)
-tagged-in tag low high s at {n} {z} = go (token tag s at)
+pub tagged-in : (tags : Format → List ℕ) (low high : ℕ) (s : List ℕ) (at : ℕ) {w : Format} {n z : ℕ} → tagged tags low high s at ≡ read (w, n) z → (low ≤ n) × (n ≤ high)
+tagged-in tags low high s at {w} {n} {z} = go (blockWidth tags s at)
   where
-    go : (g : Got (Unit {0})) → after g (λ _. dim low high) s ≡ read n z → (low ≤ n) × (n ≤ high)
+    behind : (v : Format) (p : ℕ) (g : Got ℕ) → dim low high s p ≡ g → after g (λ m. give {A = Format × ℕ} (v, m)) s ≡ read (w, n) z → (low ≤ n) × (n ≤ high)
+    behind v p (refused r) is e = absurd (not-read e)
+    behind v p (read m q) is e = subst (λ (k : ℕ). (low ≤ k) × (k ≤ high)) (ap (λ (x : Format × ℕ). x .1) (same-value e)) (dim-in low high s p is)
+
+    go : (g : Got Format) → after g (λ v t p. after (dim low high t p) (λ m. give {A = Format × ℕ} (v, m)) t) s ≡ read (w, n) z → (low ≤ n) × (n ≤ high)
     go (refused r) e = absurd (not-read e)
-    go (read u p) e = dim-in low high s p e
+    go (read v p) e = behind v p (dim low high s p) refl e
 
 -- two lengths of at most a million: their product fits
 pub product-fits : (a b : ℕ) → a ≤ 1000000 → b ≤ 1000000 → Fits w64 (a * b)

@@ -4,10 +4,11 @@ use mathlib.Core.Bool.{Bool, true, false}
 use mathlib.Core.List.{List}
 use Prim.Native.Nat.{ℕ}
 use Rattle.loops.specs.Lists.{if_then_else_}
-use Rattle.definition.specs.Reader.{Got, Parser, after, need, refused, read}
-use Rattle.definition.specs.Kaldi.{token, dim}
-use Rattle.kaldi_io.specs.declared.Dim.{Dim}
-use Rattle.kaldi_io.specs.Answers.{placeOf, dimOf, tagged}
+use lib.Ieee.{Format}
+use Rattle.definition.specs.Reader.{Got, Parser, after, give, need, refused, read}
+use Rattle.definition.specs.Kaldi.{dim, blockWidth}
+use Rattle.kaldi_io.specs.declared.Tagged.{Tagged}
+use Rattle.kaldi_io.specs.Answers.{placeOf, tagged, taggedOf}
 
 module _ {R A : Type 0} (of : R → Got A) {r c : R} {g : Got A} where
   -- what the last answer says
@@ -46,10 +47,21 @@ module _ {A B : Type 0} (p : Parser (Unit {0})) (q : Parser A) (k : A → Parser
   pub both-stop : {n : ℕ} {x : Got B} → after (p s at) (λ _. q) s ≡ refused n → x ≡ refused n → x ≡ after (p s at) (λ _ t z. after (q t z) k t) s
   both-stop e t = stops k s e t ∙ parted (p s at)
 
--- a tag and the number behind it
-pub tag-step : {B : Type 0} {x : Got B} (tag : List ℕ) (low high : ℕ) (k : ℕ → Parser B) (s : List ℕ) (at : ℕ) {r c : Dim}
-    → dimOf r ≡ tagged tag low high s at → r ≡ c → x ≡ after (dimOf c) k s → x ≡ after (token tag s at) (λ _ t p. after (dim low high t p) k t) s
-tag-step tag low high k s at = both-step (token tag) (dim low high) k s at dimOf
+-- past a block's tag and the number behind it, which one call reads
+module _ {B : Type 0} (tags : Format → List ℕ) (low high : ℕ) (k : Format → ℕ → Parser B) (s : List ℕ) (at : ℕ) where
+  behind : (w : Format) (g : Got ℕ) → after (after g (λ n. give {A = Format × ℕ} (w, n)) s) (λ x. k (x .0) (x .1)) s ≡ after g (k w) s
+  behind w (refused n) = refl
+  behind w (read n z) = refl
+
+  apart : (g : Got Format)
+      → after (after g (λ w t p. after (dim low high t p) (λ n. give {A = Format × ℕ} (w, n)) t) s) (λ x. k (x .0) (x .1)) s
+      ≡ after g (λ w t p. after (dim low high t p) (k w) t) s
+  apart (refused n) = refl
+  apart (read w z) = behind w (dim low high s z)
+
+  pub tag-step : {r c : Tagged} {x : Got B} → taggedOf r ≡ tagged tags low high s at → r ≡ c → x ≡ after (taggedOf c) (λ y. k (y .0) (y .1)) s
+      → x ≡ after (blockWidth tags s at) (λ w t p. after (dim low high t p) (k w) t) s
+  tag-step e h t = step taggedOf (λ y. k (y .0) (y .1)) s e h t ∙ apart (blockWidth tags s at)
 
 -- a test
 pub met : {t : Bool} (n : ℕ) (s : List ℕ) (p : ℕ) → t ≡ true → read tt p ≡ need t n s p

@@ -6,9 +6,10 @@ ghost use Prim.Native.Nat.{_+_, _-_, _≤_, _<_};
 ghost use lib.ListN.{length, take, drop};
 ghost use lib.Ieee.{binary32, binary64, ofBits};
 ghost use Rattle.floats.specs.Operators.{at};
-ghost use Rattle.definition.specs.Reader.{run, same, littleEndian, byteWidth, numbers, kept, floats};
-ghost use Rattle.definition.specs.Kaldi.{binary, blank, word, token, dim, vectorTag, matrixTag, vector, matrix, skipped, packedMatrix, single};
-ghost use Rattle.kaldi_io.specs.Answers.{width, nextOf, dimOf, tagged, wordOf, wordIn, floatsOf, floatsIn, Ready, vectorOf, vectorIn, matrixOf, matrixIn, packedOf, packedIn, numberOf};
+ghost use Rattle.definition.specs.Reader.{run, same, littleEndian, byWidth, byteWidth, numbers, kept, floats};
+ghost use Rattle.floats.specs.Narrow.{narrowed};
+ghost use Rattle.definition.specs.Kaldi.{binary, blank, word, token, dim, blockWidth, vector, matrix, skipped, packedMatrix, single};
+ghost use Rattle.kaldi_io.specs.Answers.{width, nextOf, dimOf, widthOf, tagged, taggedOf, wordOf, wordIn, plain, floatsOf, floatsIn, Ready, vectorOf, vectorIn, matrixOf, matrixIn, packedOf, packedIn, numberOf};
 
 // Limits of dimensions: Gaussians, features, i-vector, LDA columns, and a block that is skipped.
 pub const MAX_GAUSS: usize = 1024;
@@ -33,6 +34,18 @@ pub enum Dim {
     Refused(usize),
 }
 
+// The width of a block's numbers.
+pub enum Width {
+    Is { double: bool, next: usize },
+    Refused(usize),
+}
+
+// The same, and a dimension behind it.
+pub enum Tagged {
+    Is { n: usize, double: bool, next: usize },
+    Refused(usize),
+}
+
 // A word: its place and its length.
 pub enum Word {
     Is {
@@ -49,31 +62,34 @@ pub enum Number {
     Refused(usize),
 }
 
-// A vector: its length, and where its numbers stand.
+// A vector: its length, its numbers' width, and where they stand.
 pub enum Vector {
     Is {
         len: usize,
+        double: bool,
         from: usize,
         next: usize,
     },
     Refused(usize),
 }
 
-// A matrix: its lengths, and where its numbers stand.
+// A matrix: its lengths, its numbers' width, and where they stand.
 pub enum Matrix {
     Is {
         rows: usize,
         cols: usize,
+        double: bool,
         from: usize,
         next: usize,
     },
     Refused(usize),
 }
 
-// A packed symmetric matrix: its dimension, and where its numbers stand.
+// A packed symmetric matrix: its dimension, its numbers' width, and where they stand.
 pub enum Packed {
     Is {
         dim: usize,
+        double: bool,
         from: usize,
         next: usize,
     },
@@ -310,13 +326,44 @@ pub fn read_dim(s: &[u8], at: usize, low: usize, high: usize) -> Dim
     Dim::Is { n, next: at + 5 }
 }
 
-// A block's tag, and a number from `low` to `high` behind it.
-pub fn tagged_dim(s: &[u8], at: usize, tag: &[u8], low: usize, high: usize) -> Dim
-    ensures { λ r. ⌜ dimOf r ≡ tagged (now (tag .entry)) low high (now (s .entry)) at ⌝ }
+// A block's tag: that of f32, or that of f64.
+pub fn block_width(s: &[u8], at: usize, tag32: &[u8], tag64: &[u8]) -> Width
+    ensures { λ r. ⌜ widthOf r ≡ blockWidth (byWidth (now (tag32 .entry)) (now (tag64 .entry))) (now (s .entry)) at ⌝ }
 {
-    match expect_token(s, at, tag) {
-        Next::Refused(e) => Dim::Refused(e),
-        Next::At(next) => read_dim(s, next, low, high),
+    match read_token(s, at) {
+        Word::Refused(e) => Width::Refused(e),
+        Word::Is { from, len, next } => {
+            if same_at(s, from, len, tag32) {
+                Width::Is {
+                    double: false,
+                    next,
+                }
+            } else if same_at(s, from, len, tag64) {
+                Width::Is { double: true, next }
+            } else {
+                Width::Refused(3)
+            }
+        }
+    }
+}
+
+// The same, and a number from `low` to `high` behind it.
+pub fn tagged_dim(
+    s: &[u8],
+    at: usize,
+    tag32: &[u8],
+    tag64: &[u8],
+    low: usize,
+    high: usize,
+) -> Tagged
+    ensures { λ r. ⌜ taggedOf r ≡ tagged (byWidth (now (tag32 .entry)) (now (tag64 .entry))) low high (now (s .entry)) at ⌝ }
+{
+    match block_width(s, at, tag32, tag64) {
+        Width::Refused(e) => Tagged::Refused(e),
+        Width::Is { double, next: p } => match read_dim(s, p, low, high) {
+            Dim::Refused(e) => Tagged::Refused(e),
+            Dim::Is { n, next } => Tagged::Is { n, double, next },
+        },
     }
 }
 
@@ -346,36 +393,80 @@ fn kept_f64(bits: u64, positive: bool) -> bool
     true
 }
 
-// The size byte 8, and a finite number.
-pub fn read_f64(s: &[u8], at: usize) -> Number
-    ensures { λ r. ⌜ numberOf r ≡ single (now (s .entry)) at ⌝ }
+// The same of a number that is narrowed for a table of f32: judged after that.
+fn kept_narrowed(bits: u64, positive: bool) -> bool
+    ensures { λ r. ⌜ r ≡ kept positive (narrowed (ofBits binary64 bits)) ⌝ }
 {
-    if left(s, at) < 1 {
+    if bits % 9223372036854775808 / 4503599627370496 == 2047 {
+        return false;
+    }
+    let x = floats::narrow(f64::from_bits(bits));
+    if !floats::is_finite(x) {
+        return false;
+    }
+    if positive {
+        return 0.0 < x;
+    }
+    true
+}
+
+// A finite number of four bytes, and of eight.
+fn finite_f32(s: &[u8], at: usize) -> Number
+    ensures { λ r. ⌜ numberOf r ≡ plain binary32 (now (s .entry)) at ⌝ }
+{
+    if left(s, at) < 4 {
         return Number::Refused(2);
     }
-    if s[at] != 8 {
-        return Number::Refused(3);
-    }
-    if left(s, at + 1) < 8 {
-        return Number::Refused(2);
-    }
-    let bits = u64_at(s, at + 1);
-    if kept_f64(bits, false) {
+    let bits = u32_at(s, at);
+    if kept_f32(bits, false) {
         Number::Is {
-            x: f64::from_bits(bits),
-            next: at + 9,
+            x: std::num::f32_to_f64_with_nan(f32::from_bits(bits)),
+            next: at + 4,
         }
     } else {
         Number::Refused(6)
     }
 }
 
+fn finite_f64(s: &[u8], at: usize) -> Number
+    ensures { λ r. ⌜ numberOf r ≡ plain binary64 (now (s .entry)) at ⌝ }
+{
+    if left(s, at) < 8 {
+        return Number::Refused(2);
+    }
+    let bits = u64_at(s, at);
+    if kept_f64(bits, false) {
+        Number::Is {
+            x: f64::from_bits(bits),
+            next: at + 8,
+        }
+    } else {
+        Number::Refused(6)
+    }
+}
+
+// The size byte 4 or 8, and a finite number of so many bytes.
+pub fn read_f64(s: &[u8], at: usize) -> Number
+    ensures { λ r. ⌜ numberOf r ≡ single (now (s .entry)) at ⌝ }
+{
+    if left(s, at) < 1 {
+        return Number::Refused(2);
+    }
+    if s[at] == 4 {
+        return finite_f32(s, at + 1);
+    }
+    if s[at] == 8 {
+        return finite_f64(s, at + 1);
+    }
+    Number::Refused(3)
+}
+
 // ---- runs of numbers
 
-// n numbers to keep: their whole extent, then each of them.
+// n numbers to keep as they are written: their whole extent, then each of them.
 fn check_f32s(s: &[u8], at: usize, n: usize, positive: bool) -> Next
-    ensures { λ r. ⌜ floatsOf binary32 n (now (s .entry)) at r ≡ floats binary32 positive n (now (s .entry)) at ⌝ }
-    ensures { λ r. ⌜ floatsIn binary32 n (now (s .entry)) at r ⌝ }
+    ensures { λ r. ⌜ floatsOf binary32 binary32 n (now (s .entry)) at r ≡ floats binary32 binary32 positive n (now (s .entry)) at ⌝ }
+    ensures { λ r. ⌜ floatsIn binary32 binary32 n (now (s .entry)) at r ⌝ }
 {
     if left(s, at) / 4 < n {
         return Next::Refused(2);
@@ -391,8 +482,8 @@ fn check_f32s(s: &[u8], at: usize, n: usize, positive: bool) -> Next
 }
 
 fn check_f64s(s: &[u8], at: usize, n: usize, positive: bool) -> Next
-    ensures { λ r. ⌜ floatsOf binary64 n (now (s .entry)) at r ≡ floats binary64 positive n (now (s .entry)) at ⌝ }
-    ensures { λ r. ⌜ floatsIn binary64 n (now (s .entry)) at r ⌝ }
+    ensures { λ r. ⌜ floatsOf binary64 binary64 n (now (s .entry)) at r ≡ floats binary64 binary64 positive n (now (s .entry)) at ⌝ }
+    ensures { λ r. ⌜ floatsIn binary64 binary64 n (now (s .entry)) at r ⌝ }
 {
     if left(s, at) / 8 < n {
         return Next::Refused(2);
@@ -407,15 +498,35 @@ fn check_f64s(s: &[u8], at: usize, n: usize, positive: bool) -> Next
     Next::At(at + 8 * n)
 }
 
-// The same at either width.
-fn check_floats(s: &[u8], at: usize, n: usize, double: bool, positive: bool) -> Next
-    ensures { λ r. ⌜ floatsOf (width double) n (now (s .entry)) at r ≡ floats (width double) positive n (now (s .entry)) at ⌝ }
-    ensures { λ r. ⌜ floatsIn (width double) n (now (s .entry)) at r ⌝ }
+// f64 that a table of f32 keeps.
+fn check_narrowed(s: &[u8], at: usize, n: usize, positive: bool) -> Next
+    ensures { λ r. ⌜ floatsOf binary32 binary64 n (now (s .entry)) at r ≡ floats binary32 binary64 positive n (now (s .entry)) at ⌝ }
+    ensures { λ r. ⌜ floatsIn binary32 binary64 n (now (s .entry)) at r ⌝ }
 {
-    if double {
+    if left(s, at) / 8 < n {
+        return Next::Refused(2);
+    }
+    let mut i = 0;
+    while i < n {
+        if !kept_narrowed(u64_at(s, at + 8 * i), positive) {
+            return Next::Refused(6);
+        }
+        i += 1;
+    }
+    Next::At(at + 8 * n)
+}
+
+// Of either width (`double`), for a table of either (`wide`): one test a block.
+fn check_floats(s: &[u8], at: usize, n: usize, wide: bool, double: bool, positive: bool) -> Next
+    ensures { λ r. ⌜ floatsOf (width wide) (width double) n (now (s .entry)) at r ≡ floats (width wide) (width double) positive n (now (s .entry)) at ⌝ }
+    ensures { λ r. ⌜ floatsIn (width wide) (width double) n (now (s .entry)) at r ⌝ }
+{
+    if !double {
+        check_f32s(s, at, n, positive)
+    } else if wide {
         check_f64s(s, at, n, positive)
     } else {
-        check_f32s(s, at, n, positive)
+        check_narrowed(s, at, n, positive)
     }
 }
 
@@ -427,38 +538,47 @@ fn float_size(double: bool) -> usize
 }
 
 // Number i of n that were checked.
-pub fn f32_at(s: &[u8], from: usize, n: usize, i: usize) -> f32
-    requires { ⌜ Ready binary32 n (now s) from ⌝ }
+fn f32_at(s: &[u8], from: usize, n: usize, i: usize) -> f32
+    requires { ⌜ Ready binary32 binary32 n (now s) from ⌝ }
     requires { ⌜ i < n ⌝ }
-    ensures { λ r. ⌜ r ≡ at (numbers binary32 n (drop from (now (s .entry)))) i ⌝ }
+    ensures { λ r. ⌜ r ≡ at (numbers binary32 binary32 n (drop from (now (s .entry)))) i ⌝ }
 {
     f32::from_bits(u32_at(s, from + 4 * i))
 }
 
-pub fn f64_at(s: &[u8], from: usize, n: usize, i: usize) -> f64
-    requires { ⌜ Ready binary64 n (now s) from ⌝ }
+fn f64_at(s: &[u8], from: usize, n: usize, i: usize) -> f64
+    requires { ⌜ Ready binary64 binary64 n (now s) from ⌝ }
     requires { ⌜ i < n ⌝ }
-    ensures { λ r. ⌜ r ≡ at (numbers binary64 n (drop from (now (s .entry)))) i ⌝ }
+    ensures { λ r. ⌜ r ≡ at (numbers binary64 binary64 n (drop from (now (s .entry)))) i ⌝ }
 {
     f64::from_bits(u64_at(s, from + 8 * i))
 }
 
-// All of them, into a room that they fill.
-pub fn fill_f32s(s: &[u8], from: usize, out: &mut [f32])
-    requires { ⌜ Ready binary32 (length (now out)) (now s) from ⌝ }
-    ensures { λ _. ⌜ now (out .exit) ≡ numbers binary32 (length (now (out .entry))) (drop from (now (s .entry))) ⌝ }
+fn narrowed_at(s: &[u8], from: usize, n: usize, i: usize) -> f32
+    requires { ⌜ Ready binary32 binary64 n (now s) from ⌝ }
+    requires { ⌜ i < n ⌝ }
+    ensures { λ r. ⌜ r ≡ at (numbers binary32 binary64 n (drop from (now (s .entry)))) i ⌝ }
 {
-    let n = out.len();
-    let mut i = 0;
-    while i < n {
-        out[i] = f32_at(s, from, n, i);
-        i += 1;
+    floats::narrow(f64::from_bits(u64_at(s, from + 8 * i)))
+}
+
+// As a table of f32 keeps it.
+pub fn single_at(s: &[u8], from: usize, double: bool, n: usize, i: usize) -> f32
+    requires { ⌜ Ready binary32 (width double) n (now s) from ⌝ }
+    requires { ⌜ i < n ⌝ }
+    ensures { λ r. ⌜ r ≡ at (numbers binary32 (width double) n (drop from (now (s .entry)))) i ⌝ }
+{
+    if double {
+        narrowed_at(s, from, n, i)
+    } else {
+        f32_at(s, from, n, i)
     }
 }
 
-pub fn fill_f64s(s: &[u8], from: usize, out: &mut [f64])
-    requires { ⌜ Ready binary64 (length (now out)) (now s) from ⌝ }
-    ensures { λ _. ⌜ now (out .exit) ≡ numbers binary64 (length (now (out .entry))) (drop from (now (s .entry))) ⌝ }
+// All of them, into a room of f64 that they fill.
+fn fill_f64s(s: &[u8], from: usize, out: &mut [f64])
+    requires { ⌜ Ready binary64 binary64 (length (now out)) (now s) from ⌝ }
+    ensures { λ _. ⌜ now (out .exit) ≡ numbers binary64 binary64 (length (now (out .entry))) (drop from (now (s .entry))) ⌝ }
 {
     let n = out.len();
     let mut i = 0;
@@ -468,49 +588,84 @@ pub fn fill_f64s(s: &[u8], from: usize, out: &mut [f64])
     }
 }
 
+fn fill_f32s(s: &[u8], from: usize, out: &mut [f64])
+    requires { ⌜ Ready binary64 binary32 (length (now out)) (now s) from ⌝ }
+    ensures { λ _. ⌜ now (out .exit) ≡ numbers binary64 binary32 (length (now (out .entry))) (drop from (now (s .entry))) ⌝ }
+{
+    let n = out.len();
+    let mut i = 0;
+    while i < n {
+        out[i] = std::num::f32_to_f64_with_nan(f32_at(s, from, n, i));
+        i += 1;
+    }
+}
+
+pub fn fill_doubles(s: &[u8], from: usize, double: bool, out: &mut [f64])
+    requires { ⌜ Ready binary64 (width double) (length (now out)) (now s) from ⌝ }
+    ensures { λ _. ⌜ now (out .exit) ≡ numbers binary64 (width double) (length (now (out .entry))) (drop from (now (s .entry))) ⌝ }
+{
+    if double {
+        fill_f64s(s, from, out);
+    } else {
+        fill_f32s(s, from, out);
+    }
+}
+
 // ---- blocks
 
-// A vector of at most `most` numbers.
+// A vector of at most `most` numbers, for a table of f32.
 pub fn check_float_vec(s: &[u8], at: usize, positive: bool, most: usize) -> Vector
     ensures { λ r. ⌜ vectorOf binary32 (now (s .entry)) r ≡ vector binary32 positive most (now (s .entry)) at ⌝ }
     ensures { λ r. ⌜ vectorIn binary32 most (now (s .entry)) r ⌝ }
 {
-    match tagged_dim(s, at, b"FV", 1, most) {
-        Dim::Refused(e) => Vector::Refused(e),
-        Dim::Is { n, next: from } => match check_f32s(s, from, n, positive) {
+    match tagged_dim(s, at, b"FV", b"DV", 1, most) {
+        Tagged::Refused(e) => Vector::Refused(e),
+        Tagged::Is {
+            n,
+            double,
+            next: from,
+        } => match check_floats(s, from, n, false, double, positive) {
             Next::Refused(e) => Vector::Refused(e),
-            Next::At(next) => Vector::Is { len: n, from, next },
+            Next::At(next) => Vector::Is {
+                len: n,
+                double,
+                from,
+                next,
+            },
         },
     }
 }
 
-// A matrix at either width, row after row.
+// A matrix, row after row, for a table of either width.
 fn check_matrix(
     s: &[u8],
     at: usize,
-    tag: &[u8],
-    double: bool,
+    wide: bool,
     positive: bool,
     most_rows: usize,
     most_cols: usize,
 ) -> Matrix
-    requires { ⌜ now tag ≡ matrixTag (width double) ⌝ }
     requires { ⌜ («most_rows» ≤ 1000000) × («most_cols» ≤ 1000000) ⌝ }
-    ensures { λ r. ⌜ matrixOf (width double) (now (s .entry)) r ≡ matrix (width double) positive «most_rows» «most_cols» (now (s .entry)) at ⌝ }
-    ensures { λ r. ⌜ matrixIn (width double) «most_rows» «most_cols» (now (s .entry)) r ⌝ }
+    ensures { λ r. ⌜ matrixOf (width wide) (now (s .entry)) r ≡ matrix (width wide) positive «most_rows» «most_cols» (now (s .entry)) at ⌝ }
+    ensures { λ r. ⌜ matrixIn (width wide) «most_rows» «most_cols» (now (s .entry)) r ⌝ }
 {
-    match tagged_dim(s, at, tag, 1, most_rows) {
-        Dim::Refused(e) => Matrix::Refused(e),
-        Dim::Is { n: rows, next: q } => match read_dim(s, q, 1, most_cols) {
+    match tagged_dim(s, at, b"FM", b"DM", 1, most_rows) {
+        Tagged::Refused(e) => Matrix::Refused(e),
+        Tagged::Is {
+            n: rows,
+            double,
+            next: q,
+        } => match read_dim(s, q, 1, most_cols) {
             Dim::Refused(e) => Matrix::Refused(e),
             Dim::Is {
                 n: cols,
                 next: from,
-            } => match check_floats(s, from, rows * cols, double, positive) {
+            } => match check_floats(s, from, rows * cols, wide, double, positive) {
                 Next::Refused(e) => Matrix::Refused(e),
                 Next::At(next) => Matrix::Is {
                     rows,
                     cols,
+                    double,
                     from,
                     next,
                 },
@@ -530,7 +685,7 @@ pub fn check_float_matrix(
     ensures { λ r. ⌜ matrixOf binary32 (now (s .entry)) r ≡ matrix binary32 positive «most_rows» «most_cols» (now (s .entry)) at ⌝ }
     ensures { λ r. ⌜ matrixIn binary32 «most_rows» «most_cols» (now (s .entry)) r ⌝ }
 {
-    check_matrix(s, at, b"FM", false, positive, most_rows, most_cols)
+    check_matrix(s, at, false, positive, most_rows, most_cols)
 }
 
 pub fn check_double_matrix(
@@ -544,31 +699,43 @@ pub fn check_double_matrix(
     ensures { λ r. ⌜ matrixOf binary64 (now (s .entry)) r ≡ matrix binary64 positive «most_rows» «most_cols» (now (s .entry)) at ⌝ }
     ensures { λ r. ⌜ matrixIn binary64 «most_rows» «most_cols» (now (s .entry)) r ⌝ }
 {
-    check_matrix(s, at, b"DM", true, positive, most_rows, most_cols)
+    check_matrix(s, at, true, positive, most_rows, most_cols)
 }
 
-// A symmetric matrix: its lower triangle, row after row.
+// A symmetric matrix for a table of f64: its lower triangle, row after row.
 pub fn check_packed_double(s: &[u8], at: usize) -> Packed
     ensures { λ r. ⌜ packedOf (now (s .entry)) r ≡ packedMatrix (now (s .entry)) at ⌝ }
     ensures { λ r. ⌜ packedIn (now (s .entry)) r ⌝ }
 {
-    match tagged_dim(s, at, b"DP", 1, MAX_FEAT) {
-        Dim::Refused(e) => Packed::Refused(e),
-        Dim::Is { n, next: from } => match check_f64s(s, from, n * (n + 1) / 2, false) {
+    match tagged_dim(s, at, b"FP", b"DP", 1, MAX_FEAT) {
+        Tagged::Refused(e) => Packed::Refused(e),
+        Tagged::Is {
+            n,
+            double,
+            next: from,
+        } => match check_floats(s, from, n * (n + 1) / 2, true, double, false) {
             Next::Refused(e) => Packed::Refused(e),
-            Next::At(next) => Packed::Is { dim: n, from, next },
+            Next::At(next) => Packed::Is {
+                dim: n,
+                double,
+                from,
+                next,
+            },
         },
     }
 }
 
 // A vector that is not kept: skipped by its length.
-fn skip_vec(s: &[u8], at: usize, tag: &[u8], double: bool) -> Next
-    requires { ⌜ now tag ≡ vectorTag (width double) ⌝ }
-    ensures { λ r. ⌜ nextOf r ≡ skipped (width double) (now (s .entry)) at ⌝ }
+pub fn skip_vec(s: &[u8], at: usize) -> Next
+    ensures { λ r. ⌜ nextOf r ≡ skipped (now (s .entry)) at ⌝ }
 {
-    match tagged_dim(s, at, tag, 0, MAX_SKIPPED) {
-        Dim::Refused(e) => Next::Refused(e),
-        Dim::Is { n, next: from } => {
+    match tagged_dim(s, at, b"FV", b"DV", 0, MAX_SKIPPED) {
+        Tagged::Refused(e) => Next::Refused(e),
+        Tagged::Is {
+            n,
+            double,
+            next: from,
+        } => {
             let len = n * float_size(double);
             if left(s, from) < len {
                 Next::Refused(2)
@@ -577,16 +744,4 @@ fn skip_vec(s: &[u8], at: usize, tag: &[u8], double: bool) -> Next
             }
         }
     }
-}
-
-pub fn skip_float_vec(s: &[u8], at: usize) -> Next
-    ensures { λ r. ⌜ nextOf r ≡ skipped binary32 (now (s .entry)) at ⌝ }
-{
-    skip_vec(s, at, b"FV", false)
-}
-
-pub fn skip_double_vec(s: &[u8], at: usize) -> Next
-    ensures { λ r. ⌜ nextOf r ≡ skipped binary64 (now (s .entry)) at ⌝ }
-{
-    skip_vec(s, at, b"DV", true)
 }

@@ -113,8 +113,11 @@ fn dimensions(gmm: &[u8], extractor: &[u8], lda: &[u8], cmvn: &[u8]) -> Dimensio
         num_gauss,
         dim,
         weights: _,
+        weights_double: _,
         means_invvars: _,
+        means_double: _,
         inv_vars: _,
+        vars_double: _,
         next: _,
     } = kaldi_files::check_gmm(gmm)
     else {
@@ -135,6 +138,7 @@ fn dimensions(gmm: &[u8], extractor: &[u8], lda: &[u8], cmvn: &[u8]) -> Dimensio
     let Matrix::Is {
         rows: _,
         cols,
+        double: _,
         from: _,
         next: _,
     } = kaldi_files::check_lda(lda)

@@ -34,7 +34,9 @@ abbrev start-of : tie.After-num-gauss → tie.Start
 start-of c = c .before .before .before .before .before .before .before
 
 abbrev gmm-of : tie.After-num-gauss → Gmm
-gmm-of c = let g = c .num-gauss .given .0 in G.Is (g .0) (g .1 .0) (g .1 .1 .0) (g .1 .1 .1 .0) (g .1 .1 .1 .1 .0) (g .1 .1 .1 .1 .1 .0)
+gmm-of c =
+    let g = c .num-gauss .given .0 in
+    G.Is (g .0) (g .1 .0) (g .1 .1 .0) (g .1 .1 .1 .0) (g .1 .1 .1 .1 .0) (g .1 .1 .1 .1 .1 .0) (g .1 .1 .1 .1 .1 .1 .0) (g .1 .1 .1 .1 .1 .1 .1 .0) (g .1 .1 .1 .1 .1 .1 .1 .1 .0)
 
 the-gmm : (c : tie.After-num-gauss) → gmm (start-of c .args .gmm .now) 0 ≡ gmmOf (start-of c .args .gmm .now) (gmm-of c)
 the-gmm c = told (gmmOf (start-of c .args .gmm .now)) (c .before .before .check-gmm .ensures .0) (c .num-gauss .given .1)
@@ -59,7 +61,7 @@ abbrev lda-bytes : tie.After-lda-rows → List ℕ
 lda-bytes c = start-of (first-of (second-of c)) .args .lda .now
 
 abbrev lda-of : tie.After-lda-rows → Matrix
-lda-of c = let l = c .lda-rows .given .0 in M.Is (l .0) (l .1 .0) (l .1 .1 .0) (l .1 .1 .1 .0)
+lda-of c = let l = c .lda-rows .given .0 in M.Is (l .0) (l .1 .0) (l .1 .1 .0) (l .1 .1 .1 .0) (l .1 .1 .1 .1 .0)
 
 the-lda : (c : tie.After-lda-rows) → lda (lda-bytes c) 0 ≡ matrixOf binary32 (lda-bytes c) (lda-of c)
 the-lda c = told (matrixOf binary32 (lda-bytes c)) (c .before .before .check-lda .ensures .0) (c .lda-rows .given .1)
@@ -72,8 +74,8 @@ row-in c = subst (cmvnIn (start-of (first-of (second-of (third-of c))) .args .cm
 
 -- ---- the answers
 
-sub-t35 : tie.Need-sub-t35
-sub-t35 c = omega (arith, row-in (c .before) .low)
+sub-t39 : tie.Need-sub-t39
+sub-t39 c = omega (arith, row-in (c .before) .low)
 
 returns : tie.Need-returns
 returns c =
@@ -124,5 +126,5 @@ pub check-files-spec : {M : Type 1} → statement M
 check-files-spec =
     tie.close
     (tie.spec (λ c κs. search needs) (λ c. search needs) (λ c. search needs) (λ c κs. search needs) (λ c. search needs) (λ c. search needs)
-    (λ c κs. search needs) (λ c. search needs) (λ c. search needs) (λ c κs. search needs) (λ c. search needs) (λ c. search needs) sub-t35 returns
+    (λ c κs. search needs) (λ c. search needs) (λ c. search needs) (λ c κs. search needs) (λ c. search needs) (λ c. search needs) sub-t39 returns
     returns-2 returns-3 returns-4 returns-5)

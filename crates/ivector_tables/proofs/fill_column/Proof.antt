@@ -11,16 +11,17 @@ use Rattle.loops.proofs.Fill.{fill-none, fill-turn, fill-end, fill-whole}
 use Rattle.loops.proofs.Cells.{row-in, cell-below}
 use Rattle.floats.specs.Operators.{at}
 use Rattle.definition.specs.Reader.{numbers}
+use Rattle.kaldi_io.specs.Answers.{width}
 use Rattle.ivector_tables.proofs.Gmm.{few}
 use Rattle.ivector_tables.proofs.fill_column.Statement.{statement}
 use Rattle.ivector_tables.proofs.fill_column.Tie as tie
 
 abbrev Inv-loop : tie.InvT-loop
-Inv-loop s from rows cols c out₀ n r₀ out r =
-    (r ≤ rows) × (length out ≡ length out₀) × (out ≡ fill r (λ r. at (numbers binary32 (rows * cols) (drop from s)) (r * cols + c)) out₀)
+Inv-loop s from double rows cols c out₀ n r₀ out r =
+    (r ≤ rows) × (length out ≡ length out₀) × (out ≡ fill r (λ r. at (numbers binary32 (width double) (rows * cols) (drop from s)) (r * cols + c)) out₀)
 
 abbrev μ-loop : tie.MeasureT-loop
-μ-loop s from rows cols c out₀ n r₀ out r = rows - r
+μ-loop s from double rows cols c out₀ n r₀ out r = rows - r
 
 abbrev start-of : tie.At-loop Inv-loop μ-loop → tie.Start Inv-loop μ-loop
 start-of c = c .before .before .before
@@ -35,22 +36,22 @@ mul-n c =
 loop-holds : tie.Need-loop-holds Inv-loop μ-loop
 loop-holds c = (omega arith, refl, fill-none _ _)
 
-mul-f32-at : tie.Need-mul-f32-at Inv-loop μ-loop
-mul-f32-at c =
+mul-single-at : tie.Need-mul-single-at Inv-loop μ-loop
+mul-single-at c =
     let start = start-of (c .before) in
     let args = start .args in
     let pre = start .pre in
     omega (arith, few (args .rows) (args .cols) (pre .1 .0) (pre .1 .1), row-in ((c .before .loop) .r) (args .rows) (args .cols) ((args .rows) * (args .cols)) (omega arith) ((c .loop-test) .taken))
 
-add-f32-at : tie.Need-add-f32-at Inv-loop μ-loop
-add-f32-at c =
+add-single-at : tie.Need-add-single-at Inv-loop μ-loop
+add-single-at c =
     let start = start-of (c .before) in
     let args = start .args in
     let pre = start .pre in
     omega (arith, few (args .rows) (args .cols) (pre .1 .0) (pre .1 .1), cell-below ((c .before .loop) .r) (args .c) (args .rows) (args .cols) ((c .loop-test) .taken) (pre .1 .2))
 
-f32-at-requires : tie.Need-f32-at-requires Inv-loop μ-loop
-f32-at-requires c κs =
+single-at-requires : tie.Need-single-at-requires Inv-loop μ-loop
+single-at-requires c κs =
     let start = start-of (c .before) in
     let pre = start .pre in
     let args = start .args in
@@ -68,7 +69,7 @@ loop-again c =
     let loop-test = c .before .loop-test in
     let loop = c .before .before .loop in
     let pre = start .pre in
-    (omega (arith, (loop-test .taken)), simp length-set (loop .inv .1), fill-turn _ _ _ (omega (arith, (pre .1 .3), (loop-test .taken))) (loop .inv .2) ((c .f32-at) .ensures))
+    (omega (arith, (loop-test .taken)), simp length-set (loop .inv .1), fill-turn _ _ _ (omega (arith, (pre .1 .3), (loop-test .taken))) (loop .inv .2) ((c .single-at) .ensures))
 
 returns : tie.Need-returns Inv-loop μ-loop
 returns c =
@@ -80,5 +81,5 @@ returns c =
 pub fill-column-spec : {M : Type 1} → statement M
 fill-column-spec =
     tie.close
-    (tie.spec Inv-loop μ-loop mul-n loop-holds mul-f32-at add-f32-at f32-at-requires (λ c. search needs) slice-write-out (λ c. search needs)
+    (tie.spec Inv-loop μ-loop mul-n loop-holds mul-single-at add-single-at single-at-requires (λ c. search needs) slice-write-out (λ c. search needs)
     (λ c. search needs) loop-again (λ c. search needs) returns)

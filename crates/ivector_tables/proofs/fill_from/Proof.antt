@@ -18,7 +18,7 @@ fill-tables-requires c κs =
     let start = at-read-gaussian .before .before .before .before .before .before in
     let pre = start .pre in
     let read-gaussian = at-read-gaussian .read-gaussian in
-    ((pre .1 .1 .0), (pre .1 .1 .1), omega (arith, (read-gaussian .kept .1 .1 .1 .1 .1 .0), (pre .1 .1 .2)), (pre .1 .1 .3), (pre .1 .1 .4))
+    ((pre .1 .1 .0), (pre .1 .1 .1), omega (arith, (read-gaussian .kept .1 .1 .1 .1 .1 .1 .1 .0), (pre .1 .1 .2)), (pre .1 .1 .3), (pre .1 .1 .4))
 
 returns : tie.Need-returns
 returns c =

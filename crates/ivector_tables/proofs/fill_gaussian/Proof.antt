@@ -12,7 +12,7 @@ use Rattle.kaldi_io.specs.declared.Matrix.{Matrix}
 use Rattle.kaldi_io.specs.declared.Matrix.the-variants as M
 use Rattle.kaldi_io.specs.declared.Packed.{Packed}
 use Rattle.kaldi_io.specs.declared.Packed.the-variants as P
-use Rattle.kaldi_io.specs.Answers.{matrixOf, matrixIn, packedOf, packedIn}
+use Rattle.kaldi_io.specs.Answers.{width, matrixOf, matrixIn, packedOf, packedIn}
 use Rattle.kaldi_io.proofs.Chain.{told}
 use Rattle.ivector_tables.proofs.Rows.{sigma-by, quadratic-by}
 use Rattle.ivector_tables.proofs.Again.{m-there, m-ready, m-nums, m-after, sigma-there, sigma-ready, sigma-nums, sigma-after}
@@ -20,26 +20,26 @@ use Rattle.ivector_tables.proofs.fill_gaussian.Statement.{statement}
 use Rattle.ivector_tables.proofs.fill_gaussian.Tie as tie
 
 -- the block M, and the block Σ⁻¹, as the checks found them
-abbrev start-of : tie.After-a → tie.Start
+abbrev start-of : tie.After-m-double → tie.Start
 start-of c = c .before .before .before .before .before .before .before
 
-abbrev bytes : tie.After-a → List ℕ
+abbrev bytes : tie.After-m-double → List ℕ
 bytes c = start-of c .args .s .now
 
-abbrev block : tie.After-a → Matrix
-block c = let x = c .a .given .0 in M.Is (x .0) (x .1 .0) (x .1 .1 .0) (x .1 .1 .1 .0)
+abbrev block : tie.After-m-double → Matrix
+block c = let x = c .m-double .given .0 in M.Is (x .0) (x .1 .0) (x .1 .1 .0) (x .1 .1 .1 .0) (x .1 .1 .1 .1 .0)
 
-m-told : (c : tie.After-a) → matrix binary64 false maxFeat maxIvector (bytes c) (start-of c .args .at .m) ≡ matrixOf binary64 (bytes c) (block c)
-m-told c = told (matrixOf binary64 (bytes c)) (c .before .before .check-double-matrix .ensures .0) (c .a .given .1)
+m-told : (c : tie.After-m-double) → matrix binary64 false maxFeat maxIvector (bytes c) (start-of c .args .at .m) ≡ matrixOf binary64 (bytes c) (block c)
+m-told c = told (matrixOf binary64 (bytes c)) (c .before .before .check-double-matrix .ensures .0) (c .m-double .given .1)
 
-abbrev m-of : tie.After-b → tie.After-a
+abbrev m-of : tie.After-sigma-double → tie.After-m-double
 m-of c = c .before .before .before .before
 
-abbrev block′ : tie.After-b → Packed
-block′ c = let y = c .b .given .0 in P.Is (y .0) (y .1 .0) (y .1 .1 .0)
+abbrev block′ : tie.After-sigma-double → Packed
+block′ c = let y = c .sigma-double .given .0 in P.Is (y .0) (y .1 .0) (y .1 .1 .0) (y .1 .1 .1 .0)
 
-sigma-told : (c : tie.After-b) → packedMatrix (bytes (m-of c)) (start-of (m-of c) .args .at .«sigma_inv») ≡ packedOf (bytes (m-of c)) (block′ c)
-sigma-told c = told (packedOf (bytes (m-of c))) (c .before .before .check-packed-double .ensures .0) (c .b .given .1)
+sigma-told : (c : tie.After-sigma-double) → packedMatrix (bytes (m-of c)) (start-of (m-of c) .args .at .«sigma_inv») ≡ packedOf (bytes (m-of c)) (block′ c)
+sigma-told c = told (packedOf (bytes (m-of c))) (c .before .before .check-packed-double .ensures .0) (c .sigma-double .given .1)
 
 -- ---- the answers
 
@@ -48,12 +48,12 @@ fill-from-requires c κs =
     let v = c .before .before .before .before in
     let m = m-of v in
     let pre = start-of m .pre in
-    let x = m .a .given .0 in
-    let y = v .b .given .0 in
-    let m-in = subst (matrixIn binary64 maxFeat maxIvector (bytes m)) (m .a .given .1) (m .before .before .check-double-matrix .ensures .1) in
-    let v-in = subst (packedIn (bytes m)) (v .b .given .1) (v .before .before .check-packed-double .ensures .1) in (
-      m-ready (pre .0) (x .0) (x .1 .0) (x .1 .1 .0) (x .1 .1 .1 .0) (m-told m) m-in,
-      (sigma-ready (pre .1 .0) (y .0) (y .1 .0) (y .1 .1 .0) (sigma-told v) v-in, pre .1 .1),
+    let x = m .m-double .given .0 in
+    let y = v .sigma-double .given .0 in
+    let m-in = subst (matrixIn binary64 maxFeat maxIvector (bytes m)) (m .m-double .given .1) (m .before .before .check-double-matrix .ensures .1) in
+    let v-in = subst (packedIn (bytes m)) (v .sigma-double .given .1) (v .before .before .check-packed-double .ensures .1) in (
+      m-ready (pre .0) (x .0) (x .1 .0) (width (x .1 .1 .0)) (x .1 .1 .1 .0) (x .1 .1 .1 .1 .0) (m-told m) m-in,
+      (sigma-ready (pre .1 .0) (y .0) (width (y .1 .0)) (y .1 .1 .0) (y .1 .1 .1 .0) (sigma-told v) v-in, pre .1 .1),
     )
 
 returns : tie.Need-returns
@@ -75,13 +75,13 @@ returns-3 c =
     let m = m-of v in
     let a = start-of m .args in
     let pre = start-of m .pre in
-    let x = m .a .given .0 in
-    let y = v .b .given .0 in
-    let ms = m-nums (pre .0) (x .0) (x .1 .0) (x .1 .1 .0) (x .1 .1 .1 .0) (m-told m) in
-    let vs = sigma-nums (pre .1 .0) (y .0) (y .1 .0) (y .1 .1 .0) (sigma-told v) in (
+    let x = m .m-double .given .0 in
+    let y = v .sigma-double .given .0 in
+    let ms = m-nums (pre .0) (x .0) (x .1 .0) (width (x .1 .1 .0)) (x .1 .1 .1 .0) (x .1 .1 .1 .1 .0) (m-told m) in
+    let vs = sigma-nums (pre .1 .0) (y .0) (width (y .1 .0)) (y .1 .1 .0) (y .1 .1 .1 .0) (sigma-told v) in (
       (
-        m-after (pre .0) (x .0) (x .1 .0) (x .1 .1 .0) (x .1 .1 .1 .0) (m-told m),
-        sigma-after (pre .1 .0) (y .0) (y .1 .0) (y .1 .1 .0) (sigma-told v),
+        m-after (pre .0) (x .0) (x .1 .0) (width (x .1 .1 .0)) (x .1 .1 .1 .0) (x .1 .1 .1 .1 .0) (m-told m),
+        sigma-after (pre .1 .0) (y .0) (width (y .1 .0)) (y .1 .1 .0) (y .1 .1 .1 .0) (sigma-told v),
       ),
       (sigma-by (a .d) (a .n) (at .fill-from .ensures .0) vs ms, quadratic-by (a .d) (a .n) (at .fill-from .ensures .1) vs ms),
     )

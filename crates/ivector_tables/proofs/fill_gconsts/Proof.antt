@@ -13,11 +13,11 @@ use Rattle.ivector_tables.proofs.fill_gconsts.Statement.{statement}
 use Rattle.ivector_tables.proofs.fill_gconsts.Tie as tie
 
 abbrev Inv-loop : tie.InvT-loop
-Inv-loop s gauss d weights means vars out₀ offset g₀ out g =
-    (g ≤ gauss) × (length out ≡ length out₀) × (out ≡ fill g (gconst (gmmAt s gauss d weights means vars)) out₀)
+Inv-loop s gauss d weights wd means md vars vd out₀ offset g₀ out g =
+    (g ≤ gauss) × (length out ≡ length out₀) × (out ≡ fill g (gconst (gmmAt s gauss d weights wd means md vars vd)) out₀)
 
 abbrev μ-loop : tie.MeasureT-loop
-μ-loop s gauss d weights means vars out₀ offset g₀ out g = gauss - g
+μ-loop s gauss d weights wd means md vars vd out₀ offset g₀ out g = gauss - g
 
 abbrev start-of : tie.At-loop Inv-loop μ-loop → tie.Start Inv-loop μ-loop
 start-of c = c .before .before .before .before

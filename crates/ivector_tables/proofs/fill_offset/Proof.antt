@@ -13,11 +13,11 @@ use Rattle.ivector_tables.proofs.fill_offset.Statement.{statement}
 use Rattle.ivector_tables.proofs.fill_offset.Tie as tie
 
 abbrev Inv-loop : tie.InvT-loop
-Inv-loop s from rows cols spliced out₀ r₀ out r =
-    (r ≤ rows) × (length out ≡ length out₀) × (out ≡ fill r (ldaOffset spliced (floatMatrix s rows cols from)) out₀)
+Inv-loop s from double rows cols spliced out₀ r₀ out r =
+    (r ≤ rows) × (length out ≡ length out₀) × (out ≡ fill r (ldaOffset spliced (floatMatrix s rows cols from double)) out₀)
 
 abbrev μ-loop : tie.MeasureT-loop
-μ-loop s from rows cols spliced out₀ r₀ out r = rows - r
+μ-loop s from double rows cols spliced out₀ r₀ out r = rows - r
 
 loop-holds : tie.Need-loop-holds Inv-loop μ-loop
 loop-holds c = (omega arith, refl, fill-none _ _)

@@ -14,23 +14,24 @@ use Rattle.loops.proofs.Cells.{row-in}
 use Rattle.loops.proofs.Parts.{length-lent}
 use Rattle.floats.specs.Operators.{at}
 use Rattle.definition.specs.Reader.{numbers}
+use Rattle.kaldi_io.specs.Answers.{width}
 use Rattle.ivector_tables.specs.Steps.{floatMatrix}
 use Rattle.ivector_tables.proofs.Rows.{transposed-whole}
 use Rattle.ivector_tables.proofs.fill_transposed.Statement.{statement}
 use Rattle.ivector_tables.proofs.fill_transposed.Tie as tie
 
 abbrev Inv-loop : tie.InvT-loop
-Inv-loop s from rows cols kept out₀ c₀ out c =
-    (c ≤ kept) × (length out ≡ length out₀) × (out ≡ over (flat c (λ c. build rows (λ r. at (numbers binary32 (rows * cols) (drop from s)) (r * cols + c)))) out₀)
+Inv-loop s from double rows cols kept out₀ c₀ out c =
+    (c ≤ kept) × (length out ≡ length out₀) × (out ≡ over (flat c (λ c. build rows (λ r. at (numbers binary32 (width double) (rows * cols) (drop from s)) (r * cols + c)))) out₀)
 
 abbrev μ-loop : tie.MeasureT-loop
-μ-loop s from rows cols kept out₀ c₀ out c = kept - c
+μ-loop s from double rows cols kept out₀ c₀ out c = kept - c
 
 abbrev start-of : tie.At-loop Inv-loop μ-loop → tie.Start Inv-loop μ-loop
 start-of c = c .before .before .before
 
 abbrev column : tie.Start Inv-loop μ-loop → ℕ → List Float
-column c k = let a = c .args in build (a .rows) (λ r. at (numbers binary32 (a .rows * a .cols) (drop (a .from) (a .s .now))) (r * a .cols + k))
+column c k = let a = c .args in build (a .rows) (λ r. at (numbers binary32 (width (a .double)) (a .rows * a .cols) (drop (a .from) (a .s .now))) (r * a .cols + k))
 
 -- column c lies in the room as a row, and the part that is lent is as long as it
 inside : (c : tie.In-loop Inv-loop μ-loop) →
@@ -78,9 +79,9 @@ loop-again c =
     let rows = start .args .rows in
     let from = loop .c * rows in
     let call = c .before .before .fill-column in
-    let long = call .kept .1 .1 .1 .1 .1 .0 in (
+    let long = call .kept .1 .1 .1 .1 .1 .1 .0 in (
       omega (arith, at .loop-test .taken),
-      same-len-mid from (from + rows - from) (loop .out) (call .last .1 .1 .1 .1 .1 .0) long ∙ loop .inv .1,
+      same-len-mid from (from + rows - from) (loop .out) (call .last .1 .1 .1 .1 .1 .1 .0) long ∙ loop .inv .1,
       rows-turn (column start) (loop .c) _ {k = from + rows - from} (length-cells (loop .c) rows _) (loop .inv .2) (call .ensures) (long ∙ lent at ∙ omega arith),
     )
 
@@ -90,7 +91,7 @@ returns c =
     let a = start .args in
     let loop = c .before .loop in
     rows-end (column start) (loop .c) _ _ (loop .inv .0) (c .loop-test .left) (loop .inv .2)
-    ∙ transposed-whole (a .kept) (floatMatrix (a .s .now) (a .rows) (a .cols) (a .from)) _
+    ∙ transposed-whole (a .kept) (floatMatrix (a .s .now) (a .rows) (a .cols) (a .from) (a .double)) _
 
 pub fill-transposed-spec : {M : Type 1} → statement M
 fill-transposed-spec =

@@ -11,7 +11,7 @@ use lib.Ieee.{binary32}
 use Rattle.definition.specs.Options.{maxGauss}
 use Rattle.definition.specs.Reader.{read, refused, numbers, text}
 use Rattle.definition.specs.Kaldi.{vector, weightsHeading, gmm}
-use Rattle.kaldi_io.specs.Answers.{nextOf, vectorOf, vectorIn, matrixOf, matrixIn}
+use Rattle.kaldi_io.specs.Answers.{width, nextOf, vectorOf, vectorIn, matrixOf, matrixIn}
 use Rattle.kaldi_io.specs.declared.Vector.{Vector}
 use Rattle.kaldi_io.specs.declared.Vector.the-variants as L
 use Rattle.kaldi_io.specs.declared.Matrix.{Matrix}
@@ -53,7 +53,7 @@ abbrev bytes : tie.After-len → List ℕ
 bytes c = bytes-of (opening-of (heading-of c))
 
 abbrev vec : tie.After-len → Vector
-vec c = let v = c .len .given .0 in L.Is (v .0) (v .1 .0) (v .1 .1 .0)
+vec c = let v = c .len .given .0 in L.Is (v .0) (v .1 .0) (v .1 .1 .0) (v .1 .1 .1 .0)
 
 weights : (c : tie.After-len) → vector binary32 true maxGauss (bytes c) (second (heading-of c)) ≡ vectorOf binary32 (bytes c) (vec c)
 weights c = told (vectorOf binary32 (bytes c)) (c .before .before .check-float-vec .ensures .0) (c .len .given .1)
@@ -63,9 +63,9 @@ abbrev weights-of : tie.After-rows → tie.After-len
 weights-of c = c .before .before .before .before .before
 
 abbrev one : tie.After-rows → Matrix
-one c = let m = c .rows .given .0 in M.Is (m .0) (m .1 .0) (m .1 .1 .0) (m .1 .1 .1 .0)
+one c = let m = c .rows .given .0 in M.Is (m .0) (m .1 .0) (m .1 .1 .0) (m .1 .1 .1 .0) (m .1 .1 .1 .1 .0)
 
-means : (c : tie.After-rows) → headed (text "<MEANS_INVVARS>") false (bytes (weights-of c)) (weights-of c .len .given .0 .1 .1 .0) ≡ matrixOf binary32 (bytes (weights-of c)) (one c)
+means : (c : tie.After-rows) → headed (text "<MEANS_INVVARS>") false (bytes (weights-of c)) (weights-of c .len .given .0 .1 .1 .1 .0) ≡ matrixOf binary32 (bytes (weights-of c)) (one c)
 means c = told (matrixOf binary32 (bytes (weights-of c))) (c .before .before .check-headed .ensures .0) (c .rows .given .1)
 
 abbrev means-of : tie.After-rows2 → tie.After-rows
@@ -75,9 +75,9 @@ abbrev bytes′ : tie.After-rows2 → List ℕ
 bytes′ c = bytes (weights-of (means-of c))
 
 abbrev two : tie.After-rows2 → Matrix
-two c = let m = c .rows2 .given .0 in M.Is (m .0) (m .1 .0) (m .1 .1 .0) (m .1 .1 .1 .0)
+two c = let m = c .rows2 .given .0 in M.Is (m .0) (m .1 .0) (m .1 .1 .0) (m .1 .1 .1 .0) (m .1 .1 .1 .1 .0)
 
-vars : (c : tie.After-rows2) → headed (text "<INV_VARS>") true (bytes′ c) (means-of c .rows .given .0 .1 .1 .1 .0) ≡ matrixOf binary32 (bytes′ c) (two c)
+vars : (c : tie.After-rows2) → headed (text "<INV_VARS>") true (bytes′ c) (means-of c .rows .given .0 .1 .1 .1 .1 .0) ≡ matrixOf binary32 (bytes′ c) (two c)
 vars c = told (matrixOf binary32 (bytes′ c)) (c .before .before .check-headed2 .ensures .0) (c .rows2 .given .1)
 
 -- ---- an item that is refused
@@ -119,7 +119,7 @@ refuses : (c : tie.After-rows2) →
     let w = weights-of (means-of c) in
     let m = means-of c .rows .given .0 in
     let v = c .rows2 .given .0 in
-    let n = length (numbers binary32 (w .len .given .0 .0) (drop (w .len .given .0 .1 .0) (bytes w))) in
+    let n = length (numbers binary32 (width (w .len .given .0 .1 .0)) (w .len .given .0 .0) (drop (w .len .given .0 .1 .1 .0) (bytes w))) in
     (eqb (m .0) (v .0) && (eqb (m .1 .0) (v .1 .0) && eqb n (m .0))) ≡ false → refused 5 ≡ gmm (bytes w) 0
 refuses c t =
     let m = means-of c in
@@ -137,7 +137,7 @@ returns-5 : tie.Need-returns-5
 returns-5 c =
     let at-rows2 = c .before .before .before .before in
     let at = at-rows2 in
-    (refuses at (G.weights-differ _ _ _ _ _ (c .before .before .if1 .left) (c .before .if2 .left) (λ e. c .if3 .taken (sym (numbers-length binary32 _ _) ∙ e))), tt)
+    (refuses at (G.weights-differ _ _ _ _ _ (c .before .before .if1 .left) (c .before .if2 .left) (λ e. c .if3 .taken (sym (numbers-length binary32 _ _ _) ∙ e))), tt)
 
 returns-9 : tie.Need-returns-9
 returns-9 c =
@@ -153,9 +153,9 @@ returns-9 c =
     let x = w .len .given .0 in
     let y = m .rows .given .0 in
     let z = at .rows2 .given .0 in (
-      G.all-read s (opened (opening-of h)) (heading h) (weights w) (means m) (vars at) (G.dims-agree _ _ _ _ _ same-rows same-cols (numbers-length binary32 _ _ ∙ same-len))
-          (G.gmm-is s (x .1 .0) (y .1 .1 .0) (z .1 .1 .0) same-rows same-cols same-len (z .1 .1 .1 .0)),
-      G.gmm-in s _ _ _ same-rows same-cols same-len
+      G.all-read s (opened (opening-of h)) (heading h) (weights w) (means m) (vars at) (G.dims-agree _ _ _ _ _ same-rows same-cols (numbers-length binary32 _ _ _ ∙ same-len))
+          (G.gmm-is s (x .1 .1 .0) (y .1 .1 .1 .0) (z .1 .1 .1 .0) (x .1 .0) (y .1 .1 .0) (z .1 .1 .0) same-rows same-cols same-len (z .1 .1 .1 .1 .0)),
+      G.gmm-in s (x .1 .1 .0) (y .1 .1 .1 .0) (z .1 .1 .1 .0) (x .1 .0) (y .1 .1 .0) (z .1 .1 .0) same-rows same-cols same-len
           (subst (vectorIn binary32 1024 s) (w .len .given .1) (w .before .before .check-float-vec .ensures .1))
           (subst (matrixIn binary32 1024 64 s) (m .rows .given .1) (m .before .before .check-headed .ensures .1))
           (subst (matrixIn binary32 1024 64 s) (at .rows2 .given .1) (at .before .before .check-headed2 .ensures .1)),

@@ -50,7 +50,7 @@ abbrev count-of : tie.After-rows → tie.After-count
 count-of c = c .before .before .before .before
 
 abbrev block : tie.After-rows → Matrix
-block c = let m = c .rows .given .0 in M.Is (m .0) (m .1 .0) (m .1 .1 .0) (m .1 .1 .1 .0)
+block c = let m = c .rows .given .0 in M.Is (m .0) (m .1 .0) (m .1 .1 .0) (m .1 .1 .1 .0) (m .1 .1 .1 .1 .0)
 
 one : (c : tie.After-rows) → matrix binary64 false maxFeat maxIvector (bytes (count-of c)) (from (count-of c)) ≡ matrixOf binary64 (bytes (count-of c)) (block c)
 one c = told (matrixOf binary64 (bytes (count-of c))) (c .before .before .check-double-matrix .ensures .0) (c .rows .given .1)
@@ -80,7 +80,7 @@ returns-3 c =
     let m = at .before .before in
     let n = count-of m in
     let r = m .rows .given .0 in
-    let none = tally-refused (sizedAs (r .0) (r .1 .0)) true (means (bytes n) (many n - 1) (r .1 .1 .1 .0)) (told runOf (at .check-matrices .ensures) (c .before .e3 .given .1)) in
+    let none = tally-refused (sizedAs (r .0) (r .1 .0)) true (means (bytes n) (many n - 1) (r .1 .1 .1 .1 .0)) (told runOf (at .check-matrices .ensures) (c .before .e3 .given .1)) in
     (past-count n (stops _ _ (rest-refused (matrix binary64 false maxFeat maxIvector) (bytes n) (from n) (many n) (many-in n .0) _ _ (one m) _ none) refl), tt)
 
 -- all of them

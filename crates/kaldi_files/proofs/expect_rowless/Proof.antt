@@ -4,29 +4,33 @@ use mathlib.Core.Path.{_≡_, refl}
 use borrow.Author.Needs.{needs}
 use borrow.Author.Tests.{eq-eqb, ne-eqb}
 use lib.Dec.{eqb}
-use lib.Ieee.{binary64}
-use Rattle.definition.specs.Reader.{Got, after, need}
+use lib.Ieee.{Format}
+use Prim.Native.Nat.{ℕ}
+use Rattle.definition.specs.Reader.{Got, Parser, after, need}
 use Rattle.definition.specs.Kaldi.{matrixTag, dim, rowless}
 use Rattle.kaldi_io.specs.Answers.{dimOf}
 use Rattle.kaldi_io.proofs.Chain.{step, tag-step, met, unmet}
 use Rattle.kaldi_files.proofs.expect_rowless.Statement.{statement}
 use Rattle.kaldi_files.proofs.expect_rowless.Tie as tie
 
--- what is left to show once the rows are read
+-- what the tag and the rows leave to read, whatever the width
+abbrev behind : Format → ℕ → Parser (Unit {0})
+behind w n s p = after (dim 0 1000000 s p) (λ _. need (eqb n 0) 5) s
+
 past-rows : (c : tie.After-rows) {x : Got (Unit {0})} →
-    let a = c .before .before .before .before .before .args in
-    x ≡ after (dim 0 1000000 (a .s .now) (c .rows .given .0 .1 .0)) (λ _. need (eqb (c .rows .given .0 .0) 0) 5) (a .s .now) → x ≡ rowless (a .s .now) (a .at)
+    let a = c .before .before .before .before .before .before .args in
+    x ≡ after (dim 0 1000000 (a .s .now) (c .rows .given .0 .1 .1 .0)) (λ _. need (eqb (c .rows .given .0 .0) 0) 5) (a .s .now) → x ≡ rowless (a .s .now) (a .at)
 unfolding rowless
 past-rows c t =
-    let a = c .before .before .before .before .before .args in
-    tag-step (matrixTag binary64) 0 1000000 _ (a .s .now) (a .at) (c .before .before .tagged-dim .ensures) (c .rows .given .1) t
+    let a = c .before .before .before .before .before .before .args in
+    tag-step matrixTag 0 1000000 behind (a .s .now) (a .at) (c .before .before .tagged-dim .ensures) (c .rows .given .1) t
 
 returns : tie.Need-returns
 unfolding rowless
 returns c =
     let at = c .before .before .before in
-    let a = at .before .before .before .args in
-    tag-step (matrixTag binary64) 0 1000000 _ (a .s .now) (a .at) (at .tagged-dim .ensures) (c .before .e .given .1) refl
+    let a = at .before .before .before .before .args in
+    tag-step matrixTag 0 1000000 behind (a .s .now) (a .at) (at .tagged-dim .ensures) (c .before .e .given .1) refl
 
 returns-2 : tie.Need-returns-2
 returns-2 c = let at = c .before .before .before in past-rows (at .before .before) (step dimOf _ _ (at .read-dim .ensures) (c .before .e2 .given .1) refl)
@@ -46,5 +50,5 @@ returns-4 c =
 pub expect-rowless-spec : {M : Type 1} → statement M
 expect-rowless-spec =
     tie.close
-    (tie.spec (λ c. search needs) (λ c κs. search needs) (λ c. search needs) (λ c. search needs) (λ c κs. search needs) (λ c. search needs)
-    (λ c. search needs) returns returns-2 returns-3 returns-4)
+    (tie.spec (λ c. search needs) (λ c. search needs) (λ c κs. search needs) (λ c. search needs) (λ c. search needs) (λ c κs. search needs)
+    (λ c. search needs) (λ c. search needs) returns returns-2 returns-3 returns-4)

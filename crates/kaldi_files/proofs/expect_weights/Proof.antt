@@ -4,7 +4,6 @@ use mathlib.Core.Path.{_≡_, refl, sym, _∙_, subst}
 use mathlib.Core.List.{List}
 use Prim.Native.Nat.{ℕ, _+_, _≤_}
 use borrow.Author.Needs.{needs}
-use lib.Ieee.{binary32}
 use lib.ListN.{length, take, drop}
 use Rattle.loops.specs.Lists.{if_then_else_}
 use Rattle.definition.specs.Reader.{Got, _>>_, need, same, text}
@@ -26,7 +25,7 @@ inside : (c : tie.After-from) → c .from .given .0 .0 + c .from .given .0 .1 .0
 inside c = subst (wordIn (bytes c)) (c .from .given .1) (c .before .before .read-token .ensures .1)
 
 past-word : (c : tie.After-from) {x : Got (Unit {0})}
-    → x ≡ (if same (word c) (text "<GCONSTS>") then (skipped binary32 >> token (text "<WEIGHTS>")) else need (same (word c) (text "<WEIGHTS>")) 3) (bytes c) (c .from .given .0 .1 .1 .0)
+    → x ≡ (if same (word c) (text "<GCONSTS>") then (skipped >> token (text "<WEIGHTS>")) else need (same (word c) (text "<WEIGHTS>")) 3) (bytes c) (c .from .given .0 .1 .1 .0)
     → x ≡ weightsHeading (bytes c) (c .before .before .before .before .args .at)
 unfolding weightsHeading
 past-word c t = step (wordOf (bytes c)) _ _ (c .before .before .read-token .ensures .0) (c .from .given .1) t
@@ -50,7 +49,7 @@ returns-2 c =
     let at = c .before .before .before in
     let at-same = at .before .before in
     past-word (at-same .before .before .before)
-    (first-one _ _ _ _ (sym (at-same .same-at .ensures) ∙ at .before .if1 .taken) (step nextOf _ _ (at .skip-float-vec .ensures) (c .before .e2 .given .1) refl))
+    (first-one _ _ _ _ (sym (at-same .same-at .ensures) ∙ at .before .if1 .taken) (step nextOf _ _ (at .skip-vec .ensures) (c .before .e2 .given .1) refl))
 
 returns-3 : tie.Need-returns-3
 returns-3 c =
@@ -58,7 +57,7 @@ returns-3 c =
     let at = at-p .before .before in
     let at-same = at .before .before in
     past-word (at-same .before .before .before)
-    (first-one _ _ _ _ (sym (at-same .same-at .ensures) ∙ at .before .if1 .taken) (step nextOf _ _ (at .skip-float-vec .ensures) (at-p .p .given .1) (c .expect-token .ensures)))
+    (first-one _ _ _ _ (sym (at-same .same-at .ensures) ∙ at .before .if1 .taken) (step nextOf _ _ (at .skip-vec .ensures) (at-p .p .given .1) (c .expect-token .ensures)))
 
 -- the second word is asked for
 other : (c : tie.Else1) {x : Got (Unit {0})} →

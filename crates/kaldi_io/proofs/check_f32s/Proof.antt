@@ -1,5 +1,5 @@
 -- `check_f32s` meets its contract. The loop's invariant is `Passed`: the first i numbers are to keep. Its start, its turn and each way out
--- are laws over the format (Numbers.antt), here at four bytes.
+-- are laws over the widths (Numbers.antt), here of f32 that are kept as they are.
 use mathlib.Core.Path.{refl}
 use Prim.Native.Nat.{_-_}
 use native.Mathlib.Omega.{arith}
@@ -10,13 +10,13 @@ use Rattle.kaldi_io.proofs.check_f32s.Statement.{statement}
 use Rattle.kaldi_io.proofs.check_f32s.Tie as tie
 
 abbrev Inv-loop : tie.InvT-loop
-Inv-loop s at n positive i₀ i = Passed binary32 positive n s at i
+Inv-loop s at n positive i₀ i = Passed binary32 binary32 positive n s at i
 
 abbrev μ-loop : tie.MeasureT-loop
 μ-loop s at n positive i₀ i = n - i
 
 returns : tie.Need-returns Inv-loop μ-loop
-returns c = (floats-short binary32 _ _ _ _ (omega arith), tt)
+returns c = (floats-short binary32 binary32 _ _ _ _ (omega arith), tt)
 
 loop-holds : tie.Need-loop-holds Inv-loop μ-loop
 loop-holds c = record { few = search needs; so-far = refl }

@@ -1,4 +1,4 @@
--- `check_f64s` meets its contract: the loop of `check_f32s` at eight bytes, by the same laws over the format (Numbers.antt).
+-- `check_f64s` meets its contract: the loop of `check_f32s` at eight bytes, by the same laws over the widths (Numbers.antt).
 use mathlib.Core.Path.{refl}
 use Prim.Native.Nat.{_-_}
 use native.Mathlib.Omega.{arith}
@@ -9,13 +9,13 @@ use Rattle.kaldi_io.proofs.check_f64s.Statement.{statement}
 use Rattle.kaldi_io.proofs.check_f64s.Tie as tie
 
 abbrev Inv-loop : tie.InvT-loop
-Inv-loop s at n positive i₀ i = Passed binary64 positive n s at i
+Inv-loop s at n positive i₀ i = Passed binary64 binary64 positive n s at i
 
 abbrev μ-loop : tie.MeasureT-loop
 μ-loop s at n positive i₀ i = n - i
 
 returns : tie.Need-returns Inv-loop μ-loop
-returns c = (floats-short binary64 _ _ _ _ (omega arith), tt)
+returns c = (floats-short binary64 binary64 _ _ _ _ (omega arith), tt)
 
 loop-holds : tie.Need-loop-holds Inv-loop μ-loop
 loop-holds c = record { few = search needs; so-far = refl }

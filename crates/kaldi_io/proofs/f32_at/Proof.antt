@@ -21,13 +21,13 @@ float-from-bits-result c =
     let start = c .before .before in
     let a = start .args in
     let pre = start .pre in
-    finite-pattern binary32 _ (number-finite binary32 (a .n) (a .s .now) (a .from) (a .i) (pre .1) (c .u32-at .ensures) (pre .0))
+    finite-pattern binary32 _ (number-finite binary32 binary32 (a .n) (a .s .now) (a .from) (a .i) (pre .1) (c .u32-at .ensures) (pre .0))
 
 returns : tie.Need-returns
 returns c =
     let start = c .before .before in
     let a = start .args in
-    number-is binary32 (a .n) (a .s .now) (a .from) (a .i) (start .pre .1) (c .u32-at .ensures)
+    number-is binary32 binary32 (a .n) (a .s .now) (a .from) (a .i) (start .pre .1) (c .u32-at .ensures)
 
 pub f32-at-spec : {M : Type 1} → statement M
 f32-at-spec =

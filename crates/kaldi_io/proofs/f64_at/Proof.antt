@@ -20,13 +20,13 @@ float-from-bits-result c =
     let start = c .before .before in
     let a = start .args in
     let pre = start .pre in
-    finite-pattern binary64 _ (number-finite binary64 (a .n) (a .s .now) (a .from) (a .i) (pre .1) (c .u64-at .ensures) (pre .0))
+    finite-pattern binary64 _ (number-finite binary64 binary64 (a .n) (a .s .now) (a .from) (a .i) (pre .1) (c .u64-at .ensures) (pre .0))
 
 returns : tie.Need-returns
 returns c =
     let start = c .before .before in
     let a = start .args in
-    number-is binary64 (a .n) (a .s .now) (a .from) (a .i) (start .pre .1) (c .u64-at .ensures)
+    number-is binary64 binary64 (a .n) (a .s .now) (a .from) (a .i) (start .pre .1) (c .u64-at .ensures)
 
 pub f64-at-spec : {M : Type 1} → statement M
 f64-at-spec =

@@ -1,4 +1,4 @@
--- `fill_f64s` meets its contract: the loop of `fill_f32s` over the wider format, by the same laws (Numbers.antt).
+-- `fill_f64s` meets its contract. The loop's invariant is `Filled`: the first i numbers are in their places (Numbers.antt).
 use mathlib.Core.Path.{refl, sym, subst}
 use Prim.Native.Nat.{ℕ, _-_}
 use borrow.Author.Needs.{needs}
@@ -10,19 +10,19 @@ use Rattle.kaldi_io.proofs.fill_f64s.Statement.{statement}
 use Rattle.kaldi_io.proofs.fill_f64s.Tie as tie
 
 abbrev Inv-loop : tie.InvT-loop
-Inv-loop s from out₀ n i₀ out i = Filled binary64 n (drop from s) out₀ out i
+Inv-loop s from out₀ n i₀ out i = Filled binary64 binary64 n (drop from s) out₀ out i
 
 abbrev μ-loop : tie.MeasureT-loop
 μ-loop s from out₀ n i₀ out i = n - i
 
 loop-holds : tie.Need-loop-holds Inv-loop μ-loop
-loop-holds c = filled-none binary64 _ _ _ refl
+loop-holds c = filled-none binary64 binary64 _ _ _ refl
 
 f64-at-requires : tie.Need-f64-at-requires Inv-loop μ-loop
 f64-at-requires c κs =
     let start′ = c .before .before .before .before in
     let start = start′ in
-    (subst (λ (n : ℕ). Ready binary64 n (start .args .s .now) (start .args .from)) (sym (c .before .loop .inv .whole)) (start .pre), search needs)
+    (subst (λ (n : ℕ). Ready binary64 binary64 n (start .args .s .now) (start .args .from)) (sym (c .before .loop .inv .whole)) (start .pre), search needs)
 
 loop-again : tie.Need-loop-again Inv-loop μ-loop
 loop-again c = filled-turn (c .before .before .loop .inv) (c .before .loop-test .taken) (c .f64-at .ensures)
