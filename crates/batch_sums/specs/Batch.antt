@@ -5,6 +5,9 @@ use mathlib.Core.List.{List}
 use lib.ListN.{length, take, getD}
 use lib.Ieee.{Float}
 use Rattle.floats.specs.Operators.{_*₃₂_, _*₆₄_, at}
+use Rattle.floats.specs.Ln.{lnNarrow}
+use Rattle.definition.specs.declared.FrameWeight.{FrameWeight}
+use Rattle.definition.specs.declared.FrameWeight.the-variants.{Weighed}
 use Rattle.definition.specs.Posteriors.{Post}
 use Rattle.definition.specs.Statistics.{Entry, seen, sumFor}
 use Rattle.diag_gmm.specs.Steps.{Fair}
@@ -38,3 +41,7 @@ pub record Sums (d : ℕ) (es : List Entry) (m : ℕ) (gs : List ℕ) (tot sum :
   pub in-order : take m gs ≡ seen es
   pub weight-is : (k : ℕ) → k < m → at tot k ≡ sumFor es (getD gs k 0) weight
   pub features-are : (a : ℕ) → a < d → (k : ℕ) → k < m → at sum (k * d + a) ≡ sumFor es (getD gs k 0) (feature a)
+
+-- ln is the logarithm of the frame's prune floor, where it is weighed
+abbrev pub Logged : FrameWeight → Float → Type 0
+Logged w ln = (floor scale : Float) → w ≡ Weighed floor scale → ln ≡ lnNarrow floor

@@ -9,10 +9,11 @@ ghost use Rattle.loops.specs.Lists.{build};
 ghost use Rattle.loops.specs.Steps.{fill};
 ghost use Rattle.loops.specs.Ring.{put};
 ghost use Rattle.floats.specs.Operators.{_+₆₄_, _*₆₄_, zero₆₄, at};
+ghost use Rattle.floats.specs.Ln.{lnNarrow};
 ghost use Rattle.definition.specs.Posteriors.{loglikes, selectPosteriors, nanCount, posteriors, nansOf};
 ghost use Rattle.definition.specs.Statistics.{Entry};
 ghost use Rattle.diag_gmm.specs.Steps.{held};
-ghost use Rattle.batch_sums.specs.Batch.{entryOf, scaledEntry, Slots, Sums};
+ghost use Rattle.batch_sums.specs.Batch.{entryOf, scaledEntry, Slots, Sums, Logged};
 
 // Where Gaussian g stands among the m seen; m where it was not seen.
 fn slot(g: usize, m: usize, seen: &[usize]) -> usize
@@ -122,10 +123,12 @@ pub struct Counts {
     pub nans: usize,
 }
 
-// A frame that is weighed: its posteriors by its normalised features, its part of the sums by its raw ones. The other rooms are scratch.
+// A frame that is weighed: its posteriors by its normalised features, its part of the sums by its raw ones; ln: the logarithm of its floor. The
+// other rooms are scratch.
 fn acc_weighed(
     num_gselect: usize,
     floor: f32,
+    ln: f32,
     scale: f32,
     num_gauss: usize,
     d: usize,
@@ -144,7 +147,7 @@ fn acc_weighed(
     sum: &mut [f64],
 ) -> Counts
     requires { ⌜ («num_gauss» * d ≤ length (now «means_invvars_t»)) × («num_gauss» * d ≤ length (now «inv_vars_t»)) × («num_gauss» ≤ length (now gconsts)) × (d ≤ length (now normalized)) × (d ≤ length (now raw)) ⌝ }
-    requires { ⌜ (length (now ll) ≡ «num_gauss») × (length (now b) ≡ «num_gauss») × («num_gselect» ≤ length (now chosen)) × («num_gselect» ≤ length (now posts)) × Slots «num_gauss» d m (now seen) (now tot) (now sum) ⌝ }
+    requires { ⌜ (length (now ll) ≡ «num_gauss») × (length (now b) ≡ «num_gauss») × («num_gselect» ≤ length (now chosen)) × («num_gselect» ≤ length (now posts)) × Slots «num_gauss» d m (now seen) (now tot) (now sum) × (ln ≡ lnNarrow floor) ⌝ }
     ensures { λ r. ⌜ Slots «num_gauss» d (r .seen) (now (seen .exit)) (now (tot .exit)) (now (sum .exit))
         × ((es : List Entry) → Sums d es m (now (seen .entry)) (now (tot .entry)) (now (sum .entry))
         → Sums d (es ++ map (scaledEntry scale (now (raw .entry)))
@@ -161,7 +164,7 @@ fn acc_weighed(
         ll,
         b,
     );
-    let selection = diag_gmm::select_posteriors(ll, num_gselect, floor, chosen, posts);
+    let selection = diag_gmm::select_by(ll, num_gselect, floor, ln, chosen, posts);
     let r = acc_posteriors(
         selection.count,
         scale,
@@ -182,10 +185,11 @@ fn acc_weighed(
 }
 
 // A frame of the batch goes into the running sums; m: how many Gaussians were seen. A skipped one adds nothing, and its likelihoods are not asked
-// for. With few Gaussians, clearing rooms for as many as there can be would cost more than the work: they have rooms for 64.
+// for; ln: the logarithm of its floor. With few Gaussians, clearing rooms for as many as there can be would cost more than the work: they have rooms for 64.
 pub fn acc_frame(
     o: IvectorOptions,
     weight: FrameWeight,
+    ln: f32,
     num_gauss: usize,
     d: usize,
     gconsts: &[f32],
@@ -199,7 +203,7 @@ pub fn acc_frame(
     sum: &mut [f64],
 ) -> Counts
     requires { ⌜ («num_gauss» * d ≤ length (now «means_invvars_t»)) × («num_gauss» * d ≤ length (now «inv_vars_t»)) × («num_gauss» ≤ length (now gconsts)) × (d ≤ length (now normalized)) × (d ≤ length (now raw)) ⌝ }
-    requires { ⌜ (o .«num_gselect» ≤ 32) × («num_gauss» ≤ 1024) × Slots «num_gauss» d m (now seen) (now tot) (now sum) ⌝ }
+    requires { ⌜ (o .«num_gselect» ≤ 32) × («num_gauss» ≤ 1024) × Slots «num_gauss» d m (now seen) (now tot) (now sum) × Logged weight ln ⌝ }
     ensures { λ r. ⌜ Slots «num_gauss» d (r .seen) (now (seen .exit)) (now (tot .exit)) (now (sum .exit))
         × ((es : List Entry) → Sums d es m (now (seen .entry)) (now (tot .entry)) (now (sum .entry))
         → Sums d (es ++ map (entryOf (now (raw .entry)))
@@ -217,6 +221,7 @@ pub fn acc_frame(
                 return acc_weighed(
                     o.num_gselect,
                     floor,
+                    ln,
                     scale,
                     num_gauss,
                     d,
@@ -240,6 +245,7 @@ pub fn acc_frame(
             acc_weighed(
                 o.num_gselect,
                 floor,
+                ln,
                 scale,
                 num_gauss,
                 d,

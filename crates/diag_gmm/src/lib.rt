@@ -11,6 +11,7 @@ ghost use Rattle.loops.specs.Lists.{if_then_else_, those};
 ghost use Rattle.loops.specs.Steps.{fill};
 ghost use Rattle.floats.specs.Operators.{_+₃₂_, _-₃₂_, _*₃₂_, f32, zero₃₂, at, sum₃₂};
 ghost use Rattle.floats.specs.Exp.{expOf};
+ghost use Rattle.floats.specs.Ln.{lnNarrow};
 ghost use Rattle.definition.specs.Posteriors.{loglikes as loglikesOf, ahead as isAhead, insert as insertOf, pruned, every, maxLike, ranked, bestOf, selectPosteriors, nanCount, minPostFor, weighed as weighedOf, unweighted as unweightedOf};
 ghost use Rattle.diag_gmm.specs.Steps.{held, Fair, Falling, Place, Next, slid, above as aboveOf, least, top, joined};
 
@@ -353,18 +354,18 @@ fn largest(loglikes: &[f32]) -> f32
     rest(front, behind(h, loglikes))
 }
 
-// The most likely Gaussians, before they are pruned.
+// The most likely Gaussians, before they are pruned; ln: the logarithm of min_post.
 fn best(
     loglikes: &[f32],
     num_gselect: usize,
     min_post: f32,
+    ln: f32,
     chosen: &mut [usize],
     posts: &mut [f32],
 ) -> usize
-    requires { ⌜ («num_gselect» ≤ length (now chosen)) × («num_gselect» ≤ length (now posts)) ⌝ }
+    requires { ⌜ («num_gselect» ≤ length (now chosen)) × («num_gselect» ≤ length (now posts)) × (ln ≡ lnNarrow «min_post») ⌝ }
     ensures { λ r. ⌜ (held r (now (chosen .exit)) (now (posts .exit)) ≡ bestOf (now (loglikes .entry)) «num_gselect» «min_post») × (r ≤ «num_gselect») ⌝ }
 {
-    let ln = floats::ln_f32(min_post);
     let max_like = largest(loglikes);
     if min_post != 0.0 {
         let cutoff = max_like + ln;
@@ -434,13 +435,14 @@ fn select(
     loglikes: &[f32],
     num_gselect: usize,
     min_post: f32,
+    ln: f32,
     chosen: &mut [usize],
     posts: &mut [f32],
 ) -> usize
-    requires { ⌜ («num_gselect» ≤ length (now chosen)) × («num_gselect» ≤ length (now posts)) ⌝ }
+    requires { ⌜ («num_gselect» ≤ length (now chosen)) × («num_gselect» ≤ length (now posts)) × (ln ≡ lnNarrow «min_post») ⌝ }
     ensures { λ r. ⌜ (held r (now (chosen .exit)) (now (posts .exit)) ≡ selectPosteriors (now (loglikes .entry)) «num_gselect» «min_post») × (r ≤ «num_gselect») × Fair (length (now (loglikes .entry))) r (now (chosen .exit)) ⌝ }
 {
-    let n = best(loglikes, num_gselect, min_post, chosen, posts);
+    let n = best(loglikes, num_gselect, min_post, ln, chosen, posts);
     let tot = total(n, posts);
     let left = prune(n, posts, min_post * tot, tot);
     scale(1.0 / left.tot, left.count, posts);
@@ -465,7 +467,25 @@ pub struct Selection {
     pub nans: usize,
 }
 
-// `select`, and the count of NaN.
+// `select_posteriors` where the logarithm of min_post is known: frames of a batch share it.
+pub fn select_by(
+    loglikes: &[f32],
+    num_gselect: usize,
+    min_post: f32,
+    ln: f32,
+    chosen: &mut [usize],
+    posts: &mut [f32],
+) -> Selection
+    requires { ⌜ («num_gselect» ≤ length (now chosen)) × («num_gselect» ≤ length (now posts)) × (ln ≡ lnNarrow «min_post») ⌝ }
+    ensures { λ r. ⌜ (held (r .count) (now (chosen .exit)) (now (posts .exit)) ≡ selectPosteriors (now (loglikes .entry)) «num_gselect» «min_post») × (r .count ≤ «num_gselect»)
+        × Fair (length (now (loglikes .entry))) (r .count) (now (chosen .exit)) × (r .nans ≡ nanCount (now (loglikes .entry))) ⌝ }
+{
+    let count = select(loglikes, num_gselect, min_post, ln, chosen, posts);
+    let nans = count_nans(loglikes);
+    Selection { count, nans }
+}
+
+// A selection: the most likely Gaussians as posteriors, and the count of NaN.
 pub fn select_posteriors(
     loglikes: &[f32],
     num_gselect: usize,
@@ -477,9 +497,8 @@ pub fn select_posteriors(
     ensures { λ r. ⌜ (held (r .count) (now (chosen .exit)) (now (posts .exit)) ≡ selectPosteriors (now (loglikes .entry)) «num_gselect» «min_post») × (r .count ≤ «num_gselect»)
         × Fair (length (now (loglikes .entry))) (r .count) (now (chosen .exit)) × (r .nans ≡ nanCount (now (loglikes .entry))) ⌝ }
 {
-    let count = select(loglikes, num_gselect, min_post, chosen, posts);
-    let nans = count_nans(loglikes);
-    Selection { count, nans }
+    let ln = floats::ln_f32(min_post);
+    select_by(loglikes, num_gselect, min_post, ln, chosen, posts)
 }
 
 // The prune floor of a weight.

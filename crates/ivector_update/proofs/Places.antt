@@ -11,8 +11,10 @@ use lib.Ieee.{Float}
 use Rattle.loops.specs.Lists.{build}
 use Rattle.loops.proofs.Build.{build-ext}
 use Rattle.loops.proofs.Choose.{by-test}
+use Rattle.floats.specs.Ln.{lnNarrow}
 use Rattle.definition.specs.declared.IvectorOptions.{IvectorOptions}
 use Rattle.definition.specs.declared.FrameWeight.{FrameWeight}
+use Rattle.definition.specs.declared.FrameWeight.the-variants.{Skipped, Weighed}
 use Rattle.definition.specs.Model.{Model}
 use Rattle.definition.specs.Views.{Frames}
 use Rattle.definition.specs.Statistics.{Entry}
@@ -21,7 +23,7 @@ use Rattle.definition.specs.Changes.{merged, Batch}
 use Rattle.definition.specs.Estimate.{entries, nansOver}
 use Rattle.program.specs.Rooms.{waitingIn}
 use Rattle.program.proofs.WaitingRooms.{length-waiting}
-use Rattle.batch_sums.specs.Batch.{Sums}
+use Rattle.batch_sums.specs.Batch.{Sums, Logged}
 use Rattle.batch_sums.proofs.Batches.{sums-on, sums-none}
 use Rattle.ivector_update.specs.Steps.{run, changesBatch, batchOf, batchLength, frameAt, batchFrom, Lined, frameState, frameEntries, frameNans, Partway}
 
@@ -140,3 +142,18 @@ module _ (called : Bool) (next f n : ℕ) (fs : List ℕ) (ws : List Float) {k :
       by-test called
       (λ h. let u : k ≡ n = rw h at e in rw h (reach j (omega arith)))
       (λ h. let u : k ≡ f + 1 - next = rw h at e in rw h (omega arith))
+
+-- ---- the logarithm of a frame's floor, by its kind
+skips : {w : FrameWeight} {floor scale : Float} → w ≡ Skipped → w ≡ Weighed floor scale → ⊥
+skips e f = let z : _≡_ {A = ℕ} 0 1 = cc in omega arith
+
+pub skipped-log : {w : FrameWeight} (ln : Float) → w ≡ Skipped → Logged w ln
+skipped-log ln e floor scale f = absurd (skips e f)
+
+pub weighed-log : {w : FrameWeight} {ln own scale : Float} → w ≡ Weighed own scale → ln ≡ lnNarrow own → Logged w ln
+weighed-log {own = own} e h floor scale f = let same : own ≡ floor = cc in h ∙ ap lnNarrow same
+
+-- without weights it is that of `min_post`
+pub plain-log : (o : IvectorOptions) {w : FrameWeight} {ln : Float} → w ≡ unweighted o → ln ≡ lnNarrow (o .«min_post») → Logged w ln
+unfolding unweighted
+plain-log o e h = weighed-log e h

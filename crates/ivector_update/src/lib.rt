@@ -9,6 +9,7 @@ ghost use mathlib.Core.Bool.{true};
 ghost use mathlib.Core.List.{List, _∷_, _++_};
 ghost use Prim.Native.Nat.{ℕ, _+_, _≤_, _<_};
 ghost use lib.ListN.{length, getD};
+ghost use Rattle.floats.specs.Ln.{lnNarrow};
 ghost use Rattle.definition.specs.Model.{Tables, tablesFrom, tableLengthsOf, tablesFit, Model, model, modelIn};
 ghost use Rattle.definition.specs.Views.{Frames};
 ghost use Rattle.definition.specs.Statistics.{Entry};
@@ -18,17 +19,18 @@ ghost use Rattle.definition.specs.Stream.{recordSound, roomsFit};
 ghost use Rattle.program.specs.Rooms.{ringsFrom, EstimateRooms, estimateFrom, Rooms, roomsFrom, roomLengthsOf, ringFrames, waitingIn, estimateAt};
 ghost use Rattle.program.specs.Calls.{overEstimate};
 ghost use Rattle.frame_views.specs.Rows.{Lent};
-ghost use Rattle.batch_sums.specs.Batch.{Slots, Sums};
+ghost use Rattle.batch_sums.specs.Batch.{Slots, Sums, Logged};
 ghost use Rattle.ivector_stats.specs.Steps.{statsIn};
 ghost use Rattle.ivector_update.specs.Steps.{batchOf, batchLength, frameAt, batchFrom, Lined, viewTables, frameState, frameEntries, frameNans, Ready, Solvable};
 
-// Frame t of a batch goes into the batch's sums, by way of rooms for its normalised and its raw features; m: how many Gaussians were seen. A
-// skipped one is fetched all the same.
+// Frame t of a batch goes into the batch's sums, by way of rooms for its normalised and its raw features; m: how many Gaussians were seen;
+// ln: the logarithm of its floor. A skipped one is fetched all the same.
 fn take_frame(
     info: IvectorInfo,
     accepted: usize,
     t: usize,
     weight: FrameWeight,
+    ln: f32,
     gconsts: &[f32],
     means_invvars_t: &[f32],
     inv_vars_t: &[f32],
@@ -48,7 +50,7 @@ fn take_frame(
     requires { ⌜ Lent (info .dims .«base_dim») accepted (now global) (now frames) (now rows) (now cmvn) ⌝ }
     requires { ⌜ Ready info (viewTables (now gconsts) (now «means_invvars_t») (now «inv_vars_t») (now «lda_t») (now «lda_offset») (now global)) ⌝ }
     requires { ⌜ (t < accepted) × (length (now normalized) ≡ info .dims .«feat_dim») × (length (now raw) ≡ info .dims .«feat_dim»)
-        × Slots (info .dims .«num_gauss») (info .dims .«feat_dim») m (now seen) (now tot) (now sum) ⌝ }
+        × Slots (info .dims .«num_gauss») (info .dims .«feat_dim») m (now seen) (now tot) (now sum) × Logged weight ln ⌝ }
     ensures { λ r. ⌜ (
         let M : Model = model info (viewTables (now (gconsts .entry)) (now («means_invvars_t» .entry)) (now («inv_vars_t» .entry)) (now («lda_t» .entry)) (now («lda_offset» .entry)) (now (global .entry))) in
         let F : Frames = ringFrames (info .dims .«base_dim») accepted (now (frames .entry)) (now (rows .entry)) in
@@ -96,6 +98,7 @@ fn take_frame(
     batch_sums::acc_frame(
         o,
         weight,
+        ln,
         dims.num_gauss,
         d,
         gconsts,
@@ -110,10 +113,11 @@ fn take_frame(
     )
 }
 
-// A frame of a batch, its weight, and the place behind it.
+// A frame of a batch, its weight, the logarithm of its prune floor, and the place behind it.
 pub struct BatchFrame {
     pub frame: usize,
     pub weight: FrameWeight,
+    pub ln: f32,
     pub end: usize,
 }
 
@@ -129,33 +133,56 @@ fn batch_length(called: bool, next: usize, f: usize, n: usize) -> usize
     f + 1 - next
 }
 
-// The frame at place j of a batch of n places: frame next + j, unweighted, or that of waiting change j, weighed by the sum of its own.
+// The logarithm of a frame's prune floor.
+fn floor_log(weight: FrameWeight) -> f32
+    ensures { λ r. ⌜ Logged weight r ⌝ }
+{
+    match weight {
+        FrameWeight::Skipped => 0.0,
+        FrameWeight::Weighed(floor, _) => floats::ln_f32(floor),
+    }
+}
+
+// The frame at place j of a batch of n places: frame next + j, unweighted, or that of waiting change j, weighed by the sum of its own; ln: the
+// logarithm of the floor of frames without weights, which is the same for all.
 fn batch_frame(
     o: IvectorOptions,
     called: bool,
+    ln: f32,
     next: usize,
     n: usize,
     waiting_frames: &[usize],
     waiting_weights: &[f32],
     j: usize,
 ) -> BatchFrame
-    requires { ⌜ (j < n) × Lined called n (now «waiting_frames») (now «waiting_weights») × (frameAt called next (now «waiting_frames») j < 1000000000) ⌝ }
+    requires { ⌜ (j < n) × Lined called n (now «waiting_frames») (now «waiting_weights») × (frameAt called next (now «waiting_frames») j < 1000000000) × (ln ≡ lnNarrow (o .«min_post»)) ⌝ }
     ensures { λ r. ⌜ (
         let left : ℕ → Batch = batchFrom o called next n (now («waiting_frames» .entry)) (now («waiting_weights» .entry)) in
         (r .frame ≡ frameAt called next (now («waiting_frames» .entry)) j) × (j < r .end) × (r .end ≤ n)
-        × (left j ≡ (r .frame, r .weight) ∷ left (r .end))) ⌝ }
+        × (left j ≡ (r .frame, r .weight) ∷ left (r .end)) × Logged (r .weight) (r .ln)) ⌝ }
 {
     if called {
         let group = delta_weights::sum_group(waiting_frames, waiting_weights, n, j);
         let weight = diag_gmm::weighed(o, group.weight);
         let frame = waiting_frames[j];
         let end = group.end;
-        return BatchFrame { frame, weight, end };
+        let own = floor_log(weight);
+        return BatchFrame {
+            frame,
+            weight,
+            ln: own,
+            end,
+        };
     }
     let weight = diag_gmm::unweighted(o);
     let frame = next + j;
     let end = j + 1;
-    BatchFrame { frame, weight, end }
+    BatchFrame {
+        frame,
+        weight,
+        ln,
+        end,
+    }
 }
 
 // The frames of a batch of n places go into the sums of a batch that has none yet. The NaN likelihoods of all of them are added up: of at most
@@ -201,17 +228,19 @@ fn take_batch(
         × (r .nans ≡ nansOver M F bs (now (cmvn .entry)))) ⌝ }
 {
     let o = info.opts;
+    let ln = floats::ln_f32(o.min_post);
     let mut m = 0;
     let mut nans = 0;
     let mut j = 0;
     while j < n {
-        let b = batch_frame(o, called, next, n, waiting_frames, waiting_weights, j);
+        let b = batch_frame(o, called, ln, next, n, waiting_frames, waiting_weights, j);
         let weight = b.weight;
         let taken = take_frame(
             info,
             accepted,
             b.frame,
             weight,
+            b.ln,
             gconsts,
             means_invvars_t,
             inv_vars_t,

@@ -30,10 +30,11 @@ slice-aggregate-acc-weighed-2 c = sym (length-take-le _ _ (c .before .before .if
 acc-weighed-requires : tie.Need-acc-weighed-requires
 acc-weighed-requires c κs =
     let at-if1 = c .before .before .before .before .before .before .before in
-    let start = before-weight (at-if1 .before .before) in
+    let at-weight = at-if1 .before .before in
+    let start = before-weight at-weight in
     let p = start .pre .0 in
     let long = length-take-le _ _ (at-if1 .if1 .taken) in
-    ((p .0, p .1, p .2, omega (arith, p), omega (arith, p)), (long, long, start .pre .1 .0, start .pre .1 .0, start .pre .1 .2))
+    ((p .0, p .1, p .2, omega (arith, p), omega (arith, p)), (long, long, start .pre .1 .0, start .pre .1 .0, start .pre .1 .2, start .pre .1 .3 _ _ (at-weight .weight .given .1)))
 
 returns : tie.Need-returns
 returns c =
@@ -53,10 +54,11 @@ slice-aggregate-acc-weighed-6 c = sym (length-take-le _ _ (before-weight (c .bef
 
 acc-weighed-requires-2 : tie.Need-acc-weighed-requires-2
 acc-weighed-requires-2 c κs =
-    let start = before-weight (c .before .before .before .before .before .before .before .before .before) in
+    let at-weight = c .before .before .before .before .before .before .before .before .before in
+    let start = before-weight at-weight in
     let p = start .pre .0 in
     let long = length-take-le _ _ (start .pre .1 .1) in
-    ((p .0, p .1, p .2, omega (arith, p), omega (arith, p)), (long, long, start .pre .1 .0, start .pre .1 .0, start .pre .1 .2))
+    ((p .0, p .1, p .2, omega (arith, p), omega (arith, p)), (long, long, start .pre .1 .0, start .pre .1 .0, start .pre .1 .2, start .pre .1 .3 _ _ (at-weight .weight .given .1)))
 
 returns-3 : tie.Need-returns-3
 returns-3 c =

@@ -14,7 +14,7 @@ returns c =
     let p = at-prune .prune .ensures in
     let b = at-best .best in
     let q = start .pre in
-    selection-is _ _ _ _ _ _ (omega (arith, b .kept .1 .1 .1 .0, q)) (omega (arith, b .kept .1 .1 .1 .1 .0, q)) (b .ensures .1) (b .ensures .0) (at-total .total .ensures) (p .0) (p .1) (c .before .before .scale .ensures)
+    selection-is _ _ _ _ _ _ (omega (arith, b .kept .1 .1 .1 .1 .0, q)) (omega (arith, b .kept .1 .1 .1 .1 .1 .0, q)) (b .ensures .1) (b .ensures .0) (at-total .total .ensures) (p .0) (p .1) (c .before .before .scale .ensures)
 
 pub select-spec : {M : Type 1} → statement M
 select-spec =

@@ -1,9 +1,9 @@
 -- `batch_frame` meets its contract: at place j stands the group of change j (`change-at`), or frame next + j (`frame-there`); both laws are in
--- Places.antt.
+-- Places.antt, as is `plain-log`, the logarithm of the floor without weights.
 use borrow.Author.Needs.{needs}
 use mathlib.Core.Path.{refl}
 use native.Mathlib.Omega.{arith}
-use Rattle.ivector_update.proofs.Places.{frame-is-change, change-at, frame-is-next, frame-there}
+use Rattle.ivector_update.proofs.Places.{frame-is-change, change-at, frame-is-next, frame-there, plain-log}
 use Rattle.ivector_update.proofs.batch_frame.Statement.{statement}
 use Rattle.ivector_update.proofs.batch_frame.Tie as tie
 
@@ -20,7 +20,7 @@ mul-frame : tie.Need-mul-frame
 mul-frame c =
     let at-if1 = c .before .before in
     let start = at-if1 .before .before .before in
-    omega (arith, start .pre .0, start .pre .1 (at-if1 .if1 .taken) .0, start .good .1 .1 .1 .1 .0)
+    omega (arith, start .pre .0, start .pre .1 (at-if1 .if1 .taken) .0, start .good .1 .1 .1 .1 .1 .0)
 
 shared-slice-read-frame : tie.Need-shared-slice-read-frame
 shared-slice-read-frame c =
@@ -30,7 +30,7 @@ shared-slice-read-frame c =
 
 returns : tie.Need-returns
 returns c =
-    let at-weighed = c .before in
+    let at-weighed = c .before .before in
     let at-sum-group = at-weighed .before in
     let at-if1 = at-sum-group .before in
     let a = at-if1 .before .before .before .args in
@@ -41,6 +41,7 @@ returns c =
       group .ensures .1,
       change-at (a .o) (a .called) (a .next) (a .n) (a .waiting-frames .now) (a .waiting-weights .now) (a .j) (group .result .end) (group .result .weight)
           is-change (group .ensures .2) (at-weighed .weighed .ensures) refl,
+      c .floor-log .ensures,
     )
 
 unweighted-requires : tie.Need-unweighted-requires
@@ -66,6 +67,7 @@ returns-2 c =
       omega arith,
       omega (arith, start .pre .0),
       frame-there (a .o) (a .called) (a .next) (a .n) (a .waiting-frames .now) (a .waiting-weights .now) (a .j) is-next (start .pre .0) (c .unweighted .ensures),
+      plain-log (a .o) (c .unweighted .ensures) (start .pre .3),
     )
 
 pub batch-frame-spec : {M : Type 1} → statement M
@@ -76,6 +78,7 @@ batch-frame-spec =
     weighed-requires
     mul-frame
     shared-slice-read-frame
+    (λ c κs. search needs)
     returns
     unweighted-requires
     add-frame

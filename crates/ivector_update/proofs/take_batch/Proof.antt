@@ -20,7 +20,7 @@ use Rattle.ivector_update.proofs.take_batch.Statement.{statement}
 use Rattle.ivector_update.proofs.take_batch.Tie as tie
 
 abbrev Inv-loop : tie.InvT-loop
-Inv-loop info accepted called next n wf ww gconsts means invs ldat ldao global frames rows cmvn₀ norm₀ raw₀ seen₀ tot₀ sum₀ o m₀ nans₀ j₀ cmvn norm raw seen tot sum m nans j =
+Inv-loop info accepted called next n wf ww gconsts means invs ldat ldao global frames rows cmvn₀ norm₀ raw₀ seen₀ tot₀ sum₀ o ln m₀ nans₀ j₀ cmvn norm raw seen tot sum m nans j =
     let M : Model = model info (viewTables gconsts means invs ldat ldao global) in
     let F : Frames = ringFrames (info .dims .«base_dim») accepted frames rows in
     let left : ℕ → Batch = batchFrom (info .opts) called next n wf ww in
@@ -36,7 +36,7 @@ Inv-loop info accepted called next n wf ww gconsts means invs ldat ldao global f
     × (nans + nansOver M F (left j) cmvn ≡ nansOver M F (left 0) cmvn₀)
 
 abbrev μ-loop : tie.MeasureT-loop
-μ-loop info accepted called next n wf ww gconsts means invs ldat ldao global frames rows cmvn₀ norm₀ raw₀ seen₀ tot₀ sum₀ o m₀ nans₀ j₀ cmvn norm raw seen tot sum m nans j = n - j
+μ-loop info accepted called next n wf ww gconsts means invs ldat ldao global frames rows cmvn₀ norm₀ raw₀ seen₀ tot₀ sum₀ o ln m₀ nans₀ j₀ cmvn norm raw seen tot sum m nans j = n - j
 
 abbrev view : (c : tie.Start Inv-loop μ-loop) → Model
 view c =
@@ -57,8 +57,8 @@ left c =
 abbrev to-batch-frame : tie.After-take-frame-arg6 Inv-loop μ-loop → tie.After-batch-frame Inv-loop μ-loop
 to-batch-frame c = c .before .before .before .before .before .before
 
-abbrev to-start : tie.After-o Inv-loop μ-loop → tie.Start Inv-loop μ-loop
-to-start c = c .before .before .before .before .before .before .before .before .before .before .before .before .before .before .before .before .before
+abbrev to-start : tie.After-ln-f32 Inv-loop μ-loop → tie.Start Inv-loop μ-loop
+to-start c = c .before .before .before .before .before .before .before .before .before .before .before .before .before .before .before .before .before .before
 
 abbrev to-take-frame : tie.After-struct-known Inv-loop μ-loop → tie.After-take-frame Inv-loop μ-loop
 to-take-frame c = c .before .before .before .before .before .before .before .before .before .before .before .before .before
@@ -74,7 +74,7 @@ batch-frame-requires : tie.Need-batch-frame-requires Inv-loop μ-loop
 batch-frame-requires c κs =
     let start = to-start (c .before .before) in
     let within = c .loop-test .taken in
-    (within, start .pre .1 .1 .0, omega (arith, start .pre .1 .1 .1 (c .before .loop .j) within, start .pre .0 .few))
+    (within, start .pre .1 .1 .0, omega (arith, start .pre .1 .1 .1 (c .before .loop .j) within, start .pre .0 .few), c .before .before .ln-f32 .ensures)
 
 take-frame-requires : tie.Need-take-frame-requires Inv-loop μ-loop
 take-frame-requires c κs =
@@ -85,7 +85,7 @@ take-frame-requires c κs =
     let was = at-loop .loop .inv in
     let (lends, (r, (_, reach, norm-long, raw-long, _, _))) = start .pre in
     let below = subst (λ (t : ℕ). t < start .args .accepted) (sym (at-batch-frame .batch-frame .ensures .0)) (reach (at-loop .loop .j) (at-loop-test .loop-test .taken)) in
-    (lent-on lends (was .1), (r, (below, was .2 ∙ norm-long, was .3 ∙ raw-long, was .7)))
+    (lent-on lends (was .1), (r, (below, was .2 ∙ norm-long, was .3 ∙ raw-long, was .7, at-batch-frame .batch-frame .ensures .4)))
 
 -- the NaNs so far with those of this frame, and those of what is left
 counted : (c : tie.After-struct-known Inv-loop μ-loop) →
@@ -93,7 +93,7 @@ counted : (c : tie.After-struct-known Inv-loop μ-loop) →
     let at-batch-frame = to-batch-frame (at-take-frame .before) in
     let at-loop = at-batch-frame .before .before in
     let start = to-start (at-loop .before) in
-    at-loop .loop .nans + at-take-frame .take-frame .result .nans + nansOver (view start) (seen-frames start) (left start (at-batch-frame .batch-frame .result .end)) (at-take-frame .take-frame .last .1 .1 .1 .1 .1 .1 .1 .1 .1 .1 .1 .1 .0)
+    at-loop .loop .nans + at-take-frame .take-frame .result .nans + nansOver (view start) (seen-frames start) (left start (at-batch-frame .batch-frame .result .end)) (at-take-frame .take-frame .last .1 .1 .1 .1 .1 .1 .1 .1 .1 .1 .1 .1 .1 .0)
     ≡ nansOver (view start) (seen-frames start) (left start 0) (start .args .cmvn .now)
 counted c =
     let at-take-frame = to-take-frame c in
@@ -124,7 +124,7 @@ loop-again c =
     let was = at-loop .loop .inv in
     let group = at-batch-frame .batch-frame .ensures in
     let done = at-take-frame .take-frame in
-    let kept = done .kept .1 .1 .1 .1 .1 .1 .1 .1 .1 .1 .1 .1 in (
+    let kept = done .kept .1 .1 .1 .1 .1 .1 .1 .1 .1 .1 .1 .1 .1 in (
       group .2,
       kept .0 ∙ was .1,
       kept .1 .0 ∙ was .2,
@@ -171,6 +171,7 @@ take-batch-spec =
     (tie.spec
     Inv-loop
     μ-loop
+    (λ c κs. search needs)
     loop-holds
     batch-frame-requires
     take-frame-requires

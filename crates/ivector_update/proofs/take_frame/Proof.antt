@@ -20,14 +20,14 @@ to-start c = c .before .before .before .before .before .before .before .before .
 lda-frame-requires : tie.Need-lda-frame-requires
 lda-frame-requires c κs =
     let start = to-start c in
-    let (lends, (r, (below, long, _, _))) = start .pre in
+    let (lends, (r, (below, long, _, _, _))) = start .pre in
     (lends, (below, r .left-in, r .right-in, r .base-in, r .lda-fits, r .offset-fits, long))
 
 lda-frame-requires-2 : tie.Need-lda-frame-requires-2
 lda-frame-requires-2 c κs =
     let at-lda-frame = to-lda-frame c in
     let start = to-start (at-lda-frame .before) in
-    let (lends, (r, (below, _, long, _))) = start .pre in
+    let (lends, (r, (below, _, long, _, _))) = start .pre in
     (lent-on lends (at-lda-frame .lda-frame .kept .1 .1 .1 .1 .1 .1 .1 .1 .1 .1 .1 .0), (below, r .left-in, r .right-in, r .base-in, r .lda-fits, r .offset-fits, long))
 
 acc-frame-requires : tie.Need-acc-frame-requires
@@ -35,10 +35,10 @@ acc-frame-requires c κs =
     let at-lda-frame2 = to-lda-frame2 c in
     let at-lda-frame = to-lda-frame (at-lda-frame2 .before) in
     let start = to-start (at-lda-frame .before) in
-    let (_, (r, (_, norm-long, raw-long, slots))) = start .pre in
+    let (_, (r, (_, norm-long, raw-long, slots, log))) = start .pre in
     let norm-kept = at-lda-frame .lda-frame .kept .1 .1 .1 .1 .1 .1 .1 .1 .1 .1 .1 .1 .0 in
     let raw-kept = at-lda-frame2 .lda-frame2 .kept .1 .1 .1 .1 .1 .1 .1 .1 .1 .1 .1 .1 .0 in
-    ((r .means-fit, r .invs-fit, r .gconsts-fit, omega (arith, norm-kept, norm-long), omega (arith, raw-kept, raw-long)), (r .select-in, r .gauss-in, slots))
+    ((r .means-fit, r .invs-fit, r .gconsts-fit, omega (arith, norm-kept, norm-long), omega (arith, raw-kept, raw-long)), (r .select-in, r .gauss-in, slots, log))
 
 same-length : tie.Need-same-length
 same-length c = search needs
