@@ -14,7 +14,7 @@
  * The calls ask nothing else: whatever numbers they get, they return; the questions answer any record. They keep no state, allocate
  * nothing, and may run in several threads on different records and rooms.
  *
- * Answers: `refusal` is 0 for a call that is taken, else a number from 1 to 24, or 27 to 30. A refused call writes nowhere.
+ * Answers: `refusal` is 0 for a call that is taken, else a number from 1 to 24, or 27 to 32. A refused call writes nowhere.
  *   1 an option is outside its range               13 push: 1,000,000,000 frames are in
  *   2 bytes end before an item does                14 push: the frame room is full
  *   3 the mark, a token or a size byte is wrong    15 push: the row room is full
@@ -29,6 +29,7 @@
  *  12 push: a number is not finite                 24 silence: lists of different length, or too short for the answer
  *  27 voice: no enrolled vector, or more than 32   29 voice: a number not finite, or a limit below 0
  *  28 voice: a length is not the dimension's       30 change: a frame below one that a forget named
+ *  31 window: outside 1..1,000                     32 window: above the longest, and older rows are gone
  */
 #ifndef SHOFRAKIN_H
 #define SHOFRAKIN_H
@@ -134,8 +135,8 @@ typedef struct {
 } shofrakin_room_lengths;
 
 /* A stream's record: its model's record, the lengths of its rooms, frames accepted, the first frame not in the statistics, the mark below
- * which nothing is kept, changes that wait, one more than the highest changed frame, the statistics' frame count, and the floor: the
- * highest frame named in a forget. */
+ * which nothing is kept, changes that wait, one more than the highest changed frame, the statistics' frame count, the floor, which is the
+ * highest frame named in a forget, the window in force, and the longest since the mark last rose. */
 typedef struct {
     shofrakin_info info;
     shofrakin_room_lengths lengths;
@@ -148,6 +149,8 @@ typedef struct {
     bool input_finished;
     double num_frames;
     size_t floor;
+    size_t window;
+    size_t longest;
 } shofrakin_stream;
 
 /* The answer of a call on a stream: the refusal, frames and prefix rows held (0 with a refusal 10), and, of a fetch, how many elements
@@ -209,6 +212,13 @@ shofrakin_stream_answer shofrakin_update_frame_weights(shofrakin_stream *s,
  * Refusal 10. Any frame number is taken and none is taken back: a forget far ahead, of SIZE_MAX say, ends all changes of this stream for
  * good (30), but for the empty one. */
 shofrakin_stream_answer shofrakin_forget_before(shofrakin_stream *s, size_t frame,
+    const float *frames, size_t frames_len, const double *rows, size_t rows_len,
+    const size_t *waiting_frames, size_t waiting_frames_len, const float *waiting_weights, size_t waiting_weights_len);
+
+/* The window of the fetches to come, 1..1,000; CMVN state, statistics and waiting changes carry over. Refusals 10, 31, 32. A window above the longest
+ * one in force since the mark last rose is 32 once mark + 1 is above that longest: the older rows are gone. So from then on the longest can
+ * only fall: a stream that gets a window of 1 and begins an utterance is left with 1. */
+shofrakin_stream_answer shofrakin_set_cmn_window(shofrakin_stream *s, size_t window,
     const float *frames, size_t frames_len, const double *rows, size_t rows_len,
     const size_t *waiting_frames, size_t waiting_frames_len, const float *waiting_weights, size_t waiting_weights_len);
 

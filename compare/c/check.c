@@ -281,6 +281,10 @@ int main(void) {
     is("the floor", stream.floor, 3);
     took("forget, lower", shofrakin_forget_before(&stream, 1, RINGS), 0, 4, 5);
     is("the floor, after a lower one", stream.floor, 3);
+    took("window", shofrakin_set_cmn_window(&stream, 1, RINGS), 0, 4, 5);
+    is("the window in force", stream.window, 1);
+    is("the longest", stream.longest, 2);
+    took("window, too long", shofrakin_set_cmn_window(&stream, 1001, RINGS), 31, 4, 5);
     took("change, below the floor", shofrakin_update_frame_weights(&stream, at + 2, 1, w, 1, RINGS), 30, 4, 5);
     is("i-vector dimension", shofrakin_ivector_dim(&stream), 1);
     is("next", shofrakin_num_frames_stats(&stream), 0);

@@ -586,18 +586,20 @@ pub enum What {
     Floor,
     /// Request No. 5: models whose blocks have either width.
     Widths,
+    /// Request No. 12: window calls around forgets.
+    Window,
 }
 
 /// What `all` stands for (Big and Cuts are asked for by name).
 #[rustfmt::skip]
-pub const KINDS: [What; 14] = [
+pub const KINDS: [What; 15] = [
     What::Calls, What::Wild, What::Damage, What::Edges, What::Rooms, What::Forged, What::Silence, What::Long, What::Limit,
-    What::Exact, What::Nan, What::Registers, What::Floor, What::Widths,
+    What::Exact, What::Nan, What::Registers, What::Floor, What::Widths, What::Window,
 ];
 #[rustfmt::skip]
-pub const NAMED: [What; 16] = [
+pub const NAMED: [What; 17] = [
     What::Calls, What::Wild, What::Damage, What::Edges, What::Rooms, What::Forged, What::Silence, What::Long, What::Limit,
-    What::Exact, What::Nan, What::Registers, What::Floor, What::Widths, What::Big, What::Cuts,
+    What::Exact, What::Nan, What::Registers, What::Floor, What::Widths, What::Window, What::Big, What::Cuts,
 ];
 
 pub struct CallList {
@@ -626,6 +628,7 @@ pub fn call_list(seed: u64, what: What) -> CallList {
         What::Registers => crate::registers::registers(&mut r, &mut s),
         What::Floor => crate::requests_floor::floor(&mut r, &mut s),
         What::Widths => crate::requests_widths::widths(&mut r, &mut s),
+        What::Window => crate::requests_window::window(&mut r, &mut s),
     }
     s.cmds.push(Cmd::End);
     s
@@ -826,6 +829,19 @@ pub fn forge(r: &mut Rng, sp: &Spec, run: &Runner, c: &Cmd, out: &mut Vec<Cmd>) 
     ];
     if r.p(30) {
         fields = vec![("floor", 0), ("floor", (mark + left).saturating_sub(1)), ("floor", mark / 2)];
+    }
+    if r.p(30) {
+        fields = vec![
+            ("window", 0),
+            ("window", 1001),
+            ("window", st.longest + 1),
+            ("longest", st.window - 1),
+            ("longest", 0),
+            ("longest", 1001),
+            ("longest", u64::MAX),
+            ("longest", 1000),
+            ("longest", st.longest + 1),
+        ];
     }
     let mut al: Vec<Alter> = vec![];
     match r.n(10) {

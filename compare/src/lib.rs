@@ -14,6 +14,7 @@ pub mod requests;
 pub mod requests_floor;
 pub mod requests_nan;
 pub mod requests_widths;
+pub mod requests_window;
 pub mod script;
 pub mod timed;
 #[allow(dead_code, warnings)]

@@ -272,7 +272,7 @@ pub fn one(seed: u64, what: What, t: &mut Tally) {
                     }
                 }
             }
-            Cmd::Push(_) | Cmd::Finish | Cmd::Change(..) | Cmd::Forget(_) | Cmd::Fetch(..) => {
+            Cmd::Push(_) | Cmd::Finish | Cmd::Change(..) | Cmd::Forget(_) | Cmd::Window(_) | Cmd::Fetch(..) => {
                 if !al.is_empty() {
                     t.forged += 1;
                     if n == 0 {
@@ -299,6 +299,11 @@ pub fn one(seed: u64, what: What, t: &mut Tally) {
                             }
                         }
                     }
+                    continue;
+                }
+                if let Cmd::Window(_) = c {
+                    // the original has no such call: it is not compared from here on
+                    (ps, ns) = (None, None);
                     continue;
                 }
                 let (mut out, mut plain_out) = (None, None);
@@ -497,6 +502,7 @@ fn library_call(t: &mut Tally, run: &Runner, s: &mut rattle::Stream, c: &Cmd, al
             Call::Change(&delta, w)
         }
         Cmd::Forget(f) => Call::Forget(*f as usize),
+        Cmd::Window(v) => Call::Window(*v as usize),
         Cmd::Fetch(f, _) => Call::Fetch(*f as usize, &mut out),
         _ => unreachable!(),
     };
@@ -540,6 +546,7 @@ fn library_state(t: &mut Tally, run: &Runner, s: &rattle::Stream, seed: u64, wha
     is(r.accepted as u64 == m.accepted(), "accepted");
     is(r.mark as u64 == m.mark, "mark");
     is(r.floor as u64 == m.floor, "floor");
+    is(r.window as u64 == m.window && r.longest as u64 == m.longest, "windows");
     is(r.past_highest as i64 == m.highest + 1, "highest changed frame");
     is(r.delta_weights_provided == m.taken, "change call taken");
     is(r.input_finished == m.finished, "finished");
@@ -548,7 +555,7 @@ fn library_state(t: &mut Tally, run: &Runner, s: &rattle::Stream, seed: u64, wha
     is(s.waiting() == m.waiting.iter().map(|x| (x.0, x.1.to_bits())).collect::<Vec<_>>(), "waiting changes");
     let (acc, mark) = (m.accepted() as usize, m.mark as usize);
     is((mark..acc).all(|k| c32(s.frame(k)) == c32(&m.frames[k])), "frames held");
-    let low = (mark + 1).saturating_sub(m.model.opts.window as usize);
+    let low = (mark + 1).saturating_sub(m.longest as usize);
     is((low..=acc).all(|k| c64(s.row(k)) == c64(&m.prefix[k])), "rows held");
     if !wrong.is_empty() {
         t.diff(seed, what, i, format!("the library's state differs: {}", wrong.join(", ")));

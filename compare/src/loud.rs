@@ -27,15 +27,15 @@ pub fn view(m: &Model, window: u64, frames: &[Vec<f32>]) -> Vec<f32> {
 
 /// The CMVN state that a fetch of frame t leaves, by the library's rings: `cmvnState` of the contract of `cmvn_frame`.
 fn state_after(s: &rattle::Stream, m: &Model, t: usize, old: &[f64]) -> Vec<f64> {
-    let (o, b) = (&m.opts, m.dims.base);
+    let (o, b, window) = (&m.opts, m.dims.base, s.rec.window);
     let mut v = old.to_vec();
     if s.frame(t)[0] > o.min_energy {
-        let lo = (t + 1).saturating_sub(o.window as usize);
+        let lo = (t + 1).saturating_sub(window);
         v = s.row(t + 1).iter().zip(s.row(lo)).map(|(x, y)| x - y).collect();
         v.push((t + 1 - lo) as f64);
     }
-    if v[b] < o.window as f64 {
-        let scale = (o.window as f64 - v[b]).min(o.global_frames as f64) / m.global[b];
+    if v[b] < window as f64 {
+        let scale = (window as f64 - v[b]).min(o.global_frames as f64) / m.global[b];
         for d in 0..=b {
             v[d] += scale * m.global[d];
         }
@@ -140,6 +140,7 @@ pub fn one(seed: u64, what: What, t: &mut Tally) {
                 call = Call::Change(&delta, w)
             }
             Cmd::Forget(f) => call = Call::Forget(*f as usize),
+            Cmd::Window(v) => call = Call::Window(*v as usize),
             Cmd::Fetch(f, n) => {
                 out = vec![0; *n];
                 call = Call::Fetch(*f as usize, &mut out)
@@ -150,13 +151,18 @@ pub fn one(seed: u64, what: What, t: &mut Tally) {
             }
         }
         let (Some((s, second)), Some((m, _))) = (both.as_mut(), &run.model) else { continue };
-        let (o, b) = (m.opts, m.dims.base);
+        let (mut o, b) = (m.opts, m.dims.base);
         let before: Vec<u64> = s.waiting().iter().map(|x| x.0).collect();
         let (next, weighted) = (s.next(), s.rec.delta_weights_provided);
         t.calls += 1;
         if s.call(call).refusal != 0 {
             continue;
         }
+        if let Cmd::Window(v) = &c {
+            second.call(Call::Window(*v as usize));
+        }
+        // request 12: the window in force
+        o.window = s.rec.window as u64;
         if let Cmd::Push(x) = &c {
             took.push(x.clone());
             second.call(Call::Push(x));

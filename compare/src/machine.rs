@@ -956,6 +956,9 @@ pub struct Record {
     pub mark: u64,
     /// Request 8.
     pub floor: u64,
+    /// Request 12: the window in force, and the longest since the last rise of the mark.
+    pub window: u64,
+    pub longest: u64,
     pub waiting: Vec<(u64, f32)>,
     /// Lengths the record was made with, and lengths lent to this call.
     pub made: Vec<u64>,
@@ -987,7 +990,11 @@ fn record_bad(r: &Record) -> bool {
     if r.mark > r.floor.saturating_sub(o.left) {
         return true;
     }
-    let (held, rows) = held(r.accepted, r.mark, o.window);
+    // request 12
+    if r.window == 0 || r.longest < r.window || r.longest > 1000 {
+        return true;
+    }
+    let (held, rows) = held(r);
     let (f, rr, w) = rooms(r);
     if held > f || rows > rr || r.waiting.len() as u64 > w {
         return true;
@@ -1003,8 +1010,8 @@ fn rooms(r: &Record) -> (u64, u64, u64) {
     (r.lent[8] / b, r.lent[9] / b, r.lent[10].min(r.lent[11]))
 }
 
-fn held(accepted: u64, mark: u64, window: u64) -> (u64, u64) {
-    (accepted - mark, accepted + 1 - (mark + 1).saturating_sub(window))
+fn held(r: &Record) -> (u64, u64) {
+    (r.accepted - r.mark, r.accepted + 1 - (r.mark + 1).saturating_sub(r.longest))
 }
 
 /// An answer: refusal number, held counts unless the number stands alone, vector for a fetch, NaN likelihoods of the frames it brought in.
@@ -1039,6 +1046,9 @@ pub struct Stream {
     pub mark: u64,
     /// Request 8: the highest frame named in a forget.
     pub floor: u64,
+    /// Request 12: the window in force, and the longest since the last rise of the mark.
+    pub window: u64,
+    pub longest: u64,
 }
 
 /// A forged part of the record, for one call.
@@ -1061,7 +1071,15 @@ pub fn alter(r: &mut Record, al: &[Alter]) {
                 "floor" => r.floor = *v,
                 "left" => r.opts.left = *v,
                 "right" => r.opts.right = *v,
-                "window" => r.opts.window = *v,
+                // the window in force; where a stream is made there is only the options' one
+                "window" => {
+                    r.window = *v;
+                    if r.lent.len() == 8 {
+                        r.opts.window = *v;
+                        r.longest = *v;
+                    }
+                }
+                "longest" => r.longest = *v,
                 "global" => r.opts.global_frames = *v,
                 "gselect" => r.opts.num_gselect = *v,
                 "iters" => r.opts.num_cg_iters = *v,
@@ -1097,6 +1115,8 @@ impl Stream {
             next: 0,
             mark: 0,
             floor: 0,
+            window: m.opts.window,
+            longest: m.opts.window,
             waiting: vec![],
             made: model_lens.to_vec(),
             lent: model_lens.to_vec(),
@@ -1133,6 +1153,8 @@ impl Stream {
             current,
             mark: 0,
             floor: 0,
+            window: m.opts.window,
+            longest: m.opts.window,
         };
         let a = s.said(&s.record(&[]), 0);
         Ok((s, a))
@@ -1150,6 +1172,8 @@ impl Stream {
             next: self.next,
             mark: self.mark,
             floor: self.floor,
+            window: self.window,
+            longest: self.longest,
             waiting: self.waiting.clone(),
             made: self.made.clone(),
             lent: self.made.clone(),
@@ -1159,7 +1183,7 @@ impl Stream {
     }
 
     fn said(&self, r: &Record, n: u32) -> Answer {
-        Answer { refusal: n, held: Some(held(r.accepted, r.mark, r.opts.window)), vector: None, nans: 0 }
+        Answer { refusal: n, held: Some(held(r)), vector: None, nans: 0 }
     }
     /// Request 11: frames held, and whether a push of a proper frame would be taken; none where the record falls under 10.
     pub fn push_room(&self, al: &[Alter]) -> Option<(u64, bool)> {
@@ -1180,7 +1204,7 @@ impl Stream {
         if record_bad(&r) {
             return Answer::alone(10);
         }
-        let (hf, hr) = held(r.accepted, r.mark, r.opts.window);
+        let (hf, hr) = held(&r);
         let (f, rr, _) = rooms(&r);
         let n = if x.len() != self.model.dims.base {
             11
@@ -1271,7 +1295,50 @@ impl Stream {
             _ => "forget: floor stays",
         });
         self.floor = self.floor.max(f);
-        self.mark = self.mark.max(m.saturating_sub(self.model.opts.left));
+        let to = m.saturating_sub(self.model.opts.left);
+        if to > self.mark {
+            ev(if self.longest > self.window { "forget: mark rises, longest falls to the window" } else { "forget: mark rises" });
+            self.mark = to;
+            self.longest = self.window;
+        } else if self.longest > self.window {
+            ev("forget: mark stays, longest kept");
+        }
+        self.done()
+    }
+
+    /// Request 12: the window for later fetches.
+    pub fn set_window(&mut self, v: u64, al: &[Alter]) -> Answer {
+        let r = self.record(al);
+        if record_bad(&r) {
+            return Answer::alone(10);
+        }
+        let n = if !(1..=1000).contains(&v) {
+            31
+        } else if v > r.longest && r.mark + 1 > r.longest {
+            32
+        } else {
+            0
+        };
+        if n != 0 {
+            return self.said(&r, n);
+        }
+        ev(if v > self.longest {
+            if self.mark + 1 == self.longest {
+                "window: above the longest, first row just kept"
+            } else {
+                "window: above the longest"
+            }
+        } else if v == self.longest && v > self.window {
+            "window: rises to the longest"
+        } else if v > self.window {
+            "window: rises below the longest"
+        } else if v == self.window {
+            "window: the same"
+        } else {
+            "window: falls"
+        });
+        self.window = v;
+        self.longest = self.longest.max(v);
         self.done()
     }
 
@@ -1381,7 +1448,8 @@ impl Stream {
         if raw[0] > o.min_energy {
             ev("cmvn: loud");
             let hi = t + 1;
-            let lo = hi.saturating_sub(o.window as usize);
+            let lo = hi.saturating_sub(self.window as usize);
+            assert!(lo as u64 >= (self.mark + 1).saturating_sub(self.longest), "a row is read that is no longer held");
             for d in 0..b {
                 self.cmvn[d] = self.prefix[hi][d] - self.prefix[lo][d];
             }
@@ -1389,7 +1457,7 @@ impl Stream {
         } else {
             ev("cmvn: quiet");
         }
-        let w = o.window as f64;
+        let w = self.window as f64;
         if self.cmvn[b] < w {
             let from = min64(w - self.cmvn[b], o.global_frames as f64);
             let scale = from / self.model.global[b];

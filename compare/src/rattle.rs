@@ -244,7 +244,15 @@ fn forge_field(s: &mut IvectorStream, n: &str, v: u64) {
         "floor" => s.floor = u,
         "left" => o.left_context = u,
         "right" => o.right_context = u,
-        "window" => o.cmn_window = u,
+        // the window in force; where a stream is made there is only the options' one
+        "window" => {
+            s.window = u;
+            if s.lengths.rings.rows == 0 {
+                o.cmn_window = u;
+                s.longest = u;
+            }
+        }
+        "longest" => s.longest = u,
         "global" => o.global_frames = u,
         "gselect" => o.num_gselect = u,
         "iters" => o.num_cg_iters = u,
@@ -275,6 +283,7 @@ pub enum Call<'a> {
     Finish,
     Change(&'a [usize], &'a [f32]),
     Forget(usize),
+    Window(usize),
     Fetch(usize, &'a mut [u32]),
     /// A step over registers: the block, the frame buffer, the vector buffer. Its answer has a refusal alone.
     Step(&'a mut [u8], &'a [f32], &'a mut [u32]),
@@ -289,7 +298,7 @@ fn bits(s: &IvectorStream) -> Vec<u64> {
         t.gconsts, t.means_invvars_t, t.inv_vars_t, t.sigma_inv_m, t.u, t.lda_t, t.lda_offset, t.global_mean_stats,
         r.frames, r.rows, r.waiting_frames, r.waiting_weights, e.cmvn_stats, e.linear, e.quadratic, e.current, e.scratch,
         s.accepted, s.num_frames_stats, s.mark, s.waiting, s.past_highest,
-        usize::from(s.delta_weights_provided), usize::from(s.input_finished), s.floor,
+        usize::from(s.delta_weights_provided), usize::from(s.input_finished), s.floor, s.window, s.longest,
     ]
     .iter()
     .map(|&x| x as u64)
@@ -319,6 +328,10 @@ fn lend(t: &Tables, rec: &mut IvectorStream, z: &mut Rooms, call: &mut Call, l: 
                 z.waiting_frames.all.as_mut_ptr(), wf, z.waiting_weights.all.as_mut_ptr(), ww,
             ),
             Call::Forget(n) => c::shofrakin_forget_before(
+                rec, *n, z.frames.all.as_ptr(), fl, z.rows.all.as_ptr(), rl,
+                z.waiting_frames.all.as_ptr(), wf, z.waiting_weights.all.as_ptr(), ww,
+            ),
+            Call::Window(n) => c::shofrakin_set_cmn_window(
                 rec, *n, z.frames.all.as_ptr(), fl, z.rows.all.as_ptr(), rl,
                 z.waiting_frames.all.as_ptr(), wf, z.waiting_weights.all.as_ptr(), ww,
             ),
@@ -369,7 +382,7 @@ impl Stream {
         };
         let rec = IvectorStream {
             info: m.info, lengths: none, accepted: 0, num_frames_stats: 0, mark: 0, waiting: 0, past_highest: 0,
-            delta_weights_provided: false, input_finished: false, num_frames: 0.0, floor: 0,
+            delta_weights_provided: false, input_finished: false, num_frames: 0.0, floor: 0, window: m.info.opts.cmn_window, longest: m.info.opts.cmn_window,
         };
         let f = forge(rec, al);
         let l = &f.lent;
@@ -501,6 +514,7 @@ impl Stream {
                 crate::script::Cmd::Push(_) => Call::Push(frame),
                 crate::script::Cmd::Finish => Call::Finish,
                 crate::script::Cmd::Forget(n) => Call::Forget(*n as usize),
+                crate::script::Cmd::Window(n) => Call::Window(*n as usize),
                 crate::script::Cmd::Fetch(n, _) => Call::Fetch(*n as usize, &mut plain_out),
                 _ => unreachable!(),
             };

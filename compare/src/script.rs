@@ -13,6 +13,8 @@ pub enum Cmd {
     Finish,
     Change(Vec<u64>, Vec<f32>),
     Forget(u64),
+    /// Request 12.
+    Window(u64),
     Fetch(u64, usize),
     Table(u64, f32, u64, Vec<i32>),
     Trace(u64, Vec<i32>, Vec<u64>, Vec<u64>),
@@ -68,6 +70,7 @@ pub fn print(c: &Cmd) -> String {
         Cmd::Finish => "f".into(),
         Cmd::Change(f, w) => format!("w {} {}", list(f, |v| v.to_string()), list(w, |v| h32(*v))),
         Cmd::Forget(f) => format!("d {f}"),
+        Cmd::Window(v) => format!("n {v}"),
         Cmd::Fetch(f, n) => format!("v {f} {n}"),
         Cmd::Table(r, w, s, p) => format!("t {r} {} {s} {}", h32(*w), list(p, |v| v.to_string())),
         Cmd::Trace(n, p, s, e) => format!("b {n} {} {} {}", list(p, |v| v.to_string()), list(s, |v| v.to_string()), list(e, |v| v.to_string())),
@@ -141,6 +144,7 @@ pub fn parse(line: &str) -> Cmd {
             Cmd::Change(a, t.list(|t| t.f()))
         }
         "d" => Cmd::Forget(t.u()),
+        "n" => Cmd::Window(t.u()),
         "v" => Cmd::Fetch(t.u(), t.u() as usize),
         "t" => Cmd::Table(t.u(), t.f(), t.u(), t.list(|t| t.i() as i32)),
         "b" => Cmd::Trace(t.u(), t.list(|t| t.i() as i32), t.list(|t| t.u()), t.list(|t| t.u())),
@@ -296,7 +300,7 @@ impl Runner {
                 self.last = Some(a);
                 Some(s)
             }
-            Cmd::Push(_) | Cmd::Finish | Cmd::Change(..) | Cmd::Forget(_) | Cmd::Fetch(..) => {
+            Cmd::Push(_) | Cmd::Finish | Cmd::Change(..) | Cmd::Forget(_) | Cmd::Window(_) | Cmd::Fetch(..) => {
                 let al = std::mem::take(&mut self.al);
                 let st = self.stream.as_mut().expect("no stream");
                 let (k, a) = match c {
@@ -304,6 +308,7 @@ impl Runner {
                     Cmd::Finish => ('f', st.finish(&al)),
                     Cmd::Change(f, w) => ('w', st.change(f, w, &al)),
                     Cmd::Forget(f) => ('d', st.forget(*f, &al)),
+                    Cmd::Window(v) => ('n', st.set_window(*v, &al)),
                     Cmd::Fetch(f, n) => ('v', st.fetch(*f, *n, &al)),
                     _ => unreachable!(),
                 };

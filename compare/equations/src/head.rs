@@ -21,7 +21,7 @@ use Rattle.definition.specs.declared.NewTable.the-variants as N
 use Rattle.definition.specs.Reader.{Got, read, refused}
 use Rattle.definition.specs.Model.{Model, Files, load}
 use Rattle.definition.specs.Changes.{Change}
-use Rattle.definition.specs.Machine.{Call, push, finish, change, forget, fetch, Answer, pushTests, answers}
+use Rattle.definition.specs.Machine.{Call, push, finish, change, forget, setWindow, fetch, Answer, pushTests, answers}
 use Rattle.definition.specs.Stream.{newRefusal, sameTables, isBroken, sameRooms}
 use Rattle.definition.specs.Silence.{Table, input, decoder, segments, traced, settingsRefusal, newTable, tableBroken, tracebackTests, asked, askedTable, deltaTests}
 use Rattle.definition.proofs.Computed.{computed}

@@ -21,16 +21,16 @@ const TABLES: [&str; 8] = ["gconsts", "means_invvars_t", "inv_vars_t", "sigma_in
 const RINGS: [&str; 4] = ["frames", "rows", "waiting_frames", "waiting_weights"];
 const ESTIMATE: [&str; 5] = ["cmvn_stats", "linear", "quadratic", "current", "scratch"];
 #[rustfmt::skip]
-const STREAM: [&str; 11] = [
-    "info", "lengths", "accepted", "num_frames_stats", "mark", "floor", "waiting", "past_highest", "delta_weights_provided", "input_finished",
-    "num_frames",
+const STREAM: [&str; 13] = [
+    "info", "lengths", "accepted", "num_frames_stats", "mark", "floor", "window", "longest", "waiting", "past_highest", "delta_weights_provided",
+    "input_finished", "num_frames",
 ];
 const SILENCE: [&str; 5] = ["silence_weight", "subsampling", "phones", "table", "length"];
 /// The script's names for options, dimensions and counters, in the order of `Record::fields`.
 #[rustfmt::skip]
-const FIELDS: [&str; 20] = [
+const FIELDS: [&str; 22] = [
     "left", "right", "window", "global", "gselect", "iters", "minpost", "scale", "maxcount", "energy",
-    "gaussg", "gausse", "feat", "ivec", "base", "ldacols", "accepted", "next", "mark", "floor",
+    "gaussg", "gausse", "feat", "ivec", "base", "ldacols", "accepted", "next", "mark", "floor", "in force", "longest",
 ];
 
 // ---- antt
@@ -93,6 +93,8 @@ struct Record {
     prior: String,
     lengths: Vec<i128>,
     waiting: Vec<i128>,
+    /// Whether it is a stream's.
+    made: bool,
 }
 
 impl Record {
@@ -138,6 +140,8 @@ impl Record {
         for x in lines {
             match x[1] {
                 "r" => lent[number(x[2]) as usize] = (lent[number(x[2]) as usize] + number(x[3])).max(0),
+                // of a stream it is the window in force
+                "n" if x[2] == "window" && self.lengths.len() > 8 && r.made => r.set("in force", number(x[3])),
                 "n" => r.set(x[2], number(x[3])),
                 _ => r.waiting = x[3..].iter().step_by(2).map(|f| number(f)).collect(),
             }
@@ -251,6 +255,8 @@ impl<'a> Session<'a> {
         let (mut scratch, mut right) = (0, format!("refused {}", q[0]));
         if let Some(k) = k {
             r.fields.extend(k[..6].iter().chain(&["0"; 4]).map(|x| x.to_string()));
+            let window = r.fields[2].clone();
+            r.fields.extend([window.clone(), window]);
             r.prior = k[6].into();
             let (tables, _, load_scratch) = r.needs();
             (r.lengths, scratch) = (lengths(&tables, &v[1..]), load_scratch);
@@ -280,6 +286,7 @@ impl<'a> Session<'a> {
         m.equation(&format!("newRefusal {} {} {}", f.info(), record(&TABLES, lent), r.rooms()), q[0], &format!("fresh streams {}", outcome(q[0])));
         if q[0] == "0" {
             let calls = Calls { name: m.new_name("calls"), on: format!("answers {name} {}", r.rings()), calls: vec![] };
+            r.made = true;
             self.stream = Some((r, calls));
         }
     }
@@ -290,7 +297,7 @@ impl<'a> Session<'a> {
             m.equation(&f.declined(&lent), if q[0] == "10" { "true" } else { "false" }, &format!("forged stream calls {}", outcome(q[0])));
             if v[0] == "p" && q[0] != "10" {
                 let (info, numbers) = (m.abbrev("info", "IvectorInfo", &f.info()), floats(&v[2..]));
-                let tests = format!("pushTests ({info} .opts) ({info} .dims) {} {} {} {numbers}", f.rings(), f.field("accepted"), f.field("mark"));
+                let tests = format!("pushTests ({info} .dims) {} {} {} {} {numbers}", f.rings(), f.field("longest"), f.field("accepted"), f.field("mark"));
                 m.equation(&format!("firstOf ({tests})"), q[0], "forged pushes past 10");
             }
             return;
@@ -313,6 +320,13 @@ impl<'a> Session<'a> {
                 r.set("floor", r.field("floor").max(number(v[1])));
                 format!("forget {}", v[1])
             }
+            "n" => {
+                if taken {
+                    r.set("in force", number(v[1]));
+                    r.set("longest", r.field("longest").max(number(v[1])));
+                }
+                format!("setWindow {}", v[1])
+            }
             _ => {
                 let f = number(v[1]);
                 if taken {
@@ -328,7 +342,11 @@ impl<'a> Session<'a> {
                 format!("fetch {f} {}", v[2])
             }
         };
-        r.set("mark", r.field("accepted") - number(q[1]));
+        let mark = r.field("accepted") - number(q[1]);
+        if mark > r.field("mark") {
+            r.set("longest", r.field("in force"));
+        }
+        r.set("mark", mark);
         counts.extend((!taken).then(|| format!("stream calls refused {}", q[0])));
         calls.calls.push((text, format!("said {} {} {} {vector}", q[0], q[1], q[2]), counts));
     }
@@ -398,7 +416,7 @@ fn session(m: &mut Module, lines: &[Line]) {
                 s.close(m, true, false);
                 s.fresh(m, line, &std::mem::take(&mut x));
             }
-            "p" | "f" | "w" | "d" | "v" => s.call(m, line, &std::mem::take(&mut x)),
+            "p" | "f" | "w" | "d" | "n" | "v" => s.call(m, line, &std::mem::take(&mut x)),
             "t" => {
                 s.close(m, false, true);
                 s.table(m, line);

@@ -22,6 +22,15 @@ pub record Agree (F G : Frames) (dim mark window : ℕ) : Type 0 where
   pub frame-is : (t d : ℕ) → mark ≤ t → t < F .accepted → d < dim → F .frame t d ≡ G .frame t d
   pub prefix-is : (t d : ℕ) → mark + 1 - window ≤ t → t ≤ F .accepted → d < dim → F .prefix t d ≡ G .prefix t d
 
+-- so they do for a shorter window, from a mark on that is not below (request 12)
+pub agree-shorter : {F G : Frames} {dim mark mark′ window window′ : ℕ} → mark ≤ mark′ → mark + 1 - window ≤ mark′ + 1 - window′ → Agree F G dim mark window → Agree F G dim mark′ window′
+agree-shorter h l a =
+    record {
+      accepted-is = a .accepted-is;
+      frame-is = λ t d p q m. a .frame-is t d (omega arith) q m;
+      prefix-is = λ t d p q m. a .prefix-is t d (omega arith) q m;
+    }
+
 module _ (o : IvectorOptions) (dim : ℕ) (F G : Frames) (mark : ℕ) (some : 0 < dim) (a : Agree F G dim mark (o .«cmn_window»)) where
   pub windowed-ext : (t : ℕ) → mark ≤ t → t < F .accepted → windowed o dim F t ≡ windowed o dim G t
   unfolding windowed

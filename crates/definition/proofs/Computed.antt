@@ -22,7 +22,7 @@ use Rattle.definition.specs.Statistics.{addDiagonal, newStats, rescaled,
 use Rattle.definition.specs.Solve.{dot, spMatVec, lessProducts, cell, factor, forward, backward, solvedOr, begun, turn, linearCgd, priorVector, getIvector}
 use Rattle.definition.specs.Changes.{insertChange, changed, reached, mergedFrom, merged, batch}
 use Rattle.definition.specs.Estimate.{entries, nansOver, accumulated, updated}
-use Rattle.definition.specs.Machine.{allFrames, framesHeld, rowsHeld, framesReady, forgotten, pushTests, changeTests, fetchTests, notFinite, fresh, fetched, caughtUp, nansMet, does, toldBy, answer, machineAfter, answersFrom, answers}
+use Rattle.definition.specs.Machine.{allFrames, framesHeld, rowsHeld, framesReady, forgotten, longestFrom, pushTests, changeTests, windowTests, fetchTests, notFinite, fresh, fetched, caughtUp, nansMet, does, toldBy, answer, machineAfter, answersFrom, answers}
 use Rattle.definition.specs.Stream.{recordSound, infoSound, sameTables, streamScratch, roomsFit, newRefusal, rising, breaks, isBroken, sameRings, sameRooms}
 use Rattle.definition.specs.Silence.{infoAt, tableIn, segments, samePhone, marked, traced, before, carried, walked, weighted, decoderFrames, inputFrame, deltaWeights, settingsRefusal, newTable, active, tableBroken, tracebackTests, asked, askedTable, deltaTests, computeCurrentTraceback, getDeltaWeights, silenceAnswer}
 
@@ -35,9 +35,9 @@ unfolding add sub mul div neg lt le eq ne isNan ofInt ofBits toBits round iter l
     load smoothed windowed cmvnState cmvnFrame spliceAt rawRow normalisedRow ldaFrame loglikes insert sorted pruned ranked bestOf renormalised
     selectPosteriors nanCount minPostFor weighed unweighted posteriors nansOf addDiagonal newStats rescaled seen sumFor accLinear accQuadratic acc dot
     spMatVec lessProducts cell factor forward backward solvedOr begun turn linearCgd priorVector getIvector insertChange changed reached mergedFrom
-    merged batch entries nansOver accumulated updated allFrames framesHeld rowsHeld framesReady forgotten pushTests changeTests fetchTests notFinite
-    fresh fetched caughtUp nansMet does toldBy answer machineAfter answersFrom answers recordSound infoSound sameTables streamScratch roomsFit newRefusal
-    rising breaks isBroken sameRings sameRooms infoAt tableIn segments samePhone marked traced before carried walked weighted decoderFrames inputFrame
-    deltaWeights settingsRefusal newTable active tableBroken tracebackTests asked askedTable deltaTests computeCurrentTraceback getDeltaWeights
-    silenceAnswer
+    merged batch entries nansOver accumulated updated allFrames framesHeld rowsHeld framesReady forgotten longestFrom pushTests changeTests windowTests
+    fetchTests notFinite fresh fetched caughtUp nansMet does toldBy answer machineAfter answersFrom answers recordSound infoSound sameTables
+    streamScratch roomsFit newRefusal rising breaks isBroken sameRings sameRooms infoAt tableIn segments samePhone marked traced before carried walked
+    weighted decoderFrames inputFrame deltaWeights settingsRefusal newTable active tableBroken tracebackTests asked askedTable deltaTests
+    computeCurrentTraceback getDeltaWeights silenceAnswer
 computed = tt

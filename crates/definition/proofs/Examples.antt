@@ -1,4 +1,4 @@
--- P1 to P12 of the scope's "Examples": what the definitions say of them, computed. `P1-to-P12` gathers them. Then examples of requests 4, 8 and 5.
+-- P1 to P12 of the scope's "Examples": what the definitions say of them, computed. `P1-to-P12` gathers them. Then examples of requests 4, 5, 8 and 12.
 use mathlib.Core.Path.{_≡_, refl}
 use Prim.Native.Nat.{ℕ, _*_}
 use mathlib.Core.Bool.{true, false}
@@ -25,7 +25,7 @@ use Rattle.definition.specs.Views.{cmvnState, cmvnFrame, normalisedRow}
 use Rattle.definition.specs.Posteriors.{nanCount, minPostFor}
 use Rattle.definition.specs.Statistics.{newStats}
 use Rattle.definition.specs.Solve.{linearCgd}
-use Rattle.definition.specs.Machine.{Call, push, change, forget, fetch, Answer, Machine, machine, allFrames, fresh, toldBy, machineAfter, answersFrom, answers}
+use Rattle.definition.specs.Machine.{Call, push, change, forget, setWindow, fetch, Answer, Machine, machine, allFrames, fresh, toldBy, machineAfter, answersFrom, answers}
 use Rattle.definition.specs.Silence.{input, decoder, TableRooms, tableRooms, newTable, getDeltaWeights, TableCall, tableDone}
 use Rattle.definition.proofs.Computed.{computed}
 
@@ -169,7 +169,7 @@ late-model = modelOf 4 late 2
 abbrev twelve : Machine
 twelve =
     machine (replicate 12 (asF64 4 ∷ [])) 8 (record { waiting = (7, asF64 1) ∷ (9, asF64 1) ∷ []; past-highest = 10; called = true }) false
-    (record { cmvn = pair zero₆₄ zero₆₄; stats = newStats 1 (asF64 1); current = asF64 1 ∷ [] }) 0 0
+    (record { cmvn = pair zero₆₄ zero₆₄; stats = newStats 1 (asF64 1); current = asF64 1 ∷ [] }) 0 0 600 600
 
 -- one change of frame f
 abbrev changes-at : ℕ → Call
@@ -369,3 +369,35 @@ request-5 =
       R5-skipped = refl;
       R5-skipped-short = refl;
     }
+
+-- ---- request 12
+
+-- twelve frames in, next 12, no context, windows of w in force and of l as the longest, the mark at m
+abbrev after-12 : ℕ → ℕ → ℕ → Machine
+after-12 m w l =
+    machine (replicate 12 (asF64 4 ∷ [])) 12 (record { waiting = []; past-highest = 0; called = false }) false
+    (record { cmvn = pair zero₆₄ zero₆₄; stats = newStats 1 (asF64 1); current = asF64 1 ∷ [] }) m m w l
+
+-- a loud frame, c0 60 (P8), after a quiet one
+abbrev quiet-then-loud : List Call
+quiet-then-loud = push (asF64 4 ∷ []) ∷ push (asF64 60 ∷ []) ∷ []
+
+abbrev P9-model : Model
+P9-model = model (single 15) 2
+
+pub record Windowed : Type 0 where
+  -- rows are kept for the longest window, whatever is in force, until the mark rises: then for the one in force
+  pub R12-kept : answersFrom P9-model (lengths .rings) (after-12 5 4 4) (setWindow 2 ∷ forget 5 ∷ forget 6 ∷ [])
+      ≡ said 0 7 11 [] 0 ∷ said 0 7 11 [] 0 ∷ said 0 6 8 [] 0 ∷ []
+  -- above the longest only while no row is gone: mark + 1 is at most the longest, or it is 32; up to the longest always
+  pub R12-above : answersFrom P9-model (lengths .rings) (after-12 3 2 4) (setWindow 4 ∷ setWindow 5 ∷ []) ≡ said 0 9 13 [] 0 ∷ said 0 9 13 [] 0 ∷ []
+  pub R12-gone : answersFrom P9-model (lengths .rings) (after-12 4 2 4) (setWindow 5 ∷ setWindow 4 ∷ []) ≡ said 32 8 12 [] 0 ∷ said 0 8 12 [] 0 ∷ []
+  -- 31 comes first
+  pub R12-range : answersFrom P9-model (lengths .rings) (after-12 4 2 4) (setWindow 0 ∷ setWindow 1001 ∷ []) ≡ said 31 8 12 [] 0 ∷ said 31 8 12 [] 0 ∷ []
+  -- the window in force is that of the CMVN state: one frame of it at a loud fetch, and no smoothing
+  pub R12-fetch : machineAfter P9-model (lengths .rings) (fresh P9-model) (quiet-then-loud ++ (setWindow 1 ∷ fetch 1 1 ∷ [])) .estimate .cmvn ≡ pair (asF64 60) (asF64 1)
+  pub R12-before : machineAfter P9-model (lengths .rings) (fresh P9-model) (quiet-then-loud ++ (fetch 1 1 ∷ setWindow 1 ∷ [])) .estimate .cmvn ≡ pair (asF64 164) (asF64 202)
+
+pub request-12 : Windowed
+unfolding computed
+request-12 = record { R12-kept = refl; R12-above = refl; R12-gone = refl; R12-range = refl; R12-fetch = refl; R12-before = refl }

@@ -15,7 +15,7 @@ use Rattle.loops.proofs.Choose.{by-test, or-none}
 use Rattle.loops.proofs.Tests.{none-at, at-none}
 use Rattle.definition.specs.declared.RingLengths.{RingLengths}
 use Rattle.definition.specs.Model.{Model}
-use Rattle.definition.specs.Machine.{Call, push, finish, change, forget, fetch, Answer, Machine, Move, moved, forgotten, pushTests, changeTests, fetchTests, fresh, caughtUp, does, toldBy, answer, answersFrom, answers}
+use Rattle.definition.specs.Machine.{Call, push, finish, change, forget, setWindow, fetch, Answer, Machine, Move, moved, forgotten, pushTests, changeTests, windowTests, fetchTests, fresh, caughtUp, does, toldBy, answer, answersFrom, answers}
 
 -- ---- the number of a list of tests
 
@@ -69,11 +69,12 @@ module _ (M : Model) (z : RingLengths) where
       (λ back. first-not 18 _ (omega arith) (omega arith, tt)))))
 
   not-18 : (k : Machine) (c : Call) → Low k → does M z k c .refusal ≡ 18 → ⊥
-  unfolding does pushTests fetchTests
+  unfolding does pushTests windowTests fetchTests
   not-18 k (push x) h e = first-not 18 _ (omega arith) (omega arith, (omega arith, (omega arith, (omega arith, (omega arith, tt))))) e
   not-18 k finish h e = first-not 18 [] (omega arith) tt e
   not-18 k (change fs ws) h e = change-not k _ fs ws h e
   not-18 k (forget f) h e = first-not 18 [] (omega arith) tt e
+  not-18 k (setWindow w) h e = first-not 18 _ (omega arith) (omega arith, (omega arith, tt)) e
   not-18 k (fetch f n) h e = first-not 18 _ (omega arith) (omega arith, (omega arith, (omega arith, tt))) e
 
   low-left : (k : Machine) (c : Call) → Low k → Low (does M z k c .left)
@@ -82,6 +83,7 @@ module _ (M : Model) (z : RingLengths) where
   low-left k finish h = h
   low-left k (change fs ws) h = h
   low-left k (forget f) h = low-raised (k .mark) (k .floor) left _ f h (omega (arith, lowest-under (min f (k .next)) (map (λ c. c .0) (k .changes .waiting))))
+  low-left k (setWindow w) h = h
   low-left k (fetch f n) h = by-test (leb (k .next) f) (λ e. rw e h) (λ e. rw e h)
 
   low-moved : (r : ℕ) (k l : Machine) → Low k → Low l → Low (taken r l k)

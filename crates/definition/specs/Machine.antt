@@ -17,7 +17,8 @@ use Rattle.definition.specs.declared.IvectorOptions.{IvectorOptions}
 use Rattle.definition.specs.declared.Dimensions.{Dimensions}
 use Rattle.definition.specs.declared.RingLengths.{RingLengths}
 use Rattle.definition.specs.declared.StreamAnswer.{StreamAnswer}
-use Rattle.definition.specs.Model.{Model}
+use Rattle.definition.specs.Options.{within}
+use Rattle.definition.specs.Model.{Model, modelInForce}
 use Rattle.definition.specs.Views.{Frames}
 use Rattle.definition.specs.Statistics.{newStats}
 use Rattle.definition.specs.Solve.{priorVector}
@@ -29,6 +30,7 @@ pub data Call : Type 0 where
   finish : Call
   change : List ℕ → List Float → Call
   forget : ℕ → Call
+  setWindow : ℕ → Call  -- request 12
   fetch : ℕ → ℕ → Call  -- a frame, and the output's length
 
 -- the numbers of an answer (refusal, frames held, rows held, elements of the vector not finite, likelihoods that were NaN), and the vector's
@@ -45,9 +47,12 @@ pub record Machine : Type 0 where
   pub estimate : Estimate  -- CMVN state, statistics, current vector
   pub mark : ℕ  -- no frame below it will be read again
   pub floor : ℕ  -- the highest frame named in a forget, 0 at first: no change may name a frame below it (request 8)
+  pub window : ℕ  -- the window in force, that of the options at first (request 12)
+  pub longest : ℕ  -- the longest window in force since the last rise of the mark: prefix rows are kept for it
 
-abbrev pub machine : List (List Float) → ℕ → Changes → Bool → Estimate → ℕ → ℕ → Machine
-machine h n c f e m l = record { history = h; next = n; changes = c; finished = f; estimate = e; mark = m; floor = l }
+abbrev pub machine : List (List Float) → ℕ → Changes → Bool → Estimate → ℕ → ℕ → ℕ → ℕ → Machine
+machine h n c f e m l w g =
+    record { history = h; next = n; changes = c; finished = f; estimate = e; mark = m; floor = l; window = w; longest = g }
 
 -- the frames of a whole history; a prefix sum is that of the frames before it
 unfoldable pub allFrames : List (List Float) → Frames
@@ -63,7 +68,7 @@ framesHeld accepted mark = accepted - mark
 
 -- prefix rows
 unfoldable pub rowsHeld : ℕ → ℕ → ℕ → ℕ
-rowsHeld window accepted mark = accepted + 1 - (mark + 1 - window)
+rowsHeld longest accepted mark = accepted + 1 - (mark + 1 - longest)
 
 -- whole changes that the waiting room has places for
 abbrev pub waitingRoom : RingLengths → ℕ
@@ -77,14 +82,18 @@ framesReady o finished accepted = if finished then accepted else accepted - o .�
 unfoldable pub forgotten : ℕ → ℕ → ℕ → List ℕ → ℕ → ℕ
 forgotten left next mark waiting f = max mark (foldl min (min f next) waiting - left)
 
--- "When a call is declined", 11 to 22, and 30 of request 8: tests in checking order, each with its number
-unfoldable pub pushTests : IvectorOptions → Dimensions → RingLengths → ℕ → ℕ → List Float → List (Bool × ℕ)
-pushTests o d z accepted mark x =
+-- the longest window after a forget that brings the mark to mark′ (request 12): from a rise on it is the one in force
+unfoldable pub longestFrom : ℕ → ℕ → ℕ → ℕ → ℕ
+longestFrom window longest mark mark′ = if ltb mark mark′ then window else longest
+
+-- "When a call is declined", 11 to 22, 30 of request 8, 31 and 32 of request 12: tests in checking order, each with its number
+unfoldable pub pushTests : Dimensions → RingLengths → ℕ → ℕ → ℕ → List Float → List (Bool × ℕ)
+pushTests d z longest accepted mark x =
     (not (eqb (length x) (d .«base_dim»)), 11)
     ∷ (anyOf (λ v. not (finite v)) x, 12)
     ∷ (eqb accepted 1000000000, 13)
     ∷ (eqb (framesHeld accepted mark) (rowsIn (z .frames) (d .«base_dim»)), 14)
-    ∷ (eqb (rowsHeld (o .«cmn_window») accepted mark) (rowsIn (z .rows) (d .«base_dim»)), 15) ∷ []
+    ∷ (eqb (rowsHeld longest accepted mark) (rowsIn (z .rows) (d .«base_dim»)), 15) ∷ []
 
 -- the entries of one call's change list (request 2)
 abbrev pub maxChanges : ℕ
@@ -98,6 +107,10 @@ changeTests o z mark floor n fs ws =
     ∷ (anyOf (λ f. ltb f floor) fs, 30)
     ∷ (anyOf (λ f. ltb (f - o .«left_context») mark) fs, 18)
     ∷ (ltb (waitingRoom z) (n + length fs), 19) ∷ []
+
+-- a new window w: where it is above the longest, all rows from 0 on have to be held still
+unfoldable pub windowTests : ℕ → ℕ → ℕ → List (Bool × ℕ)
+windowTests longest mark w = (not (within 1 1000 w), 31) ∷ (ltb longest w && ltb longest (mark + 1), 32) ∷ []
 
 -- an output of n numbers
 unfoldable pub fetchTests : Dimensions → ℕ → ℕ → Bool → ℕ → ℕ → ℕ → List (Bool × ℕ)
@@ -137,36 +150,42 @@ module _ (M : Model) where
   unfoldable pub fresh : Machine
   fresh =
       let estimate : Estimate = record { cmvn = replicate (dim + 1) zero₆₄; stats = newStats s prior; current = priorVector s prior } in
-      machine [] 0 (record { waiting = []; past-highest = 0; called = false }) false estimate 0 0
+      machine [] 0 (record { waiting = []; past-highest = 0; called = false }) false estimate 0 0 window window
 
   -- what a fetch gives out: the current vector, narrowed, the prior taken off element 0
   unfoldable pub fetched : List Float → List Float
   fetched current = let v = map narrowed current in set v 0 (at v 0 -₃₂ narrowed prior)
 
-  -- the machine after a fetch of frame f that is taken: where f is not in the statistics yet, they are brought up to it
+  -- the machine after a fetch of frame f that is taken: where f is not in the statistics yet, they are brought up to it, by the window in force
   unfoldable pub caughtUp : Machine → ℕ → Machine
   caughtUp k f =
-      let e = updated M (allFrames (k .history)) (batch o (k .changes) (k .next) f) (k .estimate) in
-      if leb (k .next) f then machine (k .history) (f + 1) (reached (k .changes) f) (k .finished) e (k .mark) (k .floor) else k
+      let M′ = modelInForce M (k .window) in
+      let e = updated M′ (allFrames (k .history)) (batch (M′ .info .opts) (k .changes) (k .next) f) (k .estimate) in
+      if leb (k .next) f then machine (k .history) (f + 1) (reached (k .changes) f) (k .finished) e (k .mark) (k .floor) (k .window) (k .longest) else k
 
   -- request 4: how many likelihoods of a fetch of frame f that is taken are NaN, over the batch that it brings in; 0 where it does no update
   unfoldable pub nansMet : Machine → ℕ → ℕ
   nansMet k f =
-      let n = nansOver M (allFrames (k .history)) (batch o (k .changes) (k .next) f) (k .estimate .cmvn) in
+      let M′ = modelInForce M (k .window) in
+      let n = nansOver M′ (allFrames (k .history)) (batch (M′ .info .opts) (k .changes) (k .next) f) (k .estimate .cmvn) in
       if leb (k .next) f then n else 0
 
   -- the calls, with rings of lengths z
   unfoldable pub does : RingLengths → Machine → Call → Move
   does z k (push x) =
-      move (pushTests o d z (accepted k) (k .mark) x)
-      (machine (k .history ++ (x ∷ [])) (k .next) (k .changes) (k .finished) (k .estimate) (k .mark) (k .floor)) [] 0
-  does z k finish = move [] (machine (k .history) (k .next) (k .changes) true (k .estimate) (k .mark) (k .floor)) [] 0
+      move (pushTests d z (k .longest) (accepted k) (k .mark) x)
+      (machine (k .history ++ (x ∷ [])) (k .next) (k .changes) (k .finished) (k .estimate) (k .mark) (k .floor) (k .window) (k .longest)) [] 0
+  does z k finish = move [] (machine (k .history) (k .next) (k .changes) true (k .estimate) (k .mark) (k .floor) (k .window) (k .longest)) [] 0
   does z k (change fs ws) =
       move (changeTests o z (k .mark) (k .floor) (length (k .changes .waiting)) fs ws)
-      (machine (k .history) (k .next) (changed (k .changes) fs ws) (k .finished) (k .estimate) (k .mark) (k .floor)) [] 0
+      (machine (k .history) (k .next) (changed (k .changes) fs ws) (k .finished) (k .estimate) (k .mark) (k .floor) (k .window) (k .longest)) [] 0
   does z k (forget f) =
       let mark = forgotten left-context (k .next) (k .mark) (map (λ c. c .0) (k .changes .waiting)) f in
-      move [] (machine (k .history) (k .next) (k .changes) (k .finished) (k .estimate) mark (max (k .floor) f)) [] 0
+      let longest = longestFrom (k .window) (k .longest) (k .mark) mark in
+      move [] (machine (k .history) (k .next) (k .changes) (k .finished) (k .estimate) mark (max (k .floor) f) (k .window) longest) [] 0
+  does z k (setWindow w) =
+      move (windowTests (k .longest) (k .mark) w)
+      (machine (k .history) (k .next) (k .changes) (k .finished) (k .estimate) (k .mark) (k .floor) w (max (k .longest) w)) [] 0
   does z k (fetch f n) =
       move (fetchTests d (framesReady o (k .finished) (accepted k)) (k .next) (k .changes .called) (k .changes .past-highest) f n)
       (caughtUp k f) (fetched (caughtUp k f .estimate .current)) (nansMet k f)
@@ -177,7 +196,7 @@ module _ (M : Model) where
       record {
         refusal = r;
         «frames_held» = framesHeld (accepted k) (k .mark);
-        «rows_held» = rowsHeld window (accepted k) (k .mark);
+        «rows_held» = rowsHeld (k .longest) (accepted k) (k .mark);
         «not_finite» = n;
         «nan_likelihoods» = m;
       }

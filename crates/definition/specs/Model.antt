@@ -135,6 +135,31 @@ model i t = record { info = i; tables = t }
 abbrev pub modelOf : IvectorOptions → Contents → TableLengths → Model
 modelOf o c z = model (record { opts = o; dims = dimsOf c; «prior_offset» = c .extractor .prior-offset; tables = z }) (tablesOf o c)
 
+-- request 12: the same with a window of its own, that in force, in place of the options'
+abbrev pub inForce : IvectorInfo → ℕ → IvectorInfo
+inForce i w =
+    let o = i .opts in
+    record {
+      opts = record {
+        «left_context» = o .«left_context»;
+        «right_context» = o .«right_context»;
+        «cmn_window» = w;
+        «global_frames» = o .«global_frames»;
+        «num_gselect» = o .«num_gselect»;
+        «num_cg_iters» = o .«num_cg_iters»;
+        «min_post» = o .«min_post»;
+        «posterior_scale» = o .«posterior_scale»;
+        «max_count» = o .«max_count»;
+        «min_energy» = o .«min_energy»;
+      };
+      dims = i .dims;
+      «prior_offset» = i .«prior_offset»;
+      tables = i .tables;
+    }
+
+abbrev pub modelInForce : Model → ℕ → Model
+modelInForce M w = model (inForce (M .info) w) (M .tables)
+
 -- ---- the load
 
 -- lengths of the tables, in their order

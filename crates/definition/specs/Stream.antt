@@ -1,7 +1,7 @@
 -- "When a call is declined", 8 and 10 of a stream: what a record and the lent rooms have to meet. A record that was not made by a load or a
 -- fresh stream, or rooms of other lengths, are answered 10.
 use Prim.Native.Nat.{ℕ, _+_, _-_, _*_, max}
-use mathlib.Core.Bool.{Bool, true, not, _&&_}
+use mathlib.Core.Bool.{Bool, true, not, _&&_, _||_}
 use mathlib.Core.List.{List, [], _∷_}
 use lib.ListN.{take}
 use lib.Dec.{eqb, leb, ltb}
@@ -72,7 +72,8 @@ unfoldable pub rising : ℕ → List ℕ → Bool
 rising n [] = true
 rising n (f ∷ fs) = leb n f && rising f fs
 
--- what makes a record broken, the waiting frames lying in the room `waiting`; the mark above the floor less left context is request 8's
+-- what makes a record broken, the waiting frames lying in the room `waiting`; the mark above the floor less left context is request 8's,
+-- the windows are request 12's
 unfoldable pub breaks : IvectorStream → List ℕ → List Bool
 breaks s waiting =
     let o = s .info .opts in
@@ -84,8 +85,9 @@ breaks s waiting =
     ∷ ltb (s .accepted) (s .«num_frames_stats»)
     ∷ ltb (s .«num_frames_stats» - o .«left_context») (s .mark)
     ∷ ltb (s .floor - o .«left_context») (s .mark)
+    ∷ (eqb (s .window) 0 || ltb (s .longest) (s .window) || ltb 1000 (s .longest))
     ∷ ltb (rowsIn (s .lengths .rings .frames) (d .«base_dim»)) (framesHeld (s .accepted) (s .mark))
-    ∷ ltb (rowsIn (s .lengths .rings .rows) (d .«base_dim»)) (rowsHeld (o .«cmn_window») (s .accepted) (s .mark))
+    ∷ ltb (rowsIn (s .lengths .rings .rows) (d .«base_dim»)) (rowsHeld (s .longest) (s .accepted) (s .mark))
     ∷ ltb (waitingRoom (s .lengths .rings)) (s .waiting)
     ∷ not (rising 0 held)
     ∷ anyOf (λ f. ltb (f - o .«left_context») (s .mark)) held ∷ []

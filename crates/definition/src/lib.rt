@@ -100,6 +100,8 @@ pub struct IvectorStream {
     pub input_finished: bool,
     pub num_frames: f64,
     pub floor: usize,
+    pub window: usize,
+    pub longest: usize,
 }
 
 // The answer of a call on a stream. A fetch's vector is in the output that it is lent; how many of its numbers are not finite, and how many

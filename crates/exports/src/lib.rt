@@ -29,7 +29,7 @@ ghost use Rattle.definition.specs.Machine.{framesReady};
 ghost use Rattle.definition.specs.Stream.{newRefusal};
 ghost use Rattle.definition.specs.Silence.{TableRooms, tableRooms, newTable, active, computeCurrentTraceback, getDeltaWeights, tableCall, tableDone};
 ghost use Rattle.program.specs.Rooms.{Rings, ringsFrom, estimateFrom, Rooms, roomsFrom, roomLengthsOf};
-ghost use Rattle.program.specs.Calls.{newAnswer, freshRooms, ringCall, doneOn, pushFrame, setInputFinished, updateFrameWeights, forgetBefore, Step, fetchCall, fetchedOn, getFrame};
+ghost use Rattle.program.specs.Calls.{newAnswer, freshRooms, ringCall, doneOn, pushFrame, setInputFinished, updateFrameWeights, forgetBefore, setCmnWindow, Step, fetchCall, fetchedOn, getFrame};
 ghost use Rattle.nearest_voice.specs.Voice.{nearestVoice, voiceAnswer};
 ghost use Rattle.program.specs.Session.{program};
 ghost use Rattle.registers.specs.Board.{Board, board, blockRefusal, boardStep, FetchTaken};
@@ -159,6 +159,7 @@ pub extern "C" fn shofrakin_load(
 fn no_stream(info: IvectorInfo) -> IvectorStream
     ensures { λ r. ⌜ r ≡ noStream info ⌝ }
 {
+    let o = info.opts;
     IvectorStream {
         info,
         lengths: RoomLengths {
@@ -185,6 +186,8 @@ fn no_stream(info: IvectorInfo) -> IvectorStream
         input_finished: false,
         num_frames: 0.0,
         floor: 0,
+        window: o.cmn_window,
+        longest: o.cmn_window,
     }
 }
 
@@ -360,6 +363,36 @@ pub extern "C" fn shofrakin_forget_before(
     let c = ivector_stream::forget_before(*s, frame, frames, rows, waiting_frames, waiting_weights);
     s.mark = c.stream.mark;
     s.floor = c.stream.floor;
+    s.longest = c.stream.longest;
+    c.answer
+}
+
+// `ivector_stream::set_cmn_window`: the window of the fetches to come.
+#[no_mangle]
+pub extern "C" fn shofrakin_set_cmn_window(
+    s: &mut IvectorStream,
+    window: usize,
+    frames: &[f32],
+    rows: &[f64],
+    waiting_frames: &[usize],
+    waiting_weights: &[f32],
+) -> StreamAnswer
+    ensures { λ r. ⌜ (
+        let s₀ : IvectorStream = now (s .entry) in
+        let z : Rings = ringsFrom (now (frames .entry)) (now (rows .entry)) (now («waiting_frames» .entry)) (now («waiting_weights» .entry)) in
+        ringCall (answered r (now (s .exit))) (ringsFrom (now (frames .entry)) (now (rows .entry)) (now («waiting_frames» .entry)) (now («waiting_weights» .entry)))
+        ≡ doneOn s₀ z (setCmnWindow s₀ z window)) ⌝ }
+{
+    let c = ivector_stream::set_cmn_window(
+        *s,
+        window,
+        frames,
+        rows,
+        waiting_frames,
+        waiting_weights,
+    );
+    s.window = c.stream.window;
+    s.longest = c.stream.longest;
     c.answer
 }
 

@@ -1,5 +1,5 @@
 -- What a fetch leaves: the record, the rooms and the vector, by the parts that code makes.
-use mathlib.Core.Path.{_≡_, refl, sym, ap, ap₂, _∙_}
+use mathlib.Core.Path.{_≡_, refl, sym, ap, ap₂, subst, _∙_}
 use mathlib.Core.Bool.{Bool, true, false}
 use mathlib.Core.List.{List, [], _∷_}
 use Prim.Native.Nat.{ℕ, zero, suc, _+_, _-_, _≤_, _<_}
@@ -15,17 +15,18 @@ use Rattle.loops.proofs.Choose.{by-test, choose-true, choose-false}
 use Rattle.loops.proofs.Fill.{over-at, over-take}
 use Rattle.loops.proofs.Refusal.{taken-new, taken-old}
 use Rattle.floats.specs.Operators.{at}
+use Rattle.definition.specs.declared.IvectorInfo.{IvectorInfo}
 use Rattle.definition.specs.declared.IvectorStream.{IvectorStream}
 use Rattle.definition.specs.declared.StreamCall.{StreamCall}
-use Rattle.definition.specs.Model.{Tables, tableLengthsOf, modelIn}
+use Rattle.definition.specs.Model.{Tables, inForce, tableLengthsOf, modelIn}
 use Rattle.definition.specs.Posteriors.{unweighted}
-use Rattle.definition.specs.Changes.{Change, Changes, reached, batch}
+use Rattle.definition.specs.Changes.{Change, Changes, Batch, reached, batch}
 use Rattle.definition.specs.Estimate.{Estimate, updated, nansOver}
 use Rattle.definition.specs.Machine.{bitsOf, notFinite}
 use Rattle.definition.specs.Stream.{rising}
 use Rattle.definition.proofs.Lengths.{Long, updated-long}
 use Rattle.definition.proofs.Ranges.{Fitting, fitting}
-use Rattle.program.specs.Rooms.{ringsFrom, EstimateRooms, estimateFrom, Rooms, roomsFrom, roomLengthsOf, waitingIn, framesOf, weightsOf, framesIn, changesIn, estimateIn}
+use Rattle.program.specs.Rooms.{ringsFrom, EstimateRooms, estimateFrom, Rooms, roomsFrom, roomLengthsOf, waitingIn, framesOf, weightsOf, ringFrames, framesIn, changesIn, estimateAt, estimateIn}
 use Rattle.program.specs.Calls.{callOf, overWaiting, Step, fetchCall, fetchedOn, fetchRefusal, getFrame, catchesUp, fetchEstimate, fetchChanges, fetchStream, overEstimate, fetchRooms, fetchVector, fetchNans}
 use Rattle.program.proofs.WaitingRooms.{length-waiting, frames-waiting, weights-waiting}
 use Rattle.program.proofs.InOrder.{waiting-early, waiting-late}
@@ -48,6 +49,10 @@ those-pass p d (x ∷ xs) k l =
     by-test (p x) (λ t. rw t (first-pass p d x (those p xs) t (λ j m. those-pass p d xs j m) k (rw t at l))) (λ t. rw t (those-pass p d xs k (rw t at l)))
 
 module _ (s : IvectorStream) (z : Rooms) (f : ℕ) where
+  -- the model's record with the window in force
+  abbrev now : IvectorInfo
+  now = inForce (s .info) (s .window)
+
   abbrev W : List Change
   W = waitingIn (s .waiting) (z .rings .waiting-frames) (z .rings .waiting-weights)
 
@@ -67,27 +72,37 @@ module _ (s : IvectorStream) (z : Rooms) (f : ℕ) where
         ap (λ (l : List Change). getD l j (0, nan)) early ∙ at-build (0, nan) k (λ i. (getD (z .rings .waiting-frames) i 0, at (z .rings .waiting-weights) i)) j p in
         leb-true _ _ (ap (λ (d : Change). leb (d .0) f) (sym g) ∙ h)
 
-    batch-is : batchOf (s .info .opts) (s .«delta_weights_provided») (s .«num_frames_stats») f (waitingIn k (z .rings .waiting-frames) (z .rings .waiting-weights))
-        ≡ batch (s .info .opts) (changesIn s (z .rings)) (s .«num_frames_stats») f
+    batch-is : batchOf (now .opts) (s .«delta_weights_provided») (s .«num_frames_stats») f (waitingIn k (z .rings .waiting-frames) (z .rings .waiting-weights))
+        ≡ batch (now .opts) (changesIn s (z .rings)) (s .«num_frames_stats») f
     unfolding batch
     batch-is =
-        ap (λ (cs : List Change). if s .«delta_weights_provided» then changesBatch (s .info .opts) cs else run (s .«num_frames_stats») (unweighted (s .info .opts)) (f + 1 - s .«num_frames_stats»)) (sym early)
+        ap (λ (cs : List Change). if s .«delta_weights_provided» then changesBatch (now .opts) cs else run (s .«num_frames_stats») (unweighted (now .opts)) (f + 1 - s .«num_frames_stats»)) (sym early)
 
-    pub few-frames : length (batchOf (s .info .opts) (s .«delta_weights_provided») (s .«num_frames_stats») f (waitingIn k (z .rings .waiting-frames) (z .rings .waiting-weights))) ≤ f + 1
-    few-frames =
-        rw batch-is (batch-short f (s .info .opts) (changesIn s (z .rings)) (s .«num_frames_stats»)
+    few-now : length (batchOf (now .opts) (s .«delta_weights_provided») (s .«num_frames_stats») f (waitingIn k (z .rings .waiting-frames) (z .rings .waiting-weights))) ≤ f + 1
+    few-now =
+        rw batch-is (batch-short f (now .opts) (changesIn s (z .rings)) (s .«num_frames_stats»)
         (ap (rising 0) (frames-waiting (s .waiting) (z .rings .waiting-frames) (z .rings .waiting-weights) l) ∙ o))
 
-    module _ (t : Tables) (h : s .«num_frames_stats» ≤ f) where
+    -- by a record i that code made of it
+    abbrev batchBy : IvectorInfo → Batch
+    batchBy i = batchOf (i .opts) (s .«delta_weights_provided») (s .«num_frames_stats») f (waitingIn k (z .rings .waiting-frames) (z .rings .waiting-weights))
+
+    pub few-frames : {i : IvectorInfo} → i ≡ now → length (batchBy i) ≤ f + 1
+    few-frames e = subst (λ (i : IvectorInfo). length (batchBy i) ≤ f + 1) (sym e) few-now
+
+    module _ (t : Tables) (h : s .«num_frames_stats» ≤ f) {i : IvectorInfo} (same : i ≡ now) where
+      abbrev by : IvectorInfo → Estimate
+      by i = updated (modelIn i t) (ringFrames (i .dims .«base_dim») (s .accepted) (z .rings .frames) (z .rings .rows)) (batchBy i) (estimateAt (i .dims) (s .«num_frames») (z .estimate))
+
       abbrev E : Estimate
-      E = updated (modelIn (s .info) t) (framesIn s (z .rings)) (batchOf (s .info .opts) (s .«delta_weights_provided») (s .«num_frames_stats») f (waitingIn k (z .rings .waiting-frames) (z .rings .waiting-weights))) (estimateIn s (z .estimate))
+      E = by i
 
       up : catchesUp s f ≡ true
       up = le-leb _ _ h
 
       estimate-up : E ≡ fetchEstimate s t z f
       unfolding fetchEstimate
-      estimate-up = choose-true _ up (ap (λ (b : _). updated (modelIn (s .info) t) (framesIn s (z .rings)) b (estimateIn s (z .estimate))) batch-is)
+      estimate-up = ap by same ∙ choose-true _ up (ap (λ (b : _). updated (modelIn now t) (framesIn s (z .rings)) b (estimateIn s (z .estimate))) batch-is)
 
       changes-up : reached (changesIn s (z .rings)) f ≡ fetchChanges s (z .rings) f
       unfolding fetchChanges
@@ -113,6 +128,8 @@ module _ (s : IvectorStream) (z : Rooms) (f : ℕ) where
             «input_finished» = s .«input_finished»;
             «num_frames» = n;
             floor = s .floor;
+            window = s .window;
+            longest = s .longest;
           } ≡ fetchStream s t z f
       unfolding fetchStream reached
       stream-up g = rw (g ∙ ap (λ (e : Estimate). e .stats .num-frames) estimate-up, length-up, sym changes-up, up)
@@ -123,11 +140,13 @@ module _ (s : IvectorStream) (z : Rooms) (f : ℕ) where
       rooms-up p q r =
           rw (p ∙ ap (λ (c : List Change). over (framesOf c) (z .rings .waiting-frames)) left-up, q ∙ ap (λ (c : List Change). over (weightsOf c) (z .rings .waiting-weights)) left-up, r ∙ ap (λ (e : Estimate). overEstimate e (z .estimate)) estimate-up)
 
+      abbrev nansBy : IvectorInfo → ℕ
+      nansBy i = nansOver (modelIn i t) (ringFrames (i .dims .«base_dim») (s .accepted) (z .rings .frames) (z .rings .rows)) (batchBy i) (estimateAt (i .dims) (s .«num_frames») (z .estimate) .cmvn)
+
       pub nans-up : {n : ℕ}
-          → n ≡ nansOver (modelIn (s .info) t) (framesIn s (z .rings)) (batchOf (s .info .opts) (s .«delta_weights_provided») (s .«num_frames_stats») f (waitingIn k (z .rings .waiting-frames) (z .rings .waiting-weights)))
-          (estimateIn s (z .estimate) .cmvn) → n ≡ fetchNans s t z f
+          → n ≡ nansBy i → n ≡ fetchNans s t z f
       unfolding fetchNans
-      nans-up g = g ∙ choose-true _ up (ap (λ (b : _). nansOver (modelIn (s .info) t) (framesIn s (z .rings)) b (estimateIn s (z .estimate) .cmvn)) batch-is)
+      nans-up g = g ∙ ap nansBy same ∙ choose-true _ up (ap (λ (b : _). nansOver (modelIn now t) (framesIn s (z .rings)) b (estimateIn s (z .estimate) .cmvn)) batch-is)
 
 -- ---- once a fetch is taken
 
@@ -194,7 +213,7 @@ module _ (s : IvectorStream) (t : Tables) (z : Rooms) (f : ℕ) {scratch n : ℕ
 
   vector-long : length (fetchEstimate s t z f .current) ≡ s .info .dims .«ivector_dim»
   unfolding fetchEstimate
-  vector-long = by-test (catchesUp s f) (λ e. rw e (updated-long (modelIn (s .info) t) (framesIn s (z .rings)) _ (estimateIn s (z .estimate)) long .current-is)) (λ e. rw e (long .current-is))
+  vector-long = by-test (catchesUp s f) (λ e. rw e (updated-long (modelIn (inForce (s .info) (s .window)) t) (framesIn s (z .rings)) _ (estimateIn s (z .estimate)) long .current-is)) (λ e. rw e (long .current-is))
 
   vector-is : (m : ℕ) {cur : List Float} → m ≡ s .info .dims .«ivector_dim» → cur ≡ fetchRooms s t z f .estimate .current
       → build m (λ i. fetchedAt (s .info .«prior_offset») i (at cur i)) ≡ fetchVector s t z f

@@ -6,15 +6,17 @@ use Prim.Native.Nat.{ℕ, _-_, _≤_, _<_}
 use native.Mathlib.Omega.{arith}
 use lib.Dec.{eqb, leb}
 use borrow.Author.Tests.{not-false, not-true, eqb-true, lt-leb, le-leb, leb-false}
-use Rattle.loops.proofs.Choose.{by-test, and-first, and-second, and-holds}
+use Rattle.loops.proofs.Choose.{by-test, and-first, and-second, and-holds, and-both}
 use Rattle.loops.proofs.Refusal.{NoneFirst, FirstAt, numberAt, none-first, first-here, first-past, first-is, first-none}
-use Rattle.loops.proofs.Tests.{each-pair}
+use Rattle.loops.proofs.Tests.{each-of, of-each, each-pair}
+use Rattle.definition.specs.declared.IvectorInfo.{IvectorInfo}
 use Rattle.definition.specs.declared.IvectorStream.{IvectorStream}
 use Rattle.definition.specs.declared.RingLengths.{RingLengths}
 use Rattle.definition.specs.declared.EstimateLengths.{EstimateLengths}
 use Rattle.definition.specs.declared.RoomLengths.{RoomLengths}
 use Rattle.definition.specs.declared.TableLengths.{TableLengths}
-use Rattle.definition.specs.Model.{tableLengths, tablesFit}
+use Rattle.definition.specs.Options.{optionsInRange, dimsAgree}
+use Rattle.definition.specs.Model.{inForce, tableLengths, tablesFit}
 use Rattle.definition.specs.Machine.{framesReady, fetchTests}
 use Rattle.definition.specs.Stream.{recordSound, infoSound, roomsFit, isBroken, sameTables, sameRings, sameRooms, ringLengths, estimateLengths}
 use Rattle.definition.proofs.Ranges.{info-sound}
@@ -64,6 +66,19 @@ same-rooms a b e =
     (four (λ (p q r s : ℕ). record { «cmvn_stats» = p; linear = q; quadratic = r; current = s; scratch = a .estimate .scratch })
     (eqb-true _ _ (k .0)) (eqb-true _ _ (k .1 .0)) (eqb-true _ _ (k .1 .1 .0)) (eqb-true _ _ (k .1 .1 .1 .0))
     ∙ ap (λ (p : ℕ). record { «cmvn_stats» = b .estimate .«cmvn_stats»; linear = b .estimate .linear; quadratic = b .estimate .quadratic; current = b .estimate .current; scratch = p }) (eqb-true _ _ (k .1 .1 .1 .1 .0)))
+
+-- ---- a model's record with another window in its range
+
+sound-in-force : (i : IvectorInfo) (w : ℕ) → 0 < w → w ≤ 1000 → recordSound i ≡ true → recordSound (inForce i w) ≡ true
+unfolding recordSound optionsInRange dimsAgree
+sound-in-force i w p q e =
+    let h = each-of (λ t. t) _ e in
+    let o = each-of (λ t. t) _ (h .0) in
+    of-each (λ t. t) _ (of-each (λ t. t) _ (o .0, (o .1 .0, (and-both (leb 1 w) (leb w 1000) (le-leb 1 w p) (le-leb w 1000 q), o .1 .1 .1))), h .1)
+
+tables-in-force : (i : IvectorInfo) (w : ℕ) (t : TableLengths) → tablesFit (inForce i w .opts) (i .dims) t ≡ tablesFit (i .opts) (i .dims) t
+unfolding tablesFit
+tables-in-force i w t = refl
 
 module _ (s : IvectorStream) (t : TableLengths) (z : RoomLengths) (fs : List ℕ) (f n : ℕ) where
   abbrev pub fetchList : List (Bool × ℕ)
@@ -118,12 +133,14 @@ module _ (s : IvectorStream) (t : TableLengths) (w : Rooms) (scratch f n : ℕ) 
 
   -- what the arithmetic of a fetch asks of the record, the tables and the rooms
   module _ (T : FetchTaken) where
-    pub record-is : recordSound (s .info) ≡ true
+    pub record-is : recordSound (inForce (s .info) (s .window)) ≡ true
     unfolding infoSound
-    record-is = and-holds (recordSound (s .info)) _ (T .passed .whole-is .info-is) .0
+    record-is =
+        let w = T .passed .whole-is in
+        sound-in-force (s .info) (s .window) (w .some-window) (omega (arith, w .window-is, w .longest-is)) (and-holds (recordSound (s .info)) _ (w .info-is) .0)
 
-    pub tables-fit : tablesFit (s .info .opts) (s .info .dims) t ≡ true
-    tables-fit = subst (λ (y : TableLengths). tablesFit (s .info .opts) (s .info .dims) y ≡ true) (sym (T .tables-are)) (info-sound (s .info) (T .passed .whole-is .info-is) .1)
+    pub tables-fit : tablesFit (inForce (s .info) (s .window) .opts) (s .info .dims) t ≡ true
+    tables-fit = tables-in-force (s .info) (s .window) t ∙ subst (λ (y : TableLengths). tablesFit (s .info .opts) (s .info .dims) y ≡ true) (sym (T .tables-are)) (info-sound (s .info) (T .passed .whole-is .info-is) .1)
 
     pub rooms-fit : roomsFit (s .info .dims) z ≡ true
     rooms-fit = subst (λ (y : RoomLengths). roomsFit (s .info .dims) y ≡ true) (sym (T .rooms-are)) (T .passed .whole-is .rooms-fit)

@@ -1,5 +1,6 @@
 // `IvectorStream::get_frame`: the fetch, in a crate of its own so that a check of the other calls stays short.
 use definition::EstimateLengths;
+use definition::IvectorInfo;
 use definition::IvectorStream;
 use definition::RingLengths;
 use definition::RoomLengths;
@@ -14,7 +15,7 @@ ghost use lib.Ieee.{binary32, toBits};
 ghost use lib.Ieee.Scale.{finite};
 ghost use Rattle.loops.specs.Lists.{if_then_else_, build, over};
 ghost use Rattle.floats.specs.Operators.{at};
-ghost use Rattle.definition.specs.Model.{Tables, tablesFrom};
+ghost use Rattle.definition.specs.Model.{Tables, tablesFrom, inForce};
 ghost use Rattle.definition.specs.Machine.{bitsOf, notFinite};
 ghost use Rattle.program.specs.Rooms.{ringsFrom, estimateFrom, Rooms, roomsFrom};
 ghost use Rattle.program.specs.Calls.{Step, fetchCall, fetchedOn, fetchRefusal, getFrame};
@@ -75,6 +76,17 @@ fn fetch_refusal(
     0
 }
 
+// The model's record with the window in force in place of the options' own.
+fn in_force(info: IvectorInfo, window: usize) -> IvectorInfo
+    ensures { λ r. ⌜ r ≡ inForce info window ⌝ }
+{
+    let mut o = info.opts;
+    o.cmn_window = window;
+    let mut i = info;
+    i.opts = o;
+    i
+}
+
 // Element i of the vector that a fetch answers, x being that of the current vector: the prior is taken off element 0.
 fn fetched_at(prior_offset: f64, i: usize, x: f64) -> f32
     ensures { λ r. ⌜ r ≡ fetchedAt «prior_offset» i x ⌝ }
@@ -122,7 +134,7 @@ fn write_vector(prior_offset: f64, current: &[f64], n: usize, out: &mut [u32]) -
     bad
 }
 
-// The i-vector for `frame`: where that frame is not in the statistics yet, they are brought up to it, the estimate is refreshed and the
+// The i-vector for `frame`: where that frame is not in the statistics yet, they are brought up to it by the window in force, the estimate is refreshed and the
 // changes that were used wait no longer; the prior is taken off element 0. `out` takes the bits of its numbers. The answer has the count of
 // those not finite, and of the NaN likelihoods of the frames that were brought in: 0 where there are none. A refusal leaves every room as it
 // was; scratch is free once a fetch is taken.
@@ -192,9 +204,10 @@ pub fn get_frame(
         let bad = write_vector(i.prior_offset, current, out.len(), out);
         return ivector_stream::reply(0, s, bad, 0);
     }
+    let now = in_force(i, s.window);
     let n = delta_weights::up_to(waiting_frames, s.waiting, frame);
     let update = ivector_update::update_rooms(
-        i,
+        now,
         s.accepted,
         s.delta_weights_provided,
         s.num_frames_stats,

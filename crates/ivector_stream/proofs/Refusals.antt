@@ -12,18 +12,19 @@ use lib.Ieee.Scale.{finite}
 use borrow.Author.Tests.{not-false, eqb-true, eqb-false, eq-eqb, ne-eqb, lt-ltb, le-ltb, ltb-false}
 use Rattle.loops.specs.Lists.{anyOf}
 use Rattle.loops.specs.Refusal.{firstOf}
-use Rattle.loops.proofs.Choose.{or-first, or-second, or-none, or-fails}
+use Rattle.loops.proofs.Choose.{and-first, and-second, and-both, or-first, or-second, or-none, or-fails}
 use Rattle.loops.proofs.Refusal.{NoneFirst, FirstAt, numberAt, none-first}
 use Rattle.definition.specs.declared.IvectorInfo.{IvectorInfo}
 use Rattle.definition.specs.declared.IvectorStream.{IvectorStream}
 use Rattle.definition.specs.declared.RoomLengths.{RoomLengths}
 use Rattle.definition.specs.declared.TableLengths.{TableLengths}
+use Rattle.definition.specs.Options.{within}
 use Rattle.definition.specs.Model.{tablesFit}
-use Rattle.definition.specs.Machine.{waitingRoom, maxChanges, pushTests, changeTests}
+use Rattle.definition.specs.Machine.{waitingRoom, maxChanges, pushTests, changeTests, windowTests}
 use Rattle.definition.specs.Stream.{recordSound, sameTables, roomsFit, newRefusal}
 use Rattle.definition.proofs.Ranges.{DimRanges, dim-ranges, record-sound, Fitting, fitting}
 use Rattle.program.specs.Rooms.{Rings}
-use Rattle.program.specs.Calls.{recordTests, pushFrame, updateFrameWeights}
+use Rattle.program.specs.Calls.{recordTests, pushFrame, updateFrameWeights, setCmnWindow}
 use Rattle.ivector_stream.proofs.Records.{Passed, tests-passed, other-few, already, then-first, then-none}
 
 -- the first k tests fail, and P
@@ -59,7 +60,7 @@ new-taken i t z e g =
 
 module _ (s : IvectorStream) (z : Rings) (x : List Float) where
   abbrev pub push-tests : List (Bool × ℕ)
-  push-tests = pushTests (s .info .opts) (s .info .dims) (s .lengths .rings) (s .accepted) (s .mark) x
+  push-tests = pushTests (s .info .dims) (s .lengths .rings) (s .longest) (s .accepted) (s .mark) x
 
   pub record PushTaken : Type 0 where
     pub passed : Passed s z
@@ -175,3 +176,41 @@ module _ (s : IvectorStream) (z : Rings) (gs : List ℕ) (ws : List Float) where
     pub change-none : r ≡ 0 → NoneFirst change-tests → 0 ≡ updateFrameWeights s z gs ws .refusal
     unfolding updateFrameWeights
     change-none = then-none s z change-tests e
+
+-- ---- a new window
+
+module _ (s : IvectorStream) (z : Rings) (w : ℕ) where
+  abbrev pub window-tests : List (Bool × ℕ)
+  window-tests = windowTests (s .longest) (s .mark) w
+
+  pub window-taken : {r : ℕ} → r ≡ setCmnWindow s z w .refusal → r ≡ 0 → Passed s z
+  unfolding setCmnWindow windowTests
+  window-taken e g = let h = none-first (recordTests s z ++ window-tests) tt (sym e ∙ g) in tests-passed s z (h .0) (h .1 .0)
+
+  pub window-few : {r : ℕ} → r ≡ setCmnWindow s z w .refusal → (r ≡ 10 → ⊥) → (s .accepted ≤ 1000000000) × (s .mark ≤ 1000000000)
+  unfolding setCmnWindow
+  window-few = other-few s z window-tests
+
+  -- by its tests
+  module _ {r : ℕ} (e : r ≡ firstOf (recordTests s z)) where
+    pub window-already : (r ≡ 0 → ⊥) → r ≡ setCmnWindow s z w .refusal
+    unfolding setCmnWindow
+    window-already = already s z window-tests e
+
+    module _ (h : r ≡ 0) where
+      pub window-out : within 1 1000 w ≡ false → 31 ≡ setCmnWindow s z w .refusal
+      unfolding setCmnWindow windowTests
+      window-out f = then-first s z window-tests e h 0 (ap not f)
+
+      module _ (f : within 1 1000 w ≡ true) where
+        pub window-within : w ≤ s .longest → 0 ≡ setCmnWindow s z w .refusal
+        unfolding setCmnWindow windowTests
+        window-within g = then-none s z window-tests e h (ap not f, (and-first (ltb (s .longest) w) _ (le-ltb _ _ g), tt))
+
+        pub window-gone : s .longest < w → s .longest ≤ s .mark → 32 ≡ setCmnWindow s z w .refusal
+        unfolding setCmnWindow windowTests
+        window-gone g l = then-first s z window-tests e h 1 (ap not f, and-both (ltb (s .longest) w) _ (lt-ltb _ _ g) (lt-ltb (s .longest) (s .mark + 1) (omega arith)))
+
+        pub window-above : s .mark < s .longest → 0 ≡ setCmnWindow s z w .refusal
+        unfolding setCmnWindow windowTests
+        window-above l = then-none s z window-tests e h (ap not f, (and-second (ltb (s .longest) w) _ (le-ltb (s .longest) (s .mark + 1) (omega arith)), tt))

@@ -41,7 +41,7 @@ module _ (r n m : ℕ) (s : IvectorStream) where
   unfolding answerOf
   reply-10 e = ap (λ (a : StreamAnswer). call a s) (choose-true _ (eq-eqb r 10 e) refl)
 
-  pub reply-held : {f w : ℕ} → (r ≡ 10 → ⊥) → f ≡ framesHeld (s .accepted) (s .mark) → w ≡ rowsHeld (s .info .opts .«cmn_window») (s .accepted) (s .mark)
+  pub reply-held : {f w : ℕ} → (r ≡ 10 → ⊥) → f ≡ framesHeld (s .accepted) (s .mark) → w ≡ rowsHeld (s .longest) (s .accepted) (s .mark)
       → call (answer r f w n m) s ≡ callOf r s n m
   unfolding answerOf
   reply-held {f} {w} h p q =
@@ -101,6 +101,8 @@ module _ (s : IvectorStream) (z : Rings) (gs : List ℕ) (vs : List Float) where
         «input_finished» = s .«input_finished»;
         «num_frames» = s .«num_frames»;
         floor = s .floor;
+        window = s .window;
+        longest = s .longest;
       } ≡ withChanges s after (s .«num_frames_stats») (s .«num_frames»)
   unfolding changed
   changed-stream e = rw (changed-length, e)

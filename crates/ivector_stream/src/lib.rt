@@ -25,10 +25,10 @@ ghost use Rattle.definition.specs.Kaldi.{triangle};
 ghost use Rattle.definition.specs.Model.{Tables, tablesFrom, tableLengthsOf};
 ghost use Rattle.definition.specs.Statistics.{newStats};
 ghost use Rattle.definition.specs.Solve.{priorVector};
-ghost use Rattle.definition.specs.Machine.{framesReady};
+ghost use Rattle.definition.specs.Machine.{framesReady, longestFrom};
 ghost use Rattle.definition.specs.Stream.{rising, newRefusal, sameRings};
 ghost use Rattle.program.specs.Rooms.{Rings, ringsFrom, ringLengthsOf, estimateFrom, Rooms, roomsFrom, roomLengthsOf};
-ghost use Rattle.program.specs.Calls.{callOf, newAnswer, freshRooms, ringCall, doneOn, recordTests, pushFrame, setInputFinished, updateFrameWeights, forgetBefore};
+ghost use Rattle.program.specs.Calls.{callOf, newAnswer, freshRooms, ringCall, doneOn, recordTests, pushFrame, setInputFinished, updateFrameWeights, forgetBefore, setCmnWindow};
 
 // ---- answers
 
@@ -54,10 +54,8 @@ pub fn reply(
             stream: s,
         };
     }
-    let i = s.info;
-    let o = i.opts;
     let frames_held = limits::frames_held(s.accepted, s.mark);
-    let rows_held = limits::rows_held(o.cmn_window, s.accepted, s.mark);
+    let rows_held = limits::rows_held(s.longest, s.accepted, s.mark);
     StreamCall {
         answer: StreamAnswer {
             refusal,
@@ -212,6 +210,7 @@ pub fn new(
     if refusal != 0 {
         return NewStream::Refused(refusal);
     }
+    let o = info.opts;
     let d = info.dims;
     basics::clear_front(rows, d.base_dim);
     basics::clear_front(cmvn_stats, d.base_dim + 1);
@@ -228,6 +227,8 @@ pub fn new(
         input_finished: false,
         num_frames: 0.0,
         floor: 0,
+        window: o.cmn_window,
+        longest: o.cmn_window,
     };
     let call = reply(0, stream, 0, 0);
     NewStream::Stream(call)
@@ -290,7 +291,6 @@ fn push_refusal(
         return refusal;
     }
     let i = s.info;
-    let o = i.opts;
     let d = i.dims;
     let z = s.lengths;
     let own = z.rings;
@@ -307,7 +307,7 @@ fn push_refusal(
     if own.frames < (frames_held + 1) * d.base_dim {
         return 14;
     }
-    let rows_held = limits::rows_held(o.cmn_window, s.accepted, s.mark);
+    let rows_held = limits::rows_held(s.longest, s.accepted, s.mark);
     if own.rows < (rows_held + 1) * d.base_dim {
         return 15;
     }
@@ -533,6 +533,16 @@ fn lowest(low: usize, waiting_frames: &[usize], n: usize) -> usize
     basics::smaller(low, waiting_frames[0])
 }
 
+// The longest window after a forget that brings the mark to `raised`: from a rise on it is the one in force.
+fn longest_from(window: usize, longest: usize, mark: usize, raised: usize) -> usize
+    ensures { λ r. ⌜ r ≡ longestFrom window longest mark raised ⌝ }
+{
+    if mark < raised {
+        return window;
+    }
+    longest
+}
+
 // An utterance begins at `frame`: no weight change may name a frame before it from now on.
 pub fn forget_before(
     mut s: IvectorStream,
@@ -555,8 +565,60 @@ pub fn forget_before(
     let reached = basics::smaller(frame, s.num_frames_stats);
     let first = lowest(reached, waiting_frames, s.waiting);
     let kept = basics::less(first, o.left_context);
-    s.mark = basics::larger(s.mark, kept);
+    let mark = basics::larger(s.mark, kept);
+    s.longest = longest_from(s.window, s.longest, s.mark, mark);
+    s.mark = mark;
     s.floor = basics::larger(s.floor, frame);
+    reply(0, s, 0, 0)
+}
+
+// ---- a new window
+
+fn window_refusal(
+    s: IvectorStream,
+    window: usize,
+    frames: &[f32],
+    rows: &[f64],
+    waiting_frames: &[usize],
+    waiting_weights: &[f32],
+) -> usize
+    ensures { λ r. ⌜ r ≡ setCmnWindow s (ringsFrom (now (frames .entry)) (now (rows .entry)) (now («waiting_frames» .entry)) (now («waiting_weights» .entry))) window .refusal ⌝ }
+{
+    let refusal = plain_refusal(s, frames, rows, waiting_frames, waiting_weights);
+    if refusal != 0 {
+        return refusal;
+    }
+    if !limits::window_in_range(window) {
+        return 31;
+    }
+    if window <= s.longest {
+        return 0;
+    }
+    if s.longest <= s.mark {
+        return 32;
+    }
+    0
+}
+
+// The window of the fetches to come. What is known so far carries over: CMVN state, statistics and waiting changes.
+pub fn set_cmn_window(
+    mut s: IvectorStream,
+    window: usize,
+    frames: &[f32],
+    rows: &[f64],
+    waiting_frames: &[usize],
+    waiting_weights: &[f32],
+) -> StreamCall
+    ensures { λ r. ⌜ (
+        let z : Rings = ringsFrom (now (frames .entry)) (now (rows .entry)) (now («waiting_frames» .entry)) (now («waiting_weights» .entry)) in
+        ringCall r z ≡ doneOn s z (setCmnWindow s z window)) ⌝ }
+{
+    let refusal = window_refusal(s, window, frames, rows, waiting_frames, waiting_weights);
+    if refusal != 0 {
+        return reply(refusal, s, 0, 0);
+    }
+    s.window = window;
+    s.longest = basics::larger(s.longest, window);
     reply(0, s, 0, 0)
 }
 

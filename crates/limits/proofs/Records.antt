@@ -9,10 +9,10 @@ use lib.Seq.{take-all, take-length}
 use native.Mathlib.Nat.{min-eq-left, min-eq-right}
 use native.Mathlib.Decide.{decLe}
 use lib.Dec.{leb, ltb, eqb}
-use borrow.Author.Tests.{ltb-false, not-false, le-leb, lt-leb}
+use borrow.Author.Tests.{eqb-false, eq-eqb, ne-eqb, ltb-false, lt-ltb, le-ltb, not-false, le-leb, lt-leb}
 use Rattle.loops.specs.Lists.{allOf, anyOf}
 use Rattle.loops.specs.Ring.{rowsIn}
-use Rattle.loops.proofs.Choose.{and-first}
+use Rattle.loops.proofs.Choose.{and-first, or-first, or-second, or-none, or-skip, or-fails}
 use Rattle.loops.proofs.Tests.{none-of, at-some, at-fail}
 use Rattle.definition.specs.declared.IvectorOptions.{IvectorOptions}
 use Rattle.definition.specs.declared.Dimensions.{Dimensions}
@@ -105,6 +105,21 @@ module _ (d : Dimensions) (z : RoomLengths) where
       pair-last leb (estimateSizes d) (estimateLengths (z .estimate)) 4 refl refl h
       ∙ all-last 2 _ refl (le-leb _ _ f, (le-leb _ _ r, tt))
 
+-- ---- windows: one test holds, or the last decides
+
+module _ (window longest : ℕ) where
+  abbrev broken : Bool
+  broken = eqb window 0 || ltb longest window || ltb 1000 longest
+
+  pub no-window : window ≡ 0 → true ≡ broken
+  no-window e = sym (or-first (eqb window 0 || ltb longest window) _ (or-first (eqb window 0) _ (eq-eqb window 0 e)))
+
+  pub longest-short : longest < window → true ≡ broken
+  longest-short h = sym (or-first (eqb window 0 || ltb longest window) _ (or-second (eqb window 0) _ (lt-ltb longest window h)))
+
+  pub longest-last : (window ≡ 0 → ⊥) → window ≤ longest → ltb 1000 longest ≡ broken
+  longest-last e h = sym (or-skip (eqb window 0 || ltb longest window) _ (or-none (eqb window 0) _ (ne-eqb window 0 e) (le-ltb longest window h)))
+
 -- ---- a record
 
 pub record Whole (s : IvectorStream) (waiting : List ℕ) : Type 0 where
@@ -114,8 +129,11 @@ pub record Whole (s : IvectorStream) (waiting : List ℕ) : Type 0 where
   pub next-is : s .«num_frames_stats» ≤ s .accepted
   pub mark-is : s .mark ≤ s .«num_frames_stats» - s .info .opts .«left_context»
   pub floor-is : s .mark ≤ s .floor - s .info .opts .«left_context»
+  pub some-window : 0 < s .window
+  pub window-is : s .window ≤ s .longest
+  pub longest-is : s .longest ≤ 1000
   pub frames-fit : s .accepted - s .mark ≤ rowsIn (s .lengths .rings .frames) (s .info .dims .«base_dim»)
-  pub rows-fit : s .accepted + 1 - (s .mark + 1 - s .info .opts .«cmn_window») ≤ rowsIn (s .lengths .rings .rows) (s .info .dims .«base_dim»)
+  pub rows-fit : s .accepted + 1 - (s .mark + 1 - s .longest) ≤ rowsIn (s .lengths .rings .rows) (s .info .dims .«base_dim»)
   pub waiting-fit : s .waiting ≤ waitingRoom (s .lengths .rings)
   pub in-order : rising 0 (take (s .waiting) waiting) ≡ true
   pub held-back : anyOf (λ f. ltb (f - s .info .opts .«left_context») (s .mark)) (take (s .waiting) waiting) ≡ false
@@ -124,6 +142,8 @@ pub whole : (s : IvectorStream) (waiting : List ℕ) → isBroken s waiting ≡ 
 unfolding isBroken breaks framesHeld rowsHeld
 whole s waiting e =
     let h = none-of (λ t. t) (breaks s waiting) e in
+    let windows = or-fails (eqb (s .window) 0 || ltb (s .longest) (s .window)) (ltb 1000 (s .longest)) (h .1 .1 .1 .1 .1 .1 .0) in
+    let short = or-fails (eqb (s .window) 0) (ltb (s .longest) (s .window)) (windows .0) in
     record {
       info-is = not-false _ (h .0);
       rooms-fit = not-false _ (h .1 .0);
@@ -131,11 +151,14 @@ whole s waiting e =
       next-is = ltb-false _ _ (h .1 .1 .1 .0);
       mark-is = ltb-false _ _ (h .1 .1 .1 .1 .0);
       floor-is = ltb-false _ _ (h .1 .1 .1 .1 .1 .0);
-      frames-fit = ltb-false _ _ (h .1 .1 .1 .1 .1 .1 .0);
-      rows-fit = ltb-false _ _ (h .1 .1 .1 .1 .1 .1 .1 .0);
-      waiting-fit = ltb-false _ _ (h .1 .1 .1 .1 .1 .1 .1 .1 .0);
-      in-order = not-false _ (h .1 .1 .1 .1 .1 .1 .1 .1 .1 .0);
-      held-back = h .1 .1 .1 .1 .1 .1 .1 .1 .1 .1 .0;
+      some-window = omega (arith, eqb-false (s .window) 0 (short .0));
+      window-is = ltb-false _ _ (short .1);
+      longest-is = ltb-false _ _ (windows .1);
+      frames-fit = ltb-false _ _ (h .1 .1 .1 .1 .1 .1 .1 .0);
+      rows-fit = ltb-false _ _ (h .1 .1 .1 .1 .1 .1 .1 .1 .0);
+      waiting-fit = ltb-false _ _ (h .1 .1 .1 .1 .1 .1 .1 .1 .1 .0);
+      in-order = not-false _ (h .1 .1 .1 .1 .1 .1 .1 .1 .1 .1 .0);
+      held-back = h .1 .1 .1 .1 .1 .1 .1 .1 .1 .1 .1 .0;
     }
 
 -- one of the tests holds
@@ -155,13 +178,13 @@ pub counts-at : (s : IvectorStream) (waiting : List ℕ) (k : ℕ) → k < lengt
 unfolding countsBroken
 counts-at s waiting k l h = sym (at-some (λ t. t) false (drop 2 (breaks s waiting)) k l h)
 
-pub waiting-last : (s : IvectorStream) (waiting : List ℕ) {n : ℕ} → n ≡ min (s .waiting) (length waiting) → FirstAre false 7 (drop 2 (breaks s waiting))
+pub waiting-last : (s : IvectorStream) (waiting : List ℕ) {n : ℕ} → n ≡ min (s .waiting) (length waiting) → FirstAre false 8 (drop 2 (breaks s waiting))
     → waitingBroken (take n waiting) (s .info .opts .«left_context») (s .mark) ≡ countsBroken s waiting
 unfolding countsBroken breaks waitingBroken anyOf
 waiting-last s waiting e h =
     ap (λ (l : List ℕ). waitingBroken l (s .info .opts .«left_context») (s .mark)) (ap (λ (k : ℕ). take k waiting) e ∙ take-min (s .waiting) waiting)
     ∙ ap (λ (t : Bool). not (rising 0 (take (s .waiting) waiting)) || t) (sym (or-false _))
-    ∙ any-rest 7 (drop 2 (breaks s waiting)) h
+    ∙ any-rest 8 (drop 2 (breaks s waiting)) h
 
 -- the first two fail
 pub counts-last : (s : IvectorStream) (waiting : List ℕ) {r : Bool} → r ≡ countsBroken s waiting → FirstAre false 2 (breaks s waiting) → r ≡ isBroken s waiting

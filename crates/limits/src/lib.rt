@@ -11,8 +11,9 @@ use definition::RingLengths;
 use definition::RoomLengths;
 use definition::TableLengths;
 ghost use mathlib.Core.Path.{_≡_};
-ghost use mathlib.Core.Bool.{true, _&&_};
+ghost use mathlib.Core.Bool.{true, _&&_, _||_};
 ghost use Prim.Native.Nat.{_≤_};
+ghost use lib.Dec.{eqb, ltb};
 ghost use lib.Ieee.{le, lt};
 ghost use Rattle.floats.specs.Operators.{zero₃₂, one₃₂};
 ghost use Rattle.definition.specs.Options.{within, optionsInRange, dimsInRange, dimsAgree};
@@ -40,6 +41,13 @@ fn is_share(p: f32) -> bool
         return p < 1.0;
     }
     false
+}
+
+// A window that may be set.
+pub fn window_in_range(n: usize) -> bool
+    ensures { λ r. ⌜ r ≡ within 1 1000 n ⌝ }
+{
+    in_limits(1, 1000, n)
 }
 
 // Refusal 1, where false.
@@ -306,11 +314,11 @@ pub fn frames_held(accepted: usize, mark: usize) -> usize
     less(accepted, mark)
 }
 
-pub fn rows_held(window: usize, accepted: usize, mark: usize) -> usize
+pub fn rows_held(longest: usize, accepted: usize, mark: usize) -> usize
     requires { ⌜ (accepted ≤ 1000000000) × (mark ≤ 1000000000) ⌝ }
-    ensures { λ r. ⌜ r ≡ rowsHeld window accepted mark ⌝ }
+    ensures { λ r. ⌜ r ≡ rowsHeld longest accepted mark ⌝ }
 {
-    let first = less(mark + 1, window);
+    let first = less(mark + 1, longest);
     less(accepted + 1, first)
 }
 
@@ -353,6 +361,19 @@ fn waiting_broken(held: &[usize], left: usize, mark: usize) -> bool
     first < mark
 }
 
+// Whether no call left these as the window in force and the longest.
+fn windows_broken(window: usize, longest: usize) -> bool
+    ensures { λ r. ⌜ r ≡ (eqb window 0 || ltb longest window || ltb 1000 longest) ⌝ }
+{
+    if window == 0 {
+        return true;
+    }
+    if longest < window {
+        return true;
+    }
+    1000 < longest
+}
+
 // The counts of a record and the waiting frames, which lie in `waiting`.
 fn counts_broken(s: IvectorStream, waiting: &[usize]) -> bool
     requires { ⌜ dimsInRange (s .info .dims) ≡ true ⌝ }
@@ -377,11 +398,14 @@ fn counts_broken(s: IvectorStream, waiting: &[usize]) -> bool
     if named < s.mark {
         return true;
     }
+    if windows_broken(s.window, s.longest) {
+        return true;
+    }
     let frames = frames_held(s.accepted, s.mark);
     if r.frames < frames * d.base_dim {
         return true;
     }
-    let rows = rows_held(o.cmn_window, s.accepted, s.mark);
+    let rows = rows_held(s.longest, s.accepted, s.mark);
     if r.rows < rows * d.base_dim {
         return true;
     }

@@ -94,6 +94,9 @@ module _ (i : IvectorInfo) (t : Tables) (z : Rooms) (n : ℕ) where
           next-is = omega arith;
           mark-is = omega arith;
           floor-is = omega arith;
+          some-window = ran .some-window;
+          window-is = omega arith;
+          longest-is = ran .window-is;
           frames-fit = omega arith;
           rows-fit = omega (arith, fit .rows-fit);
           waiting-fit = omega arith;

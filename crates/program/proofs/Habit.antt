@@ -10,7 +10,7 @@ use lib.ListN.{length, take, getD, length-append}
 use lib.Dec.{eqb, leb, ltb}
 use lib.Ieee.{Float}
 use borrow.Author.Tests.{eqb-true, eqb-false, leb-true, leb-false, ltb-true, ltb-false, le-ltb, ne-eqb}
-use Rattle.loops.specs.Lists.{if_then_else_, build, those, anyOf}
+use Rattle.loops.specs.Lists.{if_then_else_, build, those, anyOf, allOf}
 use Rattle.loops.specs.Refusal.{firstOf, taken}
 use Rattle.loops.specs.Ring.{rowsIn}
 use Rattle.loops.proofs.Choose.{by-test, and-holds, or-none, or-fails}
@@ -23,12 +23,12 @@ use Rattle.definition.specs.declared.RingLengths.{RingLengths}
 use Rattle.definition.specs.declared.RoomLengths.{RoomLengths}
 use Rattle.definition.specs.Model.{Tables, Model, modelIn}
 use Rattle.definition.specs.Changes.{Change, insertChange, changed, reached}
-use Rattle.definition.specs.Machine.{Call, push, finish, change, forget, fetch, Answer, Machine, moved, accepted, framesHeld, rowsHeld, forgotten, pushTests, changeTests, fetchTests, fresh, caughtUp, does, toldBy, answer, answersFrom, answers, machineAfter}
+use Rattle.definition.specs.Machine.{Call, push, finish, change, forget, setWindow, fetch, Answer, Machine, moved, accepted, framesHeld, rowsHeld, forgotten, longestFrom, pushTests, changeTests, windowTests, fetchTests, fresh, caughtUp, does, toldBy, answer, answersFrom, answers, machineAfter}
 use Rattle.definition.proofs.Floor.{first-not, lowest-under}
 use Rattle.program.specs.Rooms.{Rooms, framesOf, ringLengthsOf, roomLengthsOf}
 use Rattle.program.specs.Session.{Program, program, stepped, stepOf, programAfter}
 use Rattle.program.specs.Played.{Played, ended, answered, took}
-use Rattle.program.specs.Habit.{frameRoom, rowRoom, Never, RowsEnough, HeldAfterForget, Ledger, ledger, entered, mayCome, inHabit, FramesEnough}
+use Rattle.program.specs.Habit.{frameRoom, rowRoom, Never, windowOf, RowsEnough, HeldAfterForget, Ledger, ledger, entered, mayCome, inHabit, FramesEnough}
 use Rattle.program.proofs.Waiting.{inserts-none, lowest-at}
 use Rattle.program.proofs.Sound.{streamOf, held-are}
 use Rattle.program.proofs.Moves.{moved-on}
@@ -88,16 +88,14 @@ module _ (M : Model) (z : RingLengths) where
   abbrev right : ℕ
   right = M .info .opts .«right_context»
 
-  abbrev window : ℕ
-  window = M .info .opts .«cmn_window»
-
-  -- a fetch keeps the history and the mark
-  fetch-keeps : (k : Machine) (f : ℕ) → (accepted (caughtUp M k f) ≡ accepted k) × (caughtUp M k f .mark ≡ k .mark)
+  -- a fetch keeps the history, the mark and the windows
+  fetch-keeps : (k : Machine) (f : ℕ)
+      → (accepted (caughtUp M k f) ≡ accepted k) × (caughtUp M k f .mark ≡ k .mark) × (caughtUp M k f .window ≡ k .window) × (caughtUp M k f .longest ≡ k .longest)
   unfolding caughtUp
-  fetch-keeps k f = by-test (leb (k .next) f) (λ q. rw q (refl, refl)) (λ q. rw q (refl, refl))
+  fetch-keeps k f = by-test (leb (k .next) f) (λ q. rw q (refl, refl, refl, refl)) (λ q. rw q (refl, refl, refl, refl))
 
   -- a push that is refused for room: the tests of its room
-  push-14 : (k : Machine) (x : List Float) → firstOf (pushTests (M .info .opts) (M .info .dims) z (accepted k) (k .mark) x) ≡ 14 → accepted k - k .mark ≡ F
+  push-14 : (k : Machine) (x : List Float) → firstOf (pushTests (M .info .dims) z (k .longest) (accepted k) (k .mark) x) ≡ 14 → accepted k - k .mark ≡ F
   unfolding pushTests framesHeld rowsHeld
   push-14 k x e =
       let a = past 14 _ _ (omega arith) e in
@@ -106,15 +104,15 @@ module _ (M : Model) (z : RingLengths) where
       by-test (eqb (accepted k - k .mark) F) (λ q. eqb-true _ _ q)
       (λ q. let d = past 14 _ [] (omega arith) (sym (first-past _ _ q) ∙ c .1) in absurd (first-not 14 [] (omega arith) tt (d .1)))
 
-  push-15 : (k : Machine) (x : List Float) → firstOf (pushTests (M .info .opts) (M .info .dims) z (accepted k) (k .mark) x) ≡ 15
-      → (accepted k - k .mark ≡ F → ⊥) × (accepted k + 1 - (k .mark + 1 - window) ≡ R)
+  push-15 : (k : Machine) (x : List Float) → firstOf (pushTests (M .info .dims) z (k .longest) (accepted k) (k .mark) x) ≡ 15
+      → (accepted k - k .mark ≡ F → ⊥) × (accepted k + 1 - (k .mark + 1 - k .longest) ≡ R)
   unfolding pushTests framesHeld rowsHeld
   push-15 k x e =
       let a = past 15 _ _ (omega arith) e in
       let b = past 15 _ _ (omega arith) (a .1) in
       let c = past 15 _ _ (omega arith) (b .1) in
       let d = past 15 _ _ (omega arith) (c .1) in
-      (eqb-false _ _ (d .0), by-test (eqb (accepted k + 1 - (k .mark + 1 - window)) R) (λ q. eqb-true _ _ q) (λ q. absurd (first-not 15 [] (omega arith) tt (sym (first-past _ [] q) ∙ d .1))))
+      (eqb-false _ _ (d .0), by-test (eqb (accepted k + 1 - (k .mark + 1 - k .longest)) R) (λ q. eqb-true _ _ q) (λ q. absurd (first-not 15 [] (omega arith) tt (sym (first-past _ [] q) ∙ d .1))))
 
   -- ---- at most F frames are held
 
@@ -131,20 +129,44 @@ module _ (M : Model) (z : RingLengths) where
   fits-left zero k finish e h = h
   fits-left zero k (change fs ws) e h = h
   fits-left zero k (forget f) e h = omega arith
+  fits-left zero k (setWindow v) e h = h
   fits-left zero k (fetch f n) e h = omega (arith, fetch-keeps k f .0, fetch-keeps k f .1)
 
-  no-15 : F + window ≤ R → (k : Machine) → Fits k → (c : Call) → does M z k c .refusal ≡ 15 → ⊥
-  unfolding does changeTests fetchTests
-  no-15 w k h (push x) e = let g = push-15 k x e in omega (arith, g .0, g .1)
-  no-15 w k h finish e = first-not 15 [] (omega arith) tt e
-  no-15 w k h (change fs ws) e = first-not 15 _ (omega arith) (omega arith, (omega arith, (omega arith, (omega arith, (omega arith, tt))))) e
-  no-15 w k h (forget f) e = first-not 15 [] (omega arith) tt e
-  no-15 w k h (fetch f m) e = first-not 15 _ (omega arith) (omega arith, (omega arith, (omega arith, tt))) e
+  -- ---- no window is above w
 
-  rows-from : F + window ≤ R → (k : Machine) → Fits k → (cs : List Call) → Never 15 (answersFrom M z k cs)
-  unfolding answersFrom anyOf answer toldBy
-  rows-from w k h [] = refl
-  rows-from w k h (c ∷ cs) = or-none _ _ (ne-eqb _ _ (no-15 w k h c)) (rows-from w (moved k (does M z k c)) (fits-left (does M z k c .refusal) k c refl h) cs)
+  abbrev UpTo : ℕ → Machine → Type 0
+  UpTo w k = (k .window ≤ w) × (k .longest ≤ w)
+
+  longest-by : (t : Bool) (w a b : ℕ) → a ≤ w → b ≤ w → (if t then a else b) ≤ w
+  longest-by true w a b h g = h
+  longest-by false w a b h g = g
+
+  up-to-left : (w r : ℕ) (k : Machine) (c : Call) → windowOf c ≤ w → UpTo w k → UpTo w (taken r (does M z k c .left) k)
+  unfolding does longestFrom windowOf
+  up-to-left w (suc r) k c l h = h
+  up-to-left w zero k (push x) l h = h
+  up-to-left w zero k finish l h = h
+  up-to-left w zero k (change fs ws) l h = h
+  up-to-left w zero k (forget f) l h = (h .0, longest-by (ltb (k .mark) (forgotten left (k .next) (k .mark) (map (λ c. c .0) (k .changes .waiting)) f)) w (k .window) (k .longest) (h .0) (h .1))
+  up-to-left w zero k (setWindow v) l h = (l, omega (arith, h .1))
+  up-to-left w zero k (fetch f n) l h = let g = fetch-keeps k f in (omega (arith, g .2, h .0), omega (arith, g .3, h .1))
+
+  no-15 : (u : ℕ) → F + u ≤ R → (k : Machine) → Fits k → UpTo u k → (c : Call) → does M z k c .refusal ≡ 15 → ⊥
+  unfolding does changeTests windowTests fetchTests
+  no-15 u w k h v (push x) e = let g = push-15 k x e in omega (arith, g .0, g .1, v .1)
+  no-15 u w k h v (setWindow x) e = first-not 15 _ (omega arith) (omega arith, (omega arith, tt)) e
+  no-15 u w k h v finish e = first-not 15 [] (omega arith) tt e
+  no-15 u w k h v (change fs ws) e = first-not 15 _ (omega arith) (omega arith, (omega arith, (omega arith, (omega arith, (omega arith, tt))))) e
+  no-15 u w k h v (forget f) e = first-not 15 [] (omega arith) tt e
+  no-15 u w k h v (fetch f m) e = first-not 15 _ (omega arith) (omega arith, (omega arith, (omega arith, tt))) e
+
+  rows-from : (u : ℕ) → F + u ≤ R → (k : Machine) → Fits k → UpTo u k → (cs : List Call) → allOf (λ c. leb (windowOf c) u) cs ≡ true → Never 15 (answersFrom M z k cs)
+  unfolding answersFrom anyOf allOf answer toldBy
+  rows-from u w k h v [] p = refl
+  rows-from u w k h v (c ∷ cs) p =
+      let q = and-holds (leb (windowOf c) u) (allOf (λ c. leb (windowOf c) u) cs) p in
+      or-none _ _ (ne-eqb _ _ (no-15 u w k h v c))
+      (rows-from u w (moved k (does M z k c)) (fits-left (does M z k c .refusal) k c refl h) (up-to-left u (does M z k c .refusal) k c (leb-true (windowOf c) u (q .0)) v) cs (q .1))
 
   -- ---- what a host knows
 
@@ -205,14 +227,16 @@ module _ (M : Model) (z : RingLengths) where
       }
   known-left zero b k (forget f) e v =
       record { frames-are = v .frames-are; next-is = v .next-is; clear-below = v .clear-below; clear-above = v .clear-above; few = forget-few b k v f }
+  known-left zero b k (setWindow w) e v = record { frames-are = v .frames-are; next-is = v .next-is; clear-below = v .clear-below; clear-above = v .clear-above; few = v .few }
   known-left zero b k (fetch f n) e v = fetched-from b k v f
 
   no-14 : (L : ℕ) → L + left + right ≤ F → (b : Ledger) (k : Machine) → Known b k → (c : Call) → mayCome L b c ≡ true → does M z k c .refusal ≡ 14 → ⊥
-  unfolding does changeTests fetchTests mayCome
+  unfolding does changeTests windowTests fetchTests mayCome
   no-14 L w b k v (push x) p e = omega (arith, v .few, ltb-true (b .since) L p, push-14 k x e)
   no-14 L w b k v finish p e = first-not 14 [] (omega arith) tt e
   no-14 L w b k v (change fs ws) p e = first-not 14 _ (omega arith) (omega arith, (omega arith, (omega arith, (omega arith, (omega arith, tt))))) e
   no-14 L w b k v (forget f) p e = first-not 14 [] (omega arith) tt e
+  no-14 L w b k v (setWindow x) p e = first-not 14 _ (omega arith) (omega arith, (omega arith, tt)) e
   no-14 L w b k v (fetch f m) p e = first-not 14 _ (omega arith) (omega arith, (omega arith, (omega arith, tt))) e
 
   frames-from : (L : ℕ) → L + left + right ≤ F → (b : Ledger) (k : Machine) → Known b k → (cs : List Call) → inHabit L right b cs (answersFrom M z k cs) ≡ true → Never 14 (answersFrom M z k cs)
@@ -223,9 +247,9 @@ module _ (M : Model) (z : RingLengths) where
       let h = and-holds (mayCome L b c) (inHabit L right (taken (y .refusal) (entered right b c) b) cs (answersFrom M z (moved k y) cs)) p in
       or-none _ _ (ne-eqb _ _ (no-14 L w b k v c (h .0))) (frames-from L w (taken (y .refusal) (entered right b c) b) (moved k y) (known-left (y .refusal) b k c refl v) cs (h .1))
 
-  pub rows-of : F + window ≤ R → (cs : List Call) → Never 15 (answers M z cs)
+  pub rows-of : (u : ℕ) → M .info .opts .«cmn_window» ≤ u → F + u ≤ R → (cs : List Call) → allOf (λ c. leb (windowOf c) u) cs ≡ true → Never 15 (answers M z cs)
   unfolding answers fresh
-  rows-of w cs = rows-from w (fresh M) (omega arith) cs
+  rows-of u h w cs p = rows-from u w (fresh M) (omega arith) (h, h) cs p
 
   pub frames-of : (L : ℕ) → L + left + right ≤ F → (cs : List Call) → inHabit L right (ledger 0 0 0 0) cs (answers M z cs) ≡ true → Never 14 (answers M z cs)
   unfolding answers fresh anyOf
@@ -247,8 +271,8 @@ module _ (i : IvectorInfo) (t : Tables) (s : Played i t) where
   answers-are : answered i t s ≡ answers M′ (ringLengthsOf (s .lent .rings)) (s .calls)
   answers-are = keeps.keeps i t (s .lent) (s .scratch) (s .made) (s .made-is) (s .calls) .1
 
-  rows-there : frameRoom i (s .lent) + i .opts .«cmn_window» ≤ rowRoom i (s .lent) → Never 15 (answered i t s)
-  rows-there w = subst (Never 15) (sym answers-are) (rows-of M′ (ringLengthsOf (s .lent .rings)) w (s .calls))
+  rows-there : (u : ℕ) → i .opts .«cmn_window» ≤ u → allOf (λ c. leb (windowOf c) u) (s .calls) ≡ true → frameRoom i (s .lent) + u ≤ rowRoom i (s .lent) → Never 15 (answered i t s)
+  rows-there u h p w = subst (Never 15) (sym answers-are) (rows-of M′ (ringLengthsOf (s .lent .rings)) u h w (s .calls) p)
 
   frames-there : (L : ℕ) → L + i .opts .«left_context» + i .opts .«right_context» ≤ frameRoom i (s .lent)
       → inHabit L (i .opts .«right_context») (ledger 0 0 0 0) (s .calls) (answered i t s) ≡ true → Never 14 (answered i t s)
@@ -279,7 +303,7 @@ module _ (i : IvectorInfo) (t : Tables) (s : Played i t) where
       (held-from M′ (lengths .rings) k f reached-there (subst (Above f) (held-are i lengths (s .scratch) t (b .made-is) k (e .0) (e .2)) waiting-there)))
 
 pub rows-enough : RowsEnough
-rows-enough i t s w = rows-there i t s w
+rows-enough i t s u h p w = rows-there i t s u h p w
 
 pub frames-enough : FramesEnough
 frames-enough i t s L w p = frames-there i t s L w p

@@ -80,9 +80,10 @@ module _ (i : IvectorInfo) (t : Tables) (z : Rooms) (n : ℕ) (c : StreamCall) (
           mark-is = m;
           mark-below = omega (arith, ap length took-is, h .2 .mark-is, h .2 .next-is);
           held-is = ap₂ (λ (x y : ℕ). x - y) a m;
+          longest-is = ap (λ (q : Program). q .stream .longest) (h .1);
         }
 
-    holds : Holds (i .dims .«base_dim») (i .opts .«cmn_window») (programAfter t n start cs) took
+    holds : Holds (i .dims .«base_dim») (programAfter t n start cs) took
     unfolding allFrames
     holds = let h = ended-is in rw (h .1, ← took-is) (record { frame-is = h .2 .agrees .frame-is; row-is = h .2 .agrees .prefix-is })
 

@@ -1,6 +1,6 @@
 -- Request 10: `loud-after`, `loud-alike`. What lies in the rings agrees with the frames taken (`agrees` of `Inv`), on frame u and on the two prefix rows of
 -- its window also with frames 0 to u alone (`to-last`); and a loud frame's state is its window's, so that no other state goes in (`view-is`).
-use mathlib.Core.Path.{_≡_, refl, sym, ap, subst, _∙_}
+use mathlib.Core.Path.{_≡_, refl, sym, ap, ap₂, _∙_}
 use mathlib.Core.Bool.{true}
 use Prim.Native.Nat.{ℕ, _+_, _-_, _≤_, _<_}
 use native.Mathlib.Omega.{arith}
@@ -12,10 +12,10 @@ use Rattle.loops.proofs.Loop.{iter-ext}
 use Rattle.floats.specs.Operators.{_+₆₄_, zero₆₄, at}
 use Rattle.definition.specs.declared.IvectorInfo.{IvectorInfo}
 use Rattle.definition.specs.declared.IvectorOptions.{IvectorOptions}
-use Rattle.definition.specs.Model.{Tables, Model, modelIn}
+use Rattle.definition.specs.Model.{Tables, Model, modelInForce, modelIn}
 use Rattle.definition.specs.Views.{Frames, smoothed, windowed, cmvnState, cmvnFrame}
 use Rattle.definition.specs.Machine.{Machine, allFrames, fresh, machineAfter}
-use Rattle.definition.proofs.Agree.{Agree, windowed-ext, view-ext}
+use Rattle.definition.proofs.Agree.{Agree, agree-shorter, windowed-ext, view-ext}
 use Rattle.program.specs.Rooms.{framesIn, ringLengthsOf, roomLengthsOf}
 use Rattle.program.specs.Session.{Program, program}
 use Rattle.program.specs.Played.{Played, begun, ended, took}
@@ -83,6 +83,11 @@ module _ (M : Model) (F : Frames) (h : List (List Float)) (mark u : ℕ) (some :
       ap (cmvnFrame dim F u) (state-is state) ∙ frame-view (smoothed o dim (M .tables .global-mean-stats) (windowed o dim (allFrames h′) u))
       ∙ ap (λ (j : ℕ). cmvnFrame dim (allFrames h′) j (smoothed o dim (M .tables .global-mean-stats) (windowed o dim (allFrames h′) j))) (sym last-is)
 
+-- a model that has the window already
+same-view : (M : Model) (w : ℕ) (xs : List (List Float)) → loudView (modelInForce M w) w xs ≡ loudView M w xs
+unfolding loudView
+same-view M w xs = refl
+
 -- ---- of a stream
 
 module _ (i : IvectorInfo) (t : Tables) (s : Played i t) (u : ℕ) (l : LoudHeld i t s u) where
@@ -92,7 +97,7 @@ module _ (i : IvectorInfo) (t : Tables) (s : Played i t) (u : ℕ) (l : LoudHeld
   abbrev first : List (List Float)
   first = take (u + 1) (took i t s)
 
-  by-any : (state : List Float) → viewOn t (ended i t s) u state ≡ loudView (modelIn i t) (i .opts .«cmn_window») first
+  by-any : (state : List Float) → viewOn t (ended i t s) u state ≡ loudView (modelIn i t) (ended i t s .stream .window) first
   by-any state =
       let e = keeps.ended-is i t (s .lent) (s .scratch) (s .made) (s .made-is) (s .calls) in
       let h = keeps.took-is i t (s .lent) (s .scratch) (s .made) (s .made-is) (s .calls) in
@@ -100,11 +105,13 @@ module _ (i : IvectorInfo) (t : Tables) (s : Played i t) (u : ℕ) (l : LoudHeld
       let low = rw (e .1) at (l .not-dropped) in
       let high = rw (e .1) at (l .accepted) in
       ap (λ (p : Program). viewOn t p u state) (e .1)
-      ∙ view-is (modelIn i t) (framesIn (streamOf i (roomLengthsOf (s .lent) (s .scratch)) k) (e .0 .rings)) (k .history) (k .mark) u some (e .2 .agrees) low high refl (rw h (l .loud)) state
-      ∙ ap (λ (x : List (List Float)). loudView (modelIn i t) (i .opts .«cmn_window») (take (u + 1) x)) h
+      ∙ view-is (modelInForce (modelIn i t) (k .window)) (framesIn (streamOf i (roomLengthsOf (s .lent) (s .scratch)) k) (e .0 .rings)) (k .history) (k .mark) u some (agree-shorter (omega arith) (omega (arith, e .2 .window-is)) (e .2 .agrees)) low high refl (rw h (l .loud)) state
+      ∙ same-view (modelIn i t) (k .window) (take (u + 1) (k .history))
+      ∙ ap (λ (x : List (List Float)). loudView (modelIn i t) (k .window) (take (u + 1) x)) h
+      ∙ ap (λ (p : Program). loudView (modelIn i t) (p .stream .window) first) (sym (e .1))
 
 pub loud-after : LoudAfter
 loud-after i t s u l = (by-any i t s u l _, by-any i t s u l)
 
 pub loud-alike : LoudAlike
-loud-alike i t s s′ u l l′ e = loud-after i t s u l .0 ∙ ap (loudView (modelIn i t) (i .opts .«cmn_window»)) e ∙ sym (loud-after i t s′ u l′ .0)
+loud-alike i t s s′ u l l′ w e = loud-after i t s u l .0 ∙ ap₂ (loudView (modelIn i t)) w e ∙ sym (loud-after i t s′ u l′ .0)

@@ -14,7 +14,7 @@ use Rattle.definition.specs.declared.IvectorInfo.{IvectorInfo}
 use Rattle.definition.specs.declared.RingLengths.{RingLengths}
 use Rattle.definition.specs.declared.RoomLengths.{RoomLengths}
 use Rattle.definition.specs.Model.{Tables, Model, modelIn}
-use Rattle.definition.specs.Machine.{Call, push, finish, change, forget, fetch, Answer, Machine, Move, moved, pushTests, changeTests, fetchTests, notFinite, caughtUp, does, toldBy, answer, machineAfter, answersFrom, answers}
+use Rattle.definition.specs.Machine.{Call, push, finish, change, forget, setWindow, fetch, Answer, Machine, Move, moved, pushTests, changeTests, windowTests, fetchTests, notFinite, caughtUp, does, toldBy, answer, machineAfter, answersFrom, answers}
 use Rattle.definition.proofs.Floor.{first-not}
 use Rattle.program.specs.Rooms.{Rooms}
 use Rattle.program.specs.Calls.{answerOf, Step}
@@ -27,11 +27,12 @@ use Rattle.program.proofs.Steps.{Next, taken-next}
 
 module _ (M : Model) (z : RingLengths) (k : Machine) where
   not-ten : (c : Call) → does M z k c .refusal ≡ 10 → ⊥
-  unfolding does pushTests changeTests fetchTests
+  unfolding does pushTests changeTests windowTests fetchTests
   not-ten (push x) e = first-not 10 _ (omega arith) (omega arith, (omega arith, (omega arith, (omega arith, (omega arith, tt))))) e
   not-ten finish e = first-not 10 [] (omega arith) tt e
   not-ten (change fs ws) e = first-not 10 _ (omega arith) (omega arith, (omega arith, (omega arith, (omega arith, (omega arith, tt))))) e
   not-ten (forget f) e = first-not 10 [] (omega arith) tt e
+  not-ten (setWindow w) e = first-not 10 _ (omega arith) (omega arith, (omega arith, tt)) e
   not-ten (fetch f m) e = first-not 10 _ (omega arith) (omega arith, (omega arith, (omega arith, tt))) e
 
 module _ (i : IvectorInfo) (z : RoomLengths) (n : ℕ) (t : Tables) (made : Made i t z) where
@@ -137,6 +138,8 @@ module _ (M : Model) (z : RingLengths) where
   history-one (suc r) k (change fs ws) cs a rs e = refl
   history-one zero k (forget f) cs a rs e = refl
   history-one (suc r) k (forget f) cs a rs e = refl
+  history-one zero k (setWindow w) cs a rs e = refl
+  history-one (suc r) k (setWindow w) cs a rs e = refl
   history-one zero k (fetch f m) cs a rs e = rw (history-fetch k f)
   history-one (suc r) k (fetch f m) cs a rs e = refl
 

@@ -1,15 +1,15 @@
 -- The program's state beside the keeping machine's: `Inv` says what holds between them. By it no record is broken, so that 10 never arises and
 -- both refuse alike (`refusal-same`).
 use mathlib.Core.Path.{_≡_, sym, ap, _∙_}
-use Prim.Native.Nat.{ℕ, _+_, _-_, _≤_}
+use Prim.Native.Nat.{ℕ, _+_, _-_, _≤_, _<_}
 use native.Mathlib.Omega.{arith}
-use mathlib.Core.Bool.{true, false, not}
+use mathlib.Core.Bool.{true, false, not, _||_}
 use lib.ListN.{length, take}
-use lib.Dec.{ltb}
-use borrow.Author.Tests.{le-ltb}
+use lib.Dec.{eqb, ltb}
+use borrow.Author.Tests.{ne-eqb, le-ltb}
 use Rattle.loops.specs.Lists.{anyOf}
 use Rattle.loops.specs.Ring.{rowsIn}
-use Rattle.loops.proofs.Choose.{and-both}
+use Rattle.loops.proofs.Choose.{and-both, or-none}
 use Rattle.loops.proofs.Tests.{of-none, same-pair}
 use Rattle.loops.proofs.Refusal.{first-past}
 use Rattle.definition.specs.declared.IvectorInfo.{IvectorInfo}
@@ -17,12 +17,12 @@ use Rattle.definition.specs.declared.IvectorStream.{IvectorStream}
 use Rattle.definition.specs.declared.RingLengths.{RingLengths}
 use Rattle.definition.specs.declared.RoomLengths.{RoomLengths}
 use Rattle.definition.specs.Model.{Tables, tableLengthsOf, modelIn}
-use Rattle.definition.specs.Machine.{Call, push, finish, change, forget, fetch, Machine, accepted, allFrames, framesHeld, rowsHeld, waitingRoom, does}
+use Rattle.definition.specs.Machine.{Call, push, finish, change, forget, setWindow, fetch, Machine, accepted, allFrames, framesHeld, rowsHeld, waitingRoom, does}
 use Rattle.definition.specs.Stream.{infoSound, roomsFit, rising, breaks, isBroken, sameTables, sameRings, sameRooms, ringLengths, estimateLengths}
 use Rattle.definition.proofs.Agree.{Agree}
 use Rattle.definition.proofs.Lengths.{Long}
 use Rattle.program.specs.Rooms.{Rooms, ringLengthsOf, roomLengthsOf, framesIn, waitingIn, framesOf, estimateIn}
-use Rattle.program.specs.Calls.{pushFrame, setInputFinished, updateFrameWeights, forgetBefore, getFrame, fetchRefusal}
+use Rattle.program.specs.Calls.{pushFrame, setInputFinished, updateFrameWeights, forgetBefore, setCmnWindow, getFrame, fetchRefusal}
 use Rattle.program.specs.Session.{program, stepOf}
 use Rattle.program.proofs.WaitingRooms.{frames-waiting}
 
@@ -41,6 +41,8 @@ streamOf i z k =
       «input_finished» = k .finished;
       «num_frames» = k .estimate .stats .num-frames;
       floor = k .floor;
+      window = k .window;
+      longest = k .longest;
     }
 
 -- what never changes: the model's record, the tables and the lengths of the rooms
@@ -57,15 +59,18 @@ module _ (i : IvectorInfo) (z : RoomLengths) (n : ℕ) where
     pub next-is : k .next ≤ accepted k
     pub mark-is : k .mark ≤ k .next - i .opts .«left_context»
     pub floor-is : k .mark ≤ k .floor - i .opts .«left_context»
+    pub some-window : 0 < k .window
+    pub window-is : k .window ≤ k .longest
+    pub longest-is : k .longest ≤ 1000
     pub frames-fit : accepted k - k .mark ≤ rowsIn (z .rings .frames) (i .dims .«base_dim»)
-    pub rows-fit : accepted k + 1 - (k .mark + 1 - i .opts .«cmn_window») ≤ rowsIn (z .rings .rows) (i .dims .«base_dim»)
+    pub rows-fit : accepted k + 1 - (k .mark + 1 - k .longest) ≤ rowsIn (z .rings .rows) (i .dims .«base_dim»)
     pub waiting-fit : length (k .changes .waiting) ≤ waitingRoom (z .rings)
     pub waiting-is : waitingIn (length (k .changes .waiting)) (w .rings .waiting-frames) (w .rings .waiting-weights) ≡ k .changes .waiting
     pub in-order : rising 0 (framesOf (k .changes .waiting)) ≡ true
     pub held-back : anyOf (λ f. ltb (f - i .opts .«left_context») (k .mark)) (framesOf (k .changes .waiting)) ≡ false
     pub estimate-is : estimateIn (streamOf i z k) (w .estimate) ≡ k .estimate
     pub long : Long (i .dims .«base_dim») (i .dims .«ivector_dim») (k .estimate)
-    pub agrees : Agree (framesIn (streamOf i z k) (w .rings)) (allFrames (k .history)) (i .dims .«base_dim») (k .mark) (i .opts .«cmn_window»)
+    pub agrees : Agree (framesIn (streamOf i z k) (w .rings)) (allFrames (k .history)) (i .dims .«base_dim») (k .mark) (k .longest)
 
   module _ (t : Tables) (made : Made i t z) (k : Machine) (w : Rooms) (v : Inv k w) where
     abbrev s : IvectorStream
@@ -80,6 +85,11 @@ module _ (i : IvectorInfo) (z : RoomLengths) (n : ℕ) where
     -- the frames that wait, as the room holds them
     pub held-are : take (length (k .changes .waiting)) (w .rings .waiting-frames) ≡ framesOf (k .changes .waiting)
     held-are = sym (frames-waiting (length (k .changes .waiting)) (w .rings .waiting-frames) (w .rings .waiting-weights) (omega (arith, v .waiting-fit, room-of))) ∙ ap framesOf (v .waiting-is)
+
+    windows-sound : (eqb (k .window) 0 || ltb (k .longest) (k .window) || ltb 1000 (k .longest)) ≡ false
+    windows-sound =
+        or-none _ _ (or-none (eqb (k .window) 0) _ (ne-eqb (k .window) 0 (omega (arith, v .some-window))) (le-ltb (k .longest) (k .window) (v .window-is)))
+        (le-ltb 1000 (k .longest) (v .longest-is))
 
     -- the record is never broken
     pub sound : isBroken s (w .rings .waiting-frames) ≡ false
@@ -98,14 +108,17 @@ module _ (i : IvectorInfo) (z : RoomLengths) (n : ℕ) where
                   (
                     le-ltb (k .floor - i .opts .«left_context») (k .mark) (v .floor-is),
                     (
-                      le-ltb _ _ (v .frames-fit),
+                      windows-sound,
                       (
-                        le-ltb _ _ (v .rows-fit),
+                        le-ltb _ _ (v .frames-fit),
                         (
-                          le-ltb _ _ (v .waiting-fit),
+                          le-ltb _ _ (v .rows-fit),
                           (
-                            ap (λ fs. not (rising 0 fs)) held-are ∙ ap not (v .in-order),
-                            (ap (anyOf (λ f. ltb (f - i .opts .«left_context») (k .mark))) held-are ∙ v .held-back, tt),
+                            le-ltb _ _ (v .waiting-fit),
+                            (
+                              ap (λ fs. not (rising 0 fs)) held-are ∙ ap not (v .in-order),
+                              (ap (anyOf (λ f. ltb (f - i .opts .«left_context») (k .mark))) held-are ∙ v .held-back, tt),
+                            ),
                           ),
                         ),
                       ),
@@ -130,9 +143,10 @@ module _ (i : IvectorInfo) (z : RoomLengths) (n : ℕ) where
 
     -- 10 never arises, and the other numbers are the machine's
     pub refusal-same : (c : Call) → stepOf t n (program s w) c .refusal ≡ does (modelIn i t) (z .rings) k c .refusal
-    unfolding stepOf pushFrame setInputFinished updateFrameWeights forgetBefore getFrame fetchRefusal does
+    unfolding stepOf pushFrame setInputFinished updateFrameWeights forgetBefore setCmnWindow getFrame fetchRefusal does
     refusal-same (push x) = first-past _ _ rings-are ∙ first-past _ _ sound
     refusal-same finish = first-past _ _ rings-are ∙ first-past _ _ sound
     refusal-same (change fs ws) = first-past _ _ rings-are ∙ first-past _ _ sound
     refusal-same (forget f) = first-past _ _ rings-are ∙ first-past _ _ sound
+    refusal-same (setWindow w′) = first-past _ _ rings-are ∙ first-past _ _ sound
     refusal-same (fetch f m) = first-past _ _ (ap not (made .tables-are)) ∙ first-past _ _ rooms-are ∙ first-past _ _ sound

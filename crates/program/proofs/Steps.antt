@@ -1,16 +1,17 @@
 -- A call that is taken keeps `Inv` and gives what the machine gives: one law a call, and `taken-next` for any.
 use mathlib.Core.Path.{_≡_, refl, sym, ap, ap₂, subst, _∙_}
 use Prim.Native.Nat.{ℕ, zero, suc, _+_, _-_, _≤_, _<_, min, max}
+use native.Mathlib.Decide.{decLt}
 use native.Mathlib.Omega.{arith}
-use mathlib.Core.Bool.{true, false}
+use mathlib.Core.Bool.{Bool, true, false, _&&_}
 use mathlib.Core.List.{List, [], _∷_, _++_, map, foldl}
 use lib.ListN.{length, getD, length-append, length-map, List·getD-map}
 use lib.Dec.{leb, ltb}
-use borrow.Author.Tests.{eqb-true, eqb-false, leb-true, leb-false, ltb-false, le-ltb, not-false}
+use borrow.Author.Tests.{eqb-true, eqb-false, leb-true, leb-false, ltb-true, ltb-false, lt-ltb, le-ltb, not-false}
 use lib.Ieee.{Float, nan}
 use Rattle.loops.specs.Lists.{if_then_else_, build, those, anyOf, over}
 use Rattle.loops.specs.Ring.{rowsIn, put, place}
-use Rattle.loops.proofs.Choose.{by-test}
+use Rattle.loops.proofs.Choose.{by-test, and-holds}
 use Rattle.loops.proofs.Build.{length-build, build-list, map-build}
 use Rattle.loops.proofs.Fill.{length-over, take-over, length-put}
 use Rattle.loops.proofs.Refusal.{none-first}
@@ -25,18 +26,18 @@ use Rattle.definition.specs.declared.EstimateLengths.{EstimateLengths}
 use Rattle.definition.specs.declared.RoomLengths.{RoomLengths}
 use Rattle.definition.specs.declared.FrameWeight.{FrameWeight}
 use Rattle.definition.specs.Kaldi.{triangle}
-use Rattle.definition.specs.Model.{Tables, Model, modelIn}
+use Rattle.definition.specs.Model.{Tables, Model, modelInForce, modelIn}
 use Rattle.definition.specs.Posteriors.{weighed, unweighted}
 use Rattle.definition.specs.Changes.{Change, Changes, insertChange, changed, reached, merged, batch}
 use Rattle.definition.specs.Estimate.{Estimate, updated, nansOver}
-use Rattle.definition.specs.Machine.{Call, push, finish, change, forget, fetch, Machine, machine, Move, accepted, allFrames, framesHeld, rowsHeld, framesReady, waitingRoom, forgotten, pushTests, changeTests, fetchTests, fetched, caughtUp, nansMet, does}
+use Rattle.definition.specs.Machine.{Call, push, finish, change, forget, setWindow, fetch, Machine, machine, Move, accepted, allFrames, framesHeld, rowsHeld, framesReady, waitingRoom, forgotten, longestFrom, pushTests, changeTests, windowTests, fetchTests, fetched, caughtUp, nansMet, does}
 use Rattle.definition.specs.Stream.{rising}
-use Rattle.definition.proofs.Agree.{Agree, Inside, updated-ext, nans-ext}
+use Rattle.definition.proofs.Agree.{Agree, agree-shorter, Inside, updated-ext, nans-ext}
 use Rattle.definition.proofs.Floor.{lowest-under, low-raised}
 use Rattle.definition.proofs.Lengths.{Long, updated-long}
 use Rattle.definition.proofs.Ranges.{fitting}
 use Rattle.program.specs.Rooms.{Rings, ringsFrom, Rooms, roomsFrom, ringLengthsOf, roomLengthsOf, ringAt, ringFrames, framesIn, framesOf, weightsOf, changesIn}
-use Rattle.program.specs.Calls.{Step, withAccepted, withMark, withChanges, pushedFrames, pushedRows, pushFrame, setInputFinished, overWaiting, updateFrameWeights, forgetMark, forgetBefore, overEstimate, fetchEstimate, fetchChanges, fetchStream, fetchRooms, fetchVector, fetchNans, getFrame}
+use Rattle.program.specs.Calls.{Step, withAccepted, withMark, withChanges, pushedFrames, pushedRows, pushFrame, setInputFinished, overWaiting, updateFrameWeights, forgetMark, forgetBefore, setCmnWindow, overEstimate, fetchEstimate, fetchChanges, fetchStream, fetchRooms, fetchVector, fetchNans, getFrame}
 use Rattle.program.specs.Session.{Program, program, stepOf}
 use Rattle.program.proofs.Pushed.{pushed-agrees}
 use Rattle.program.proofs.WaitingRooms.{waiting-over}
@@ -45,9 +46,39 @@ use Rattle.program.proofs.Facts.{ranges}
 use Rattle.program.proofs.Waiting.{inserts-none, those-rising, those-none, lowest-at, Each, merged-each, those-each}
 use Rattle.program.proofs.Sound.{streamOf, Made, Inv, held-are, rings-long}
 
--- a higher mark holds fewer rows
-rows-fewer : (a m m′ w r : ℕ) → m ≤ m′ → a + 1 - (m + 1 - w) ≤ r → a + 1 - (m′ + 1 - w) ≤ r
-rows-fewer a m m′ w r h l = omega arith
+-- where fewer are needed, fewer are held
+rows-fewer : (a first first′ r : ℕ) → first ≤ first′ → a + 1 - first ≤ r → a + 1 - first′ ≤ r
+rows-fewer a first first′ r h l = omega arith
+
+-- ---- the longest window after a forget that brings the mark from m to m′
+
+module _ (w g m m′ : ℕ) where
+  abbrev after : ℕ
+  after = longestFrom w g m m′
+
+  longest-above : w ≤ g → w ≤ after
+  unfolding longestFrom
+  longest-above h = by-test (ltb m m′) (λ e. rw e (omega arith)) (λ e. rw e h)
+
+  longest-under : w ≤ g → after ≤ g
+  unfolding longestFrom
+  longest-under h = by-test (ltb m m′) (λ e. rw e h) (λ e. rw e (omega arith))
+
+  -- no row is needed that was not held
+  rows-later : m ≤ m′ → w ≤ g → m + 1 - g ≤ m′ + 1 - after
+  unfolding longestFrom
+  rows-later l h = by-test (ltb m m′) (λ e. rw e (omega (arith, ltb-true m m′ e))) (λ e. rw e (omega arith))
+
+-- a window above the longest needs no other rows: all are held from 0 on
+same-rows : (g w m : ℕ) → (g < w → m + 1 ≤ g) → m + 1 - max g w ≡ m + 1 - g
+same-rows g w m h = go (decLt g w)
+  where
+    go : Dec (g < w) → m + 1 - max g w ≡ m + 1 - g
+    go (yes l) = omega (arith, h l)
+    go (no l) = omega arith
+
+and-rest : (a b : Bool) → a ≡ true → (a && b) ≡ false → b ≡ false
+and-rest a b t e = rw t at e
 
 less-than : (a b : ℕ) → a ≤ b → (a ≡ b → ⊥) → a < b
 less-than a b h e = omega arith
@@ -97,9 +128,6 @@ module _ (i : IvectorInfo) (z : RoomLengths) (n : ℕ) (t : Tables) (made : Made
   abbrev left : ℕ
   left = i .opts .«left_context»
 
-  abbrev window : ℕ
-  window = i .opts .«cmn_window»
-
   -- a step of the program and a move of the machine that are taken: the record and the rooms are those of the machine afterwards, and both give
   -- the same
   abbrev pub Next : Step → Move → Type 0
@@ -126,6 +154,9 @@ module _ (i : IvectorInfo) (z : RoomLengths) (n : ℕ) (t : Tables) (made : Made
         next-is = v .next-is;
         mark-is = v .mark-is;
         floor-is = v .floor-is;
+        some-window = v .some-window;
+        window-is = v .window-is;
+        longest-is = v .longest-is;
         frames-fit = v .frames-fit;
         rows-fit = v .rows-fit;
         waiting-fit = v .waiting-fit;
@@ -151,30 +182,61 @@ module _ (i : IvectorInfo) (z : RoomLengths) (n : ℕ) (t : Tables) (made : Made
         let back : anyOf (λ g. ltb (g - left) mark′) fs ≡ false =
         at-none (λ g. ltb (g - left) mark′) 0 fs (λ j l. le-ltb (getD fs j 0 - left) mark′ (omega (arith, lowest-at (min f (k .next)) fs j l, ltb-false (getD fs j 0 - left) (k .mark) (none-at (λ g. ltb (g - left) (k .mark)) 0 fs j (v .held-back) l)))) in (
           w,
-          ap (λ (gs : List ℕ). program (withMark (streamOf i z k) (max (k .mark) (foldl min (min f (k .next)) gs - left)) (max (k .floor) f)) w) (held-are i z n t made k w v),
+          ap (λ (gs : List ℕ).
+              let m = max (k .mark) (foldl min (min f (k .next)) gs - left) in
+              program (withMark (streamOf i z k) m (max (k .floor) f) (longestFrom (k .window) (k .longest) (k .mark) m)) w) (held-are i z n t made k w v),
           record {
             lengths-are = v .lengths-are;
             few = v .few;
             next-is = v .next-is;
             mark-is = m;
             floor-is = low-raised (k .mark) (k .floor) left low f (v .floor-is) (omega (arith, below));
+            some-window = v .some-window;
+            window-is = longest-above (k .window) (k .longest) (k .mark) mark′ (v .window-is);
+            longest-is = omega (arith, longest-under (k .window) (k .longest) (k .mark) mark′ (v .window-is), v .longest-is);
             frames-fit = omega (arith, v .frames-fit);
-            rows-fit = rows-fewer (accepted k) (k .mark) mark′ window (rowsIn (z .rings .rows) dim) (omega arith) (v .rows-fit);
+            rows-fit = rows-fewer (accepted k) _ _ _ (rows-later (k .window) (k .longest) (k .mark) mark′ (omega arith) (v .window-is)) (v .rows-fit);
             waiting-fit = v .waiting-fit;
             waiting-is = v .waiting-is;
             in-order = v .in-order;
             held-back = back;
             estimate-is = v .estimate-is;
             long = v .long;
-            agrees = record {
-              accepted-is = v .agrees .accepted-is;
-              frame-is = λ u d p q l. v .agrees .frame-is u d (omega arith) q l;
-              prefix-is = λ u d p q l. v .agrees .prefix-is u d (omega arith) q l;
-            };
+            agrees = agree-shorter (omega arith) (rows-later (k .window) (k .longest) (k .mark) mark′ (omega arith) (v .window-is)) (v .agrees);
           },
           refl,
           refl,
         )
+
+    -- ---- the window call
+
+    window-next : (w′ : ℕ) → 0 < w′ → w′ ≤ 1000 → (k .longest < w′ → k .mark + 1 ≤ k .longest) → Next (stepOf t n (p k w) (setWindow w′)) (does M (z .rings) k (setWindow w′))
+    unfolding stepOf setCmnWindow does
+    window-next w′ some most all = (
+      w,
+      refl,
+      record {
+        lengths-are = v .lengths-are;
+        few = v .few;
+        next-is = v .next-is;
+        mark-is = v .mark-is;
+        floor-is = v .floor-is;
+        some-window = some;
+        window-is = omega arith;
+        longest-is = omega (arith, v .longest-is, most);
+        frames-fit = v .frames-fit;
+        rows-fit = rw (same-rows (k .longest) w′ (k .mark) all) (v .rows-fit);
+        waiting-fit = v .waiting-fit;
+        waiting-is = v .waiting-is;
+        in-order = v .in-order;
+        held-back = v .held-back;
+        estimate-is = v .estimate-is;
+        long = v .long;
+        agrees = agree-shorter (omega arith) (omega (arith, same-rows (k .longest) w′ (k .mark) all)) (v .agrees);
+      },
+      refl,
+      refl,
+    )
 
     -- ---- change
 
@@ -203,6 +265,9 @@ module _ (i : IvectorInfo) (z : RoomLengths) (n : ℕ) (t : Tables) (made : Made
             next-is = v .next-is;
             mark-is = v .mark-is;
             floor-is = v .floor-is;
+            some-window = v .some-window;
+            window-is = v .window-is;
+            longest-is = v .longest-is;
             frames-fit = v .frames-fit;
             rows-fit = v .rows-fit;
             waiting-fit = omega (arith, many, room);
@@ -220,11 +285,10 @@ module _ (i : IvectorInfo) (z : RoomLengths) (n : ℕ) (t : Tables) (made : Made
     -- ---- push
 
     push-next : (x : List Float) → length x ≡ dim → accepted k < 1000000000 → accepted k - k .mark < rowsIn (z .rings .frames) dim
-        → accepted k + 1 - (k .mark + 1 - window) < rowsIn (z .rings .rows) dim
+        → accepted k + 1 - (k .mark + 1 - k .longest) < rowsIn (z .rings .rows) dim
         → Next (stepOf t n (p k w) (push x)) (does M (z .rings) k (push x))
     unfolding stepOf pushFrame does pushedFrames pushedRows
     push-next x wide few room more =
-        let h = ranges i (made .info-is) in
         let fs : List Float = w .rings .frames in
         let rs : List Float = w .rings .rows in
         let long : ringLengthsOf (w .rings) ≡ z .rings = rings-long i z n t made k w v in
@@ -247,6 +311,9 @@ module _ (i : IvectorInfo) (z : RoomLengths) (n : ℕ) (t : Tables) (made : Made
             next-is = omega (arith, len, v .next-is);
             mark-is = v .mark-is;
             floor-is = v .floor-is;
+            some-window = v .some-window;
+            window-is = v .window-is;
+            longest-is = v .longest-is;
             frames-fit = omega (arith, len, room);
             rows-fit = omega (arith, len, more);
             waiting-fit = v .waiting-fit;
@@ -255,7 +322,7 @@ module _ (i : IvectorInfo) (z : RoomLengths) (n : ℕ) (t : Tables) (made : Made
             held-back = v .held-back;
             estimate-is = v .estimate-is;
             long = v .long;
-            agrees = subst (λ (m : ℕ). Agree (ringFrames dim m frames′ rows′) (allFrames (k .history ++ (x ∷ []))) dim (k .mark) window) (sym len) (pushed-agrees (k .history) x dim (k .mark) window fs rs wide (omega (arith, h .some-window, v .mark-is, v .next-is)) (rw f room) (rw r more) (v .agrees));
+            agrees = subst (λ (m : ℕ). Agree (ringFrames dim m frames′ rows′) (allFrames (k .history ++ (x ∷ []))) dim (k .mark) (k .longest)) (sym len) (pushed-agrees (k .history) x dim (k .mark) (k .longest) fs rs wide (omega (arith, v .some-window, v .window-is, v .mark-is, v .next-is)) (rw f room) (rw r more) (v .agrees));
           },
           refl,
           refl,
@@ -268,7 +335,7 @@ module _ (i : IvectorInfo) (z : RoomLengths) (n : ℕ) (t : Tables) (made : Made
     filled e c = roomsFrom (overWaiting c (w .rings)) (overEstimate e (w .estimate))
 
     abbrev moved : ℕ → Changes → Estimate → Machine
-    moved next c e = machine (k .history) next c (k .finished) e (k .mark) (k .floor)
+    moved next c e = machine (k .history) next c (k .finished) e (k .mark) (k .floor) (k .window) (k .longest)
 
     filled-inv : (next : ℕ) (c : Changes) (e : Estimate) → k .next ≤ next → next ≤ accepted k → length (c .waiting) ≤ waitingRoom (z .rings) → rising 0 (framesOf (c .waiting)) ≡ true
         → anyOf (λ f. ltb (f - left) (k .mark)) (framesOf (c .waiting)) ≡ false → Long dim (i .dims .«ivector_dim») e → Inv i z n (moved next c e) (filled e c)
@@ -291,6 +358,9 @@ module _ (i : IvectorInfo) (z : RoomLengths) (n : ℕ) (t : Tables) (made : Made
           next-is = low;
           mark-is = omega (arith, v .mark-is, up);
           floor-is = v .floor-is;
+          some-window = v .some-window;
+          window-is = v .window-is;
+          longest-is = v .longest-is;
           frames-fit = v .frames-fit;
           rows-fit = v .rows-fit;
           waiting-fit = room;
@@ -312,17 +382,24 @@ module _ (i : IvectorInfo) (z : RoomLengths) (n : ℕ) (t : Tables) (made : Made
     changes-are : changesIn s (w .rings) ≡ k .changes
     changes-are = ap (λ (l : List Change). record { waiting = l; past-highest = k .changes .past-highest; called = k .changes .called }) (v .waiting-is)
 
+    -- the model with the window in force; what is held is enough for it
+    abbrev M′ : Model
+    M′ = modelInForce M (k .window)
+
+    agrees-in-force : Agree (framesIn s (w .rings)) (allFrames (k .history)) dim (k .mark) (k .window)
+    agrees-in-force = agree-shorter (omega arith) (omega (arith, v .window-is)) (v .agrees)
+
     -- what the machine makes of its numbers
     abbrev up-to : ℕ → Estimate
-    up-to f = updated M (allFrames (k .history)) (batch (i .opts) (k .changes) (k .next) f) (k .estimate)
+    up-to f = updated M′ (allFrames (k .history)) (batch (M′ .info .opts) (k .changes) (k .next) f) (k .estimate)
 
     fetch-on : (f : ℕ) → f < accepted k → leb (k .next) f ≡ true → (fetchEstimate s t w f ≡ up-to f) × (fetchChanges s (w .rings) f ≡ reached (k .changes) f)
     unfolding fetchEstimate fetchChanges
     fetch-on f l e = (
       rw e
-          (ap₂ (λ (c : Changes) (x : Estimate). updated M (framesIn s (w .rings)) (batch (i .opts) c (k .next) f) x) changes-are (v .estimate-is)
-          ∙ updated-ext M (framesIn s (w .rings)) (allFrames (k .history)) (k .mark) (ranges i (made .info-is) .some-base) (v .agrees) (batch (i .opts) (k .changes) (k .next) f) (k .estimate)
-          (inside-batch (i .opts) (k .mark) (accepted k) (k .changes) (k .next) f (v .mark-is) l (v .held-back))),
+          (ap₂ (λ (c : Changes) (x : Estimate). updated M′ (framesIn s (w .rings)) (batch (M′ .info .opts) c (k .next) f) x) changes-are (v .estimate-is)
+          ∙ updated-ext M′ (framesIn s (w .rings)) (allFrames (k .history)) (k .mark) (ranges i (made .info-is) .some-base) agrees-in-force (batch (M′ .info .opts) (k .changes) (k .next) f) (k .estimate)
+          (inside-batch (M′ .info .opts) (k .mark) (accepted k) (k .changes) (k .next) f (v .mark-is) l (v .held-back))),
       rw e (ap (λ (c : Changes). reached c f) changes-are),
     )
 
@@ -362,12 +439,12 @@ module _ (i : IvectorInfo) (z : RoomLengths) (n : ℕ) (t : Tables) (made : Made
     nans-same : (f : ℕ) → f < accepted k → fetchNans s t w f ≡ nansMet M k f
     unfolding fetchNans nansMet
     nans-same f l =
-        let now = batch (i .opts) (k .changes) (k .next) f in
+        let now = batch (M′ .info .opts) (k .changes) (k .next) f in
         by-test (leb (k .next) f)
         (λ e. rw e
-        (ap₂ (λ (c : Changes) (x : Estimate). nansOver M (framesIn s (w .rings)) (batch (i .opts) c (k .next) f) (x .cmvn)) changes-are (v .estimate-is)
-        ∙ nans-ext M (framesIn s (w .rings)) (allFrames (k .history)) (k .mark) (ranges i (made .info-is) .some-base) (v .agrees) now (k .estimate .cmvn)
-        (inside-batch (i .opts) (k .mark) (accepted k) (k .changes) (k .next) f (v .mark-is) l (v .held-back))))
+        (ap₂ (λ (c : Changes) (x : Estimate). nansOver M′ (framesIn s (w .rings)) (batch (M′ .info .opts) c (k .next) f) (x .cmvn)) changes-are (v .estimate-is)
+        ∙ nans-ext M′ (framesIn s (w .rings)) (allFrames (k .history)) (k .mark) (ranges i (made .info-is) .some-base) agrees-in-force now (k .estimate .cmvn)
+        (inside-batch (M′ .info .opts) (k .mark) (accepted k) (k .changes) (k .next) f (v .mark-is) l (v .held-back))))
         (λ e. rw e)
 
     -- the state
@@ -382,7 +459,7 @@ module _ (i : IvectorInfo) (z : RoomLengths) (n : ℕ) (t : Tables) (made : Made
           filled e′ c′,
           fetch-leaves f (f + 1) c′ e′ (rw e) (h .1) (h .0),
           filled-inv (f + 1) c′ e′ (omega (arith, leb-true (k .next) f e)) (omega arith) (rest-fits f) (rest-rising f) (rest-back f)
-              (updated-long M (allFrames (k .history)) (batch (i .opts) (k .changes) (k .next) f) (k .estimate) (v .long)),
+              (updated-long M′ (allFrames (k .history)) (batch (M′ .info .opts) (k .changes) (k .next) f) (k .estimate) (v .long)),
         ))
         (λ e. let h = fetch-off f e in
         rw e (filled (k .estimate) (k .changes), fetch-leaves f (k .next) (k .changes) (k .estimate) (rw e) (h .1) (h .0), filled-inv (k .next) (k .changes) (k .estimate) (omega arith) (v .next-is) (v .waiting-fit) (v .in-order) (v .held-back) (v .long)))
@@ -405,14 +482,18 @@ module _ (i : IvectorInfo) (z : RoomLengths) (n : ℕ) (t : Tables) (made : Made
     fetch-ready f m e = let h = none-first _ tt e in ready-below f (h .1 .0)
 
     pub taken-next : (c : Call) → does M (z .rings) k c .refusal ≡ 0 → Next (stepOf t n (p k w) c) (does M (z .rings) k c)
-    unfolding does pushTests changeTests framesHeld rowsHeld
+    unfolding does pushTests changeTests windowTests framesHeld rowsHeld
     taken-next (push x) e =
         let h = none-first _ tt e in
         let a : accepted k ≡ 1000000000 → ⊥ = eqb-false _ _ (h .1 .1 .0) in
         let b : accepted k - k .mark ≡ rowsIn (z .rings .frames) dim → ⊥ = eqb-false _ _ (h .1 .1 .1 .0) in
-        let c : accepted k + 1 - (k .mark + 1 - window) ≡ rowsIn (z .rings .rows) dim → ⊥ = eqb-false _ _ (h .1 .1 .1 .1 .0) in
+        let c : accepted k + 1 - (k .mark + 1 - k .longest) ≡ rowsIn (z .rings .rows) dim → ⊥ = eqb-false _ _ (h .1 .1 .1 .1 .0) in
         push-next x (eqb-true _ _ (not-false _ (h .0))) (omega (arith, v .few)) (less-than _ _ (v .frames-fit) b) (less-than _ _ (v .rows-fit) c)
     taken-next finish e = finish-next
     taken-next (change fs ws) e = let h = none-first _ tt e in change-next fs ws (h .1 .1 .1 .0) (ltb-false _ _ (h .1 .1 .1 .1 .0))
     taken-next (forget f) e = forget-next f
+    taken-next (setWindow w′) e =
+        let h = none-first _ tt e in
+        let r = and-holds (leb 1 w′) (leb w′ 1000) (not-false _ (h .0)) in
+        window-next w′ (leb-true 1 w′ (r .0)) (leb-true w′ 1000 (r .1)) (λ l. ltb-false _ _ (and-rest (ltb (k .longest) w′) _ (lt-ltb _ _ l) (h .1 .0)))
     taken-next (fetch f m) e = fetch-next f m (fetch-ready f m e)

@@ -18,21 +18,21 @@ use Rattle.definition.specs.declared.NewStream.{NewStream}
 use Rattle.definition.specs.declared.NewStream.the-variants as N
 use Rattle.definition.specs.declared.StreamAnswer.{StreamAnswer}
 use Rattle.definition.specs.declared.StreamCall.{StreamCall}
-use Rattle.definition.specs.Model.{Tables, tableLengthsOf, modelIn}
+use Rattle.definition.specs.Model.{Tables, inForce, tableLengthsOf, modelIn}
 use Rattle.definition.specs.Statistics.{newStats}
 use Rattle.definition.specs.Solve.{priorVector}
 use Rattle.definition.specs.Changes.{Changes, changed, reached, batch}
 use Rattle.definition.specs.Estimate.{Estimate, updated, nansOver}
-use Rattle.definition.specs.Machine.{framesHeld, rowsHeld, framesReady, forgotten, pushTests, changeTests, fetchTests, fetched, bitsOf, notFinite}
+use Rattle.definition.specs.Machine.{framesHeld, rowsHeld, framesReady, forgotten, longestFrom, pushTests, changeTests, windowTests, fetchTests, fetched, bitsOf, notFinite}
 use Rattle.definition.specs.Stream.{newRefusal, sameTables, isBroken, sameRings, sameRooms}
 use Rattle.program.specs.Rooms.{Rings, ringsFrom, EstimateRooms, estimateFrom, Rooms, roomsFrom, ringLengthsOf, roomLengthsOf, ringAt, framesIn, framesOf, weightsOf, changesIn, estimateIn}
 
 -- ---- the record
 
 -- accepted, next, mark, how many changes wait, one more than the highest changed frame, whether a change call was taken, finished, the statistics'
--- frame count, and the floor
-abbrev pub streamFrom : IvectorInfo → RoomLengths → ℕ → ℕ → ℕ → ℕ → ℕ → Bool → Bool → Float → ℕ → IvectorStream
-streamFrom i z accepted next mark waiting past-highest called finished n floor =
+-- frame count, the floor, the window in force, and the longest since the last rise of the mark
+abbrev pub streamFrom : IvectorInfo → RoomLengths → ℕ → ℕ → ℕ → ℕ → ℕ → Bool → Bool → Float → ℕ → ℕ → ℕ → IvectorStream
+streamFrom i z accepted next mark waiting past-highest called finished n floor window longest =
     record {
       info = i;
       lengths = z;
@@ -45,6 +45,8 @@ streamFrom i z accepted next mark waiting past-highest called finished n floor =
       «input_finished» = finished;
       «num_frames» = n;
       floor = floor;
+      window = window;
+      longest = longest;
     }
 
 -- ---- answers
@@ -55,7 +57,7 @@ answerFrom r frames rows n m = record { refusal = r; «frames_held» = frames; �
 -- refusal r, on a record s, with n elements not finite and m likelihoods that were NaN; a refusal 10 is its number alone
 unfoldable pub answerOf : ℕ → IvectorStream → ℕ → ℕ → StreamAnswer
 answerOf r s n m =
-    if eqb r 10 then answerFrom r 0 0 0 0 else answerFrom r (framesHeld (s .accepted) (s .mark)) (rowsHeld (s .info .opts .«cmn_window») (s .accepted) (s .mark)) n m
+    if eqb r 10 then answerFrom r 0 0 0 0 else answerFrom r (framesHeld (s .accepted) (s .mark)) (rowsHeld (s .longest) (s .accepted) (s .mark)) n m
 
 -- what a call returns, s being the record that it leaves
 abbrev pub callOf : ℕ → IvectorStream → ℕ → ℕ → StreamCall
@@ -64,7 +66,7 @@ callOf r s n m = record { answer = answerOf r s n m; stream = s }
 -- ---- a fresh stream
 
 unfoldable pub freshStream : IvectorInfo → RoomLengths → IvectorStream
-freshStream i z = streamFrom i z 0 0 0 0 0 false false zero₆₄ 0
+freshStream i z = streamFrom i z 0 0 0 0 0 false false zero₆₄ 0 (i .opts .«cmn_window») (i .opts .«cmn_window»)
 
 -- on tables and rooms of these lengths
 unfoldable pub newAnswer : IvectorInfo → TableLengths → RoomLengths → NewStream
@@ -85,23 +87,28 @@ freshRooms i z =
 
 abbrev pub withAccepted : IvectorStream → ℕ → IvectorStream
 withAccepted s n =
-    streamFrom (s .info) (s .lengths) n (s .«num_frames_stats») (s .mark) (s .waiting) (s .«past_highest») (s .«delta_weights_provided») (s .«input_finished») (s .«num_frames») (s .floor)
+    streamFrom (s .info) (s .lengths) n (s .«num_frames_stats») (s .mark) (s .waiting) (s .«past_highest») (s .«delta_weights_provided») (s .«input_finished») (s .«num_frames») (s .floor) (s .window) (s .longest)
 
 abbrev pub withFinished : IvectorStream → IvectorStream
 withFinished s =
-    streamFrom (s .info) (s .lengths) (s .accepted) (s .«num_frames_stats») (s .mark) (s .waiting) (s .«past_highest») (s .«delta_weights_provided») true (s .«num_frames») (s .floor)
+    streamFrom (s .info) (s .lengths) (s .accepted) (s .«num_frames_stats») (s .mark) (s .waiting) (s .«past_highest») (s .«delta_weights_provided») true (s .«num_frames») (s .floor) (s .window) (s .longest)
 
--- with mark and floor
-abbrev pub withMark : IvectorStream → ℕ → ℕ → IvectorStream
-withMark s m floor =
-    streamFrom (s .info) (s .lengths) (s .accepted) (s .«num_frames_stats») m (s .waiting) (s .«past_highest») (s .«delta_weights_provided») (s .«input_finished») (s .«num_frames») floor
+-- with mark, floor and longest window
+abbrev pub withMark : IvectorStream → ℕ → ℕ → ℕ → IvectorStream
+withMark s m floor longest =
+    streamFrom (s .info) (s .lengths) (s .accepted) (s .«num_frames_stats») m (s .waiting) (s .«past_highest») (s .«delta_weights_provided») (s .«input_finished») (s .«num_frames») floor (s .window) longest
 
 -- with changes, next and the statistics' frame count
 abbrev pub withChanges : IvectorStream → Changes → ℕ → Float → IvectorStream
 withChanges s c next n =
-    streamFrom (s .info) (s .lengths) (s .accepted) next (s .mark) (length (c .waiting)) (c .past-highest) (c .called) (s .«input_finished») n (s .floor)
+    streamFrom (s .info) (s .lengths) (s .accepted) next (s .mark) (length (c .waiting)) (c .past-highest) (c .called) (s .«input_finished») n (s .floor) (s .window) (s .longest)
 
--- ---- push, finish, change and forget: a call on the rings
+-- with the window in force and the longest
+abbrev pub withWindow : IvectorStream → ℕ → ℕ → IvectorStream
+withWindow s w longest =
+    streamFrom (s .info) (s .lengths) (s .accepted) (s .«num_frames_stats») (s .mark) (s .waiting) (s .«past_highest») (s .«delta_weights_provided») (s .«input_finished») (s .«num_frames») (s .floor) w longest
+
+-- ---- push, finish, change, forget and the window call: a call on the rings
 
 -- its refusal number, and where that is 0 the record and the rings that it leaves
 pub record RingStep : Type 0 where
@@ -139,7 +146,7 @@ pushedRows s rows x =
 
 unfoldable pub pushFrame : IvectorStream → Rings → List Float → RingStep
 pushFrame s z x =
-    ringStep (recordTests s z ++ pushTests (s .info .opts) (s .info .dims) (s .lengths .rings) (s .accepted) (s .mark) x)
+    ringStep (recordTests s z ++ pushTests (s .info .dims) (s .lengths .rings) (s .longest) (s .accepted) (s .mark) x)
     (withAccepted s (s .accepted + 1)) (ringsFrom (pushedFrames s (z .frames) x) (pushedRows s (z .rows) x) (z .waiting-frames) (z .waiting-weights))
 
 unfoldable pub setInputFinished : IvectorStream → Rings → RingStep
@@ -159,7 +166,13 @@ unfoldable pub forgetMark : IvectorStream → List ℕ → ℕ → ℕ
 forgetMark s fs f = forgotten (s .info .opts .«left_context») (s .«num_frames_stats») (s .mark) (take (s .waiting) fs) f
 
 unfoldable pub forgetBefore : IvectorStream → Rings → ℕ → RingStep
-forgetBefore s z f = ringStep (recordTests s z) (withMark s (forgetMark s (z .waiting-frames) f) (max (s .floor) f)) z
+forgetBefore s z f =
+    let m = forgetMark s (z .waiting-frames) f in
+    ringStep (recordTests s z) (withMark s m (max (s .floor) f) (longestFrom (s .window) (s .longest) (s .mark) m)) z
+
+-- request 12
+unfoldable pub setCmnWindow : IvectorStream → Rings → ℕ → RingStep
+setCmnWindow s z w = ringStep (recordTests s z ++ windowTests (s .longest) (s .mark) w) (withWindow s w (max (s .longest) w)) z
 
 -- ---- fetch
 
@@ -196,14 +209,15 @@ fetchRefusal s t z fs f m =
     ∷ (isBroken s fs, 10)
     ∷ fetchTests (s .info .dims) (framesReady (s .info .opts) (s .«input_finished») (s .accepted)) (s .«num_frames_stats») (s .«delta_weights_provided») (s .«past_highest») f m)
 
--- whether a fetch of f brings frames in
+-- whether a fetch of f brings frames in; it does so by the window in force
 abbrev pub catchesUp : IvectorStream → ℕ → Bool
 catchesUp s f = leb (s .«num_frames_stats») f
 
 unfoldable pub fetchEstimate : IvectorStream → Tables → Rooms → ℕ → Estimate
 fetchEstimate s t z f =
+    let i = inForce (s .info) (s .window) in
     let e = estimateIn s (z .estimate) in
-    if catchesUp s f then updated (modelIn (s .info) t) (framesIn s (z .rings)) (batch (s .info .opts) (changesIn s (z .rings)) (s .«num_frames_stats») f) e else e
+    if catchesUp s f then updated (modelIn i t) (framesIn s (z .rings)) (batch (i .opts) (changesIn s (z .rings)) (s .«num_frames_stats») f) e else e
 
 unfoldable pub fetchChanges : IvectorStream → Rings → ℕ → Changes
 fetchChanges s z f = let c = changesIn s z in if catchesUp s f then reached c f else c
@@ -226,7 +240,8 @@ fetchVector s t z f = fetched (modelIn (s .info) t) (fetchEstimate s t z f .curr
 -- request 4
 unfoldable pub fetchNans : IvectorStream → Tables → Rooms → ℕ → ℕ
 fetchNans s t z f =
-    let n = nansOver (modelIn (s .info) t) (framesIn s (z .rings)) (batch (s .info .opts) (changesIn s (z .rings)) (s .«num_frames_stats») f) (estimateIn s (z .estimate) .cmvn) in
+    let i = inForce (s .info) (s .window) in
+    let n = nansOver (modelIn i t) (framesIn s (z .rings)) (batch (i .opts) (changesIn s (z .rings)) (s .«num_frames_stats») f) (estimateIn s (z .estimate) .cmvn) in
     if catchesUp s f then n else 0
 
 unfoldable pub getFrame : IvectorStream → Tables → Rooms → ℕ → ℕ → ℕ → Step

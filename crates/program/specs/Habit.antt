@@ -13,7 +13,7 @@ use Rattle.loops.specs.Refusal.{taken}
 use Rattle.loops.specs.Ring.{rowsIn}
 use Rattle.definition.specs.declared.IvectorInfo.{IvectorInfo}
 use Rattle.definition.specs.Model.{Tables}
-use Rattle.definition.specs.Machine.{Call, push, finish, change, forget, fetch, Answer, framesHeld}
+use Rattle.definition.specs.Machine.{Call, push, finish, change, forget, setWindow, fetch, Answer, framesHeld}
 use Rattle.program.specs.Rooms.{Rooms}
 use Rattle.program.specs.Session.{programAfter}
 use Rattle.program.specs.Played.{Played, ended, answered, took}
@@ -31,11 +31,22 @@ Never r rs = anyOf (λ a. eqb (a .told .refusal) r) rs ≡ false
 
 -- ---- rows
 
--- with R at least F + window no push is refused 15
+-- the window that a call sets, 0 where it sets none
+unfoldable pub windowOf : Call → ℕ
+windowOf (push x) = 0
+windowOf finish = 0
+windowOf (change fs ws) = 0
+windowOf (forget f) = 0
+windowOf (setWindow w) = w
+windowOf (fetch f n) = 0
+
+-- with R at least F + w no push is refused 15, w being the options' window or more and no call setting one above it
 abbrev pub RowsEnough : Type 0
 RowsEnough =
-    (i : IvectorInfo) (t : Tables) (s : Played i t)
-    → frameRoom i (s .lent) + i .opts .«cmn_window» ≤ rowRoom i (s .lent)
+    (i : IvectorInfo) (t : Tables) (s : Played i t) (w : ℕ)
+    → i .opts .«cmn_window» ≤ w
+    → allOf (λ c. leb (windowOf c) w) (s .calls) ≡ true
+    → frameRoom i (s .lent) + w ≤ rowRoom i (s .lent)
     → Never 15 (answered i t s)
 
 -- ---- a forget
@@ -70,6 +81,7 @@ entered right b (push x) = ledger (b .frames + 1) (b .next) (b .clear) (b .since
 entered right b finish = b
 entered right b (change fs ws) = ledger (b .frames) (b .next) (foldl min (b .clear) fs) (b .since)
 entered right b (forget f) = ledger (b .frames) (b .next) (b .clear) (if leb (b .frames) (min f (b .clear) + right) then 0 else b .since)
+entered right b (setWindow w) = b
 entered right b (fetch f n) = if leb (b .next) f then ledger (b .frames) (f + 1) (f + 1) (b .since) else b
 
 -- the habit: no push where an utterance has its L frames already
@@ -78,6 +90,7 @@ mayCome L b (push x) = ltb (b .since) L
 mayCome L b finish = true
 mayCome L b (change fs ws) = true
 mayCome L b (forget f) = true
+mayCome L b (setWindow w) = true
 mayCome L b (fetch f n) = true
 
 unfoldable pub inHabit : ℕ → ℕ → Ledger → List Call → List Answer → Bool

@@ -14,7 +14,7 @@ use Rattle.definition.specs.declared.IvectorStream.{IvectorStream}
 use Rattle.definition.specs.declared.StreamCall.{StreamCall}
 use Rattle.definition.specs.declared.NewStream.the-variants as N
 use Rattle.definition.specs.Model.{Tables, tableLengthsOf, modelIn}
-use Rattle.definition.specs.Machine.{Call, push, finish, change, forget, fetch, Answer, Machine, framesHeld, fresh, toldBy, machineAfter, answers}
+use Rattle.definition.specs.Machine.{Call, push, finish, change, forget, setWindow, fetch, Answer, Machine, framesHeld, fresh, toldBy, machineAfter, answers}
 use Rattle.program.specs.Rooms.{Rooms, ringLengthsOf, roomLengthsOf, ringAt}
 use Rattle.program.specs.Calls.{newAnswer, freshRooms}
 use Rattle.program.specs.Session.{Program, program, programAfter, programAnswers}
@@ -46,21 +46,23 @@ framesTaken (push x ∷ cs) (a ∷ rs) = taken (a .told .refusal) (x ∷ framesT
 framesTaken (finish ∷ cs) (a ∷ rs) = framesTaken cs rs
 framesTaken (change fs ws ∷ cs) (a ∷ rs) = framesTaken cs rs
 framesTaken (forget f ∷ cs) (a ∷ rs) = framesTaken cs rs
+framesTaken (setWindow w ∷ cs) (a ∷ rs) = framesTaken cs rs
 framesTaken (fetch f m ∷ cs) (a ∷ rs) = framesTaken cs rs
 
 -- a program p at its end, the keeping machine k at its end, and the frames that were taken: the record counts them, its mark is the machine's and
--- no higher than that count, and so the frames held are the pushes taken less that mark
+-- no higher than that count, and so the frames held are the pushes taken less that mark; its longest window is the machine's
 pub record Held (p : Program) (k : Machine) (took : List (List Float)) : Type 0 where
   pub accepted-is : p .stream .accepted ≡ length took
   pub mark-is : p .stream .mark ≡ k .mark
   pub mark-below : k .mark ≤ length took
   pub held-is : framesHeld (p .stream .accepted) (p .stream .mark) ≡ length took - k .mark
+  pub longest-is : p .stream .longest ≡ k .longest
 
--- the frame ring holds the frames taken, from the mark on, and the row ring their prefix sums, from mark + 1 - window on (0 where that is below
--- 0): so all that a fetch can still read is what was pushed
-pub record Holds (dim window : ℕ) (p : Program) (took : List (List Float)) : Type 0 where
+-- the frame ring holds the frames taken, from the mark on, and the row ring their prefix sums, from mark + 1 - the longest window on (0 where that is
+-- below 0): so all that a fetch can still read is what was pushed
+pub record Holds (dim : ℕ) (p : Program) (took : List (List Float)) : Type 0 where
   pub frame-is : (u d : ℕ) → p .stream .mark ≤ u → u < length took → d < dim → ringAt dim (p .rooms .rings .frames) u d ≡ at (getD took u []) d
-  pub row-is : (u d : ℕ) → p .stream .mark + 1 - window ≤ u → u ≤ length took → d < dim
+  pub row-is : (u d : ℕ) → p .stream .mark + 1 - p .stream .longest ≤ u → u ≤ length took → d < dim
       → ringAt dim (p .rooms .rings .rows) u d ≡ sum₆₄ zero₆₄ u (λ v. at (getD took v []) d)
 
 -- after any list of calls on a fresh stream, the empty one too
@@ -73,4 +75,4 @@ HeldAfter =
     let p = program (c .stream) (freshRooms i z) in
     let took = framesTaken cs (programAnswers t n p cs) in
     Held (programAfter t n p cs) (machineAfter M (ringLengthsOf (z .rings)) (fresh M) cs) took
-    × Holds (i .dims .«base_dim») (i .opts .«cmn_window») (programAfter t n p cs) took
+    × Holds (i .dims .«base_dim») (programAfter t n p cs) took

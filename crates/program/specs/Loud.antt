@@ -1,5 +1,5 @@
 -- Request 10, "loud speech has no memory": where a frame is held and its c0 is above `min_energy`, its normalised view in the stream is one function
--- of the model, the options and the frames up to it, whichever calls came first. The view is raw minus mean of one frame, before splice and LDA.
+-- of the model, the options, the window in force (request 12) and the frames up to it, whichever calls came first. The view is raw minus mean of one frame, before splice and LDA.
 use mathlib.Core.Path.{_≡_}
 use mathlib.Core.Bool.{Bool, true}
 use Prim.Native.Nat.{ℕ, _+_, _-_, _≤_, _<_}
@@ -9,28 +9,12 @@ use lib.Ieee.{Float, lt}
 use Rattle.floats.specs.Operators.{at}
 use Rattle.definition.specs.declared.IvectorInfo.{IvectorInfo}
 use Rattle.definition.specs.declared.IvectorOptions.{IvectorOptions}
-use Rattle.definition.specs.Model.{Tables, Model, modelIn}
+use Rattle.definition.specs.Model.{Tables, Model, inForce, modelIn}
 use Rattle.definition.specs.Views.{Frames, smoothed, windowed, cmvnState, cmvnFrame}
 use Rattle.definition.specs.Machine.{allFrames}
 use Rattle.program.specs.Rooms.{framesIn, estimateIn}
 use Rattle.program.specs.Session.{Program}
 use Rattle.program.specs.Played.{Played, ended, took}
-
--- the options with a window in force
-abbrev pub inForce : IvectorOptions → ℕ → IvectorOptions
-inForce o window =
-    record {
-      «left_context» = o .«left_context»;
-      «right_context» = o .«right_context»;
-      «cmn_window» = window;
-      «global_frames» = o .«global_frames»;
-      «num_gselect» = o .«num_gselect»;
-      «num_cg_iters» = o .«num_cg_iters»;
-      «min_post» = o .«min_post»;
-      «posterior_scale» = o .«posterior_scale»;
-      «max_count» = o .«max_count»;
-      «min_energy» = o .«min_energy»;
-    }
 
 -- its c0 is above `min_energy`
 abbrev pub isLoud : IvectorOptions → List Float → Bool
@@ -40,7 +24,7 @@ isLoud o x = lt (o .«min_energy») (at x 0)
 -- where the window is not full, and raw minus mean. No CMVN state goes in.
 unfoldable pub loudView : Model → ℕ → List (List Float) → List Float
 loudView M window xs =
-    let o = inForce (M .info .opts) window in
+    let o = inForce (M .info) window .opts in
     let dim = M .info .dims .«base_dim» in
     let F = allFrames xs in
     let last = length xs - 1 in
@@ -51,11 +35,11 @@ unfoldable pub viewBy : IvectorOptions → ℕ → List Float → Frames → ℕ
 viewBy o dim global F u state = cmvnFrame dim F u (cmvnState o dim global F u state)
 
 module _ (t : Tables) where
-  -- in a program's rooms: of frame u as the rings have it, by a state
+  -- in a program's rooms: of frame u as the rings have it, by the window in force and a state
   abbrev pub viewOn : Program → ℕ → List Float → List Float
   viewOn p u state =
       let s = p .stream in
-      viewBy (s .info .opts) (s .info .dims .«base_dim») (modelIn (s .info) t .tables .global-mean-stats) (framesIn s (p .rooms .rings)) u state
+      viewBy (inForce (s .info) (s .window) .opts) (s .info .dims .«base_dim») (modelIn (s .info) t .tables .global-mean-stats) (framesIn s (p .rooms .rings)) u state
 
   -- by the state that lies there, which the calls before left
   abbrev pub viewIn : Program → ℕ → List Float
@@ -73,14 +57,16 @@ abbrev pub LoudAfter : Type 0
 LoudAfter =
     (i : IvectorInfo) (t : Tables) (s : Played i t) (u : ℕ)
     → LoudHeld i t s u
-    → let v = loudView (modelIn i t) (i .opts .«cmn_window») (take (u + 1) (took i t s)) in
+    → let v = loudView (modelIn i t) (ended i t s .stream .window) (take (u + 1) (took i t s)) in
     (viewIn t (ended i t s) u ≡ v) × ((state : List Float) → viewOn t (ended i t s) u state ≡ v)
 
--- so two streams over one model, in any rooms, after any calls, whose first u + 1 frames are the same have the same view of frame u
+-- so two streams over one model, in any rooms, after any calls, whose first u + 1 frames and whose windows in force are the same have the same view of
+-- frame u
 abbrev pub LoudAlike : Type 0
 LoudAlike =
     (i : IvectorInfo) (t : Tables) (s s′ : Played i t) (u : ℕ)
     → LoudHeld i t s u
     → LoudHeld i t s′ u
+    → ended i t s .stream .window ≡ ended i t s′ .stream .window
     → take (u + 1) (took i t s) ≡ take (u + 1) (took i t s′)
     → viewIn t (ended i t s) u ≡ viewIn t (ended i t s′) u

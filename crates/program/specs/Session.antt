@@ -5,9 +5,9 @@ use lib.Ieee.{Float}
 use Rattle.loops.specs.Refusal.{taken}
 use Rattle.definition.specs.declared.IvectorStream.{IvectorStream}
 use Rattle.definition.specs.Model.{Tables}
-use Rattle.definition.specs.Machine.{Call, push, finish, change, forget, fetch, Answer, bitsOf, notFinite}
+use Rattle.definition.specs.Machine.{Call, push, finish, change, forget, setWindow, fetch, Answer, bitsOf, notFinite}
 use Rattle.program.specs.Rooms.{Rings, Rooms, roomsFrom}
-use Rattle.program.specs.Calls.{answerOf, RingStep, Step, pushFrame, setInputFinished, updateFrameWeights, forgetBefore, getFrame}
+use Rattle.program.specs.Calls.{answerOf, RingStep, Step, pushFrame, setInputFinished, updateFrameWeights, forgetBefore, setCmnWindow, getFrame}
 
 -- the program's state: its record, and what the lent rooms hold
 pub record Program : Type 0 where
@@ -38,6 +38,7 @@ module _ (t : Tables) (n : ℕ) where
   stepOf p finish = onRings (p .rooms) (setInputFinished (p .stream) (p .rooms .rings))
   stepOf p (change fs ws) = onRings (p .rooms) (updateFrameWeights (p .stream) (p .rooms .rings) fs ws)
   stepOf p (forget f) = onRings (p .rooms) (forgetBefore (p .stream) (p .rooms .rings) f)
+  stepOf p (setWindow w) = onRings (p .rooms) (setCmnWindow (p .stream) (p .rooms .rings) w)
   stepOf p (fetch f m) = getFrame (p .stream) t (p .rooms) n f m
 
   -- the program after a list of calls, and its answers to them

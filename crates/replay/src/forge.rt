@@ -130,6 +130,14 @@ fn forge_stream(text: &[u8], at: usize, v: usize, stream: IvectorStream) -> Ivec
         s.floor = v;
         return s;
     }
+    if is_word(text, at, b"window") {
+        s.window = v;
+        return s;
+    }
+    if is_word(text, at, b"longest") {
+        s.longest = v;
+        return s;
+    }
     s.info = forge_model(text, at, v, stream.info);
     s
 }

@@ -242,7 +242,7 @@ fn change_line(
     )
 }
 
-// `f`, and `d F`
+// `f`, `n V`, and `d F`
 fn mark_line(
     letter: u8,
     text: &[u8],
@@ -267,10 +267,20 @@ fn mark_line(
             waiting_weights_lent,
         );
     }
-    let frame = script::number(text, at, 10);
+    let number = script::number(text, at, 10);
+    if letter == b'n' {
+        return ivector_stream::set_cmn_window(
+            s,
+            number.value,
+            frames_lent,
+            rows_lent,
+            waiting_frames_lent,
+            waiting_weights_lent,
+        );
+    }
     ivector_stream::forget_before(
         s,
-        frame.value,
+        number.value,
         frames_lent,
         rows_lent,
         waiting_frames_lent,
@@ -573,7 +583,7 @@ pub(crate) fn is_fetch(letter: u8) -> bool {
 
 fn is_call(letter: u8) -> bool {
     match letter {
-        b'p' | b'f' | b'w' | b'd' => true,
+        b'p' | b'f' | b'w' | b'd' | b'n' => true,
         _ => false,
     }
 }

@@ -11,9 +11,9 @@ use Rattle.loops.specs.Refusal.{taken}
 use Rattle.definition.specs.declared.IvectorStream.{IvectorStream}
 use Rattle.definition.specs.declared.StreamCall.{StreamCall}
 use Rattle.definition.specs.Model.{Tables}
-use Rattle.definition.specs.Machine.{Call, push, finish, change, forget, fetch, bitsOf, notFinite}
+use Rattle.definition.specs.Machine.{Call, push, finish, change, forget, setWindow, fetch, bitsOf, notFinite}
 use Rattle.program.specs.Rooms.{Rings, Rooms, roomsFrom}
-use Rattle.program.specs.Calls.{callOf, RingStep, RingCall, ringCall, doneOn, pushFrame, setInputFinished, updateFrameWeights, forgetBefore, Step, FetchCall, fetchCall, fetchedOn, getFrame}
+use Rattle.program.specs.Calls.{callOf, RingStep, RingCall, ringCall, doneOn, pushFrame, setInputFinished, updateFrameWeights, forgetBefore, setCmnWindow, Step, FetchCall, fetchCall, fetchedOn, getFrame}
 use Rattle.program.specs.Session.{Program, program, onRings, stepped, reply, stepOf}
 use Rattle.run_calls.specs.Listed.{ofKind}
 use Rattle.run_calls.specs.Turns.{ringStepOf}
@@ -87,10 +87,14 @@ module _ (f : ℕ) (x : List Float) (fs : List ℕ) (ws : List Float) where
     unfolding ofKind ringStepOf
     forget-done kind e = rw e
 
-  a-fetch : (kind m : ℕ) → 4 ≤ kind → ofKind kind f x fs ws m ≡ fetch f m
+  a-fetch : (kind m : ℕ) → 4 ≤ kind → (kind ≡ 5 → ⊥) → ofKind kind f x fs ws m ≡ fetch f m
   unfolding ofKind
-  a-fetch kind m h =
-      simp (ne-eqb kind 0 (λ e. omega arith), ne-eqb kind 1 (λ e. omega arith), ne-eqb kind 2 (λ e. omega arith), ne-eqb kind 3 (λ e. omega arith))
+  a-fetch kind m h g =
+      simp (ne-eqb kind 0 (λ e. omega arith), ne-eqb kind 1 (λ e. omega arith), ne-eqb kind 2 (λ e. omega arith), ne-eqb kind 3 (λ e. omega arith), ne-eqb kind 5 g)
+
+  a-window : (kind m : ℕ) → kind ≡ 5 → ofKind kind f x fs ws m ≡ setWindow f
+  unfolding ofKind
+  a-window kind m e = rw e
 
   module _ (t : Tables) (n : ℕ) (s : IvectorStream) (z : Rooms) where
     abbrev p : Program
@@ -112,10 +116,17 @@ module _ (f : ℕ) (x : List Float) (fs : List ℕ) (ws : List Float) where
         let y : RingStep = ringStepOf s (z .rings) (ofKind kind f x fs ws 0) in
         called t n p _ out (onRings z y) (on-rings kind m k) (ap (λ (q : RingCall). fetchCall (q .call) (roomsFrom (q .rings) (z .estimate)) out) h ∙ done-is p out y)
 
-    pub called-fetch : (kind : ℕ) (out : List ℕ) {r : StreamCall} {y : Rooms} {out′ : List ℕ} → 4 ≤ kind
+    pub called-window : (kind m : ℕ) (out : List ℕ) {r : StreamCall} {w : Rings} → kind ≡ 5 → ringCall r w ≡ doneOn s (z .rings) (setCmnWindow s (z .rings) f)
+        → Called t n p (ofKind kind f x fs ws m) r (roomsFrom w (z .estimate)) out out
+    unfolding stepOf
+    called-window kind m out k h =
+        let y : RingStep = setCmnWindow s (z .rings) f in
+        called t n p _ out (onRings z y) (ap (stepOf t n p) (a-window kind m k)) (ap (λ (q : RingCall). fetchCall (q .call) (roomsFrom (q .rings) (z .estimate)) out) h ∙ done-is p out y)
+
+    pub called-fetch : (kind : ℕ) (out : List ℕ) {r : StreamCall} {y : Rooms} {out′ : List ℕ} → 4 ≤ kind → (kind ≡ 5 → ⊥)
         → fetchCall r y out′ ≡ fetchedOn s z out (getFrame s t z n f (length out))
         → Called t n p (ofKind kind f x fs ws (length out)) r y out out′
     unfolding stepOf
-    called-fetch kind out k h =
+    called-fetch kind out k l h =
         let y : Step = getFrame s t z n f (length out) in
-        called t n p _ out y (ap (stepOf t n p) (a-fetch kind (length out) k)) (h ∙ fetched-is p out y)
+        called t n p _ out y (ap (stepOf t n p) (a-fetch kind (length out) k l)) (h ∙ fetched-is p out y)

@@ -11,7 +11,7 @@ use lib.Dec.{ltb}
 use lib.Ieee.{Float}
 use Rattle.loops.specs.Lists.{build, allOf}
 use Rattle.loops.proofs.Build.{build-ext}
-use Rattle.definition.specs.Machine.{Call, push, finish, change, forget, fetch}
+use Rattle.definition.specs.Machine.{Call, push, finish, change, forget, setWindow, fetch}
 use Rattle.run_calls.specs.Listed.{part, ofKind, callAt, calls}
 use Rattle.run_calls.specs.Coded.{Coding, EveryList}
 
@@ -22,6 +22,7 @@ kindOf (push x) = 0
 kindOf finish = 1
 kindOf (change fs ws) = 2
 kindOf (forget f) = 3
+kindOf (setWindow w) = 5
 kindOf (fetch f m) = 4
 
 -- what a call is lent: frames, samples, an output's length
@@ -30,6 +31,7 @@ framesFor (push x) = []
 framesFor finish = []
 framesFor (change fs ws) = fs
 framesFor (forget f) = []
+framesFor (setWindow w) = []
 framesFor (fetch f m) = []
 
 abbrev samplesFor : Call → List Float
@@ -37,6 +39,7 @@ samplesFor (push x) = x
 samplesFor finish = []
 samplesFor (change fs ws) = ws
 samplesFor (forget f) = []
+samplesFor (setWindow w) = []
 samplesFor (fetch f m) = []
 
 abbrev outFor : Call → ℕ
@@ -44,6 +47,7 @@ outFor (push x) = 0
 outFor finish = 0
 outFor (change fs ws) = 0
 outFor (forget f) = 0
+outFor (setWindow w) = 0
 outFor (fetch f m) = m
 
 -- its numbers, where l frames, s samples and outputs of o numbers stand before
@@ -52,6 +56,7 @@ numberFor l s o (push x) k = getD (s ∷ (s + length x) ∷ 0 ∷ 0 ∷ []) k 0
 numberFor l s o finish k = 0
 numberFor l s o (change fs ws) k = getD (l ∷ (l + length fs) ∷ s ∷ (s + length ws) ∷ []) k 0
 numberFor l s o (forget f) k = getD (f ∷ 0 ∷ 0 ∷ 0 ∷ []) k 0
+numberFor l s o (setWindow w) k = getD (w ∷ 0 ∷ 0 ∷ 0 ∷ []) k 0
 numberFor l s o (fetch f m) k = getD (f ∷ o ∷ (o + m) ∷ 0 ∷ []) k 0
 
 abbrev allFrames : List Call → List ℕ
@@ -117,6 +122,7 @@ module _ (ls : List ℕ) (ss : List Float) (o n : ℕ) (fs : List ℕ) (xs : Lis
   there finish h = refl
   there (change gs ws) h = rw (part-there ls gs fs, part-there ss ws xs)
   there (forget f) h = refl
+  there (setWindow w) h = refl
   there (fetch f m) h = ap (fetch f) (out-there o m n h)
 
 -- ---- the whole list
@@ -140,14 +146,15 @@ sized : (cs : List Call) (l s o : ℕ) → length (allNumbers l s o cs) ≡ 4 * 
 sized [] l s o = refl
 sized (c ∷ cs) l s o = omega (arith, sized cs (l + length (framesFor c)) (s + length (samplesFor c)) (o + outFor c))
 
-kind-small : (c : Call) → ltb (kindOf c) 5 ≡ true
+kind-small : (c : Call) → ltb (kindOf c) 6 ≡ true
 kind-small (push x) = refl
 kind-small finish = refl
 kind-small (change fs ws) = refl
 kind-small (forget f) = refl
+kind-small (setWindow w) = refl
 kind-small (fetch f m) = refl
 
-kinds-small : (cs : List Call) → allOf (λ k. ltb k 5) (map kindOf cs) ≡ true
+kinds-small : (cs : List Call) → allOf (λ k. ltb k 6) (map kindOf cs) ≡ true
 unfolding allOf
 kinds-small [] = refl
 kinds-small (c ∷ cs) = rw kind-small (kinds-small cs)

@@ -16,13 +16,13 @@ use Rattle.definition.specs.declared.StreamCall.{StreamCall}
 use Rattle.definition.specs.Model.{Tables}
 use Rattle.definition.specs.Machine.{Call, finish, Answer}
 use Rattle.program.specs.Rooms.{Rings, Rooms, roomsFrom}
-use Rattle.program.specs.Calls.{ringCall, doneOn, fetchCall, fetchedOn, getFrame}
+use Rattle.program.specs.Calls.{ringCall, doneOn, setCmnWindow, fetchCall, fetchedOn, getFrame}
 use Rattle.program.specs.Session.{Program, program, stepped, stepOf, reply, programAfter, programAnswers}
 use Rattle.run_calls.specs.Listed.{part, ofKind, callAt, calls, numbersOf, Written, written, write, writes}
 use Rattle.run_calls.specs.Turns.{codedAt, decoded, ringStepOf, Turned}
 use Rattle.run_calls.specs.declared.CodedCall.{CodedCall}
 use Rattle.run_calls.proofs.Cut.{cut-ends, cut-length, put-nothing, over-nothing, lent-back}
-use Rattle.run_calls.proofs.Branches.{Called, called-rings, called-fetch}
+use Rattle.run_calls.proofs.Branches.{Called, called-rings, called-window, called-fetch}
 
 -- ---- a call as code plays it
 
@@ -64,15 +64,28 @@ module _ (k : CodedCall) (lists : List ℕ) (samples : List Float) (t : Tables) 
       turned t n (program st z) o this b outs r y [] [] (call-is p q v refl) g
       (put-nothing start outs ∙ ap (λ (v : List ℕ). put start v outs) (sym (over-nothing _ (g .output-is))))
 
+  pub window-turned : {r : StreamCall} {w : Rings} → kind ≡ 5 → ringCall r w ≡ doneOn st (z .rings) (setCmnWindow st (z .rings) a)
+      → Turned t n (program st z) this b outs r (roomsFrom w (z .estimate)) outs
+  window-turned {r} {w} h e =
+      let m : ℕ = min (c - b) (length outs - b) in
+      let y : Rooms = roomsFrom w (z .estimate) in
+      let x : List Float = part a b samples in
+      let fs : List ℕ = part a b lists in
+      let ws : List Float = part c d samples in
+      let o : Call = ofKind kind a x fs ws m in
+      let g : Called t n (program st z) o r y [] [] = called-window a x fs ws t n st z kind m [] h e in
+      turned t n (program st z) o this b outs r y [] [] (call-is refl refl refl refl) g
+      (put-nothing start outs ∙ ap (λ (v : List ℕ). put start v outs) (sym (over-nothing _ (g .output-is))))
+
   pub fetch-turned : (from m to : ℕ) {r : StreamCall} {y : Rooms} {out : List ℕ} → let lent = take (to - from) (drop from outs) in
-      4 ≤ kind → from ≡ start → m ≡ min c (length outs) → to ≡ max from m
+      4 ≤ kind → (kind ≡ 5 → ⊥) → from ≡ start → m ≡ min c (length outs) → to ≡ max from m
       → length out ≡ length lent
       → fetchCall r y out ≡ fetchedOn st z lent (getFrame st t z n a (length lent))
       → Turned t n (program st z) this b outs r y (take from outs ++ (out ++ drop (to - from) (drop from outs)))
-  fetch-turned from m to {r} {y} {out} h f e g l q =
+  fetch-turned from m to {r} {y} {out} h h′ f e g l q =
       let lent : List ℕ = take (to - from) (drop from outs) in
       let o : Call = ofKind kind a (part a b samples) (part a b lists) (part c d samples) (length lent) in
-      let w : Called t n (program st z) o r y lent out = called-fetch a (part a b samples) (part a b lists) (part c d samples) t n st z kind lent h q in
+      let w : Called t n (program st z) o r y lent out = called-fetch a (part a b samples) (part a b lists) (part c d samples) t n st z kind lent h h′ q in
       let v : List ℕ = reply (program st z) (stepOf t n (program st z) o) .vector in
       let ends : (from ≤ to) × (to ≤ length outs) = cut-ends b c (length outs) from m to f e g in
       let long : length lent ≡ min (c - b) (length outs - b) =

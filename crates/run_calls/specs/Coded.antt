@@ -19,7 +19,7 @@ pub record Coding (cs : List Call) : Type 0 where
   pub n : ℕ
   pub decoded : calls kinds numbers lists samples n ≡ cs
   pub sized : length numbers ≡ 4 * length kinds
-  pub kinds-small : allOf (λ k. ltb k 5) kinds ≡ true
+  pub kinds-small : allOf (λ k. ltb k 6) kinds ≡ true
 
 abbrev pub EveryList : Type 0
 EveryList = (cs : List Call) → Coding cs

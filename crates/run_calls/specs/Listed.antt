@@ -11,7 +11,7 @@ use Rattle.loops.specs.Ring.{put}
 use Rattle.definition.specs.declared.IvectorInfo.{IvectorInfo}
 use Rattle.definition.specs.declared.StreamAnswer.{StreamAnswer}
 use Rattle.definition.specs.Model.{Tables, tableLengthsOf}
-use Rattle.definition.specs.Machine.{Call, push, finish, change, forget, fetch, Answer}
+use Rattle.definition.specs.Machine.{Call, push, finish, change, forget, setWindow, fetch, Answer}
 use Rattle.definition.specs.Stream.{newRefusal}
 use Rattle.program.specs.Rooms.{Rooms, roomLengthsOf}
 
@@ -21,14 +21,14 @@ use Rattle.program.specs.Rooms.{Rooms, roomLengthsOf}
 unfoldable pub part : {A : Type 0} → ℕ → ℕ → List A → List A
 part a b l = take (b - a) (drop a l)
 
--- by its kind: x is what a push is lent, fs and ws are a change's frames and weights, f is the frame of a forget and of a fetch, m the length of
--- a fetch's output
+-- by its kind: x is what a push is lent, fs and ws are a change's frames and weights, f is the frame of a forget and of a fetch and a new window, m the
+-- length of a fetch's output
 unfoldable pub ofKind : ℕ → ℕ → List Float → List ℕ → List Float → ℕ → Call
 ofKind kind f x fs ws m =
-    if eqb kind 0 then push x else (if eqb kind 1 then finish else (if eqb kind 2 then change fs ws else (if eqb kind 3 then forget f else fetch f m)))
+    if eqb kind 0 then push x else (if eqb kind 1 then finish else (if eqb kind 2 then change fs ws else (if eqb kind 3 then forget f else (if eqb kind 5 then setWindow f else fetch f m))))
 
 -- call i has kind i and four numbers a b c d: a push is lent samples a to b; a change has frames a to b of `lists`, and samples c to d for weights; a
--- forget has frame a; a fetch has frame a, and its output is from b to c in outputs of n numbers, cut at their end
+-- forget has frame a, a window call window a; a fetch has frame a, and its output is from b to c in outputs of n numbers, cut at their end
 unfoldable pub callAt : List ℕ → List ℕ → List ℕ → List Float → ℕ → ℕ → Call
 callAt kinds numbers lists samples n i =
     let a = getD numbers (i * 4) 0 in

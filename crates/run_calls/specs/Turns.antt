@@ -8,9 +8,9 @@ use Rattle.loops.specs.Ring.{put}
 use Rattle.definition.specs.declared.IvectorStream.{IvectorStream}
 use Rattle.definition.specs.declared.StreamCall.{StreamCall}
 use Rattle.definition.specs.Model.{Tables}
-use Rattle.definition.specs.Machine.{Call, push, finish, change, forget, fetch}
+use Rattle.definition.specs.Machine.{Call, push, finish, change, forget, setWindow, fetch}
 use Rattle.program.specs.Rooms.{Rings, Rooms}
-use Rattle.program.specs.Calls.{RingStep, pushFrame, setInputFinished, updateFrameWeights, forgetBefore}
+use Rattle.program.specs.Calls.{RingStep, pushFrame, setInputFinished, updateFrameWeights, forgetBefore, setCmnWindow}
 use Rattle.program.specs.Session.{Program, program, stepped, stepOf, reply}
 use Rattle.run_calls.specs.Listed.{part, ofKind}
 use Rattle.run_calls.specs.declared.CodedCall.{CodedCall}
@@ -21,6 +21,7 @@ ringStepOf s z (push x) = pushFrame s z x
 ringStepOf s z finish = setInputFinished s z
 ringStepOf s z (change fs ws) = updateFrameWeights s z fs ws
 ringStepOf s z (forget f) = forgetBefore s z f
+ringStepOf s z (setWindow w) = setCmnWindow s z w
 ringStepOf s z (fetch f m) = setInputFinished s z
 
 -- a call as code reads it, and what it is over lists, samples and outputs of n numbers

@@ -164,6 +164,16 @@ fn turn(
             waiting_weights,
         );
     }
+    if k.kind == 5 {
+        return ivector_stream::set_cmn_window(
+            s,
+            k.a,
+            frames,
+            rows,
+            waiting_frames,
+            waiting_weights,
+        );
+    }
     let from = basics::smaller(k.b, outs.len());
     let to = basics::larger(from, basics::smaller(k.c, outs.len()));
     ivector_fetch::get_frame(

@@ -186,6 +186,20 @@ impl IvectorStream {
         self.answered(a)
     }
 
+    /// The window of the fetches to come, 1 to 1,000 frames: what is known so far carries over. Refusals 31, and 32 for a window above the longest since
+    /// the mark last rose, once older rows are gone.
+    #[rustfmt::skip]
+    pub fn set_cmn_window(&mut self, window: usize) -> Result<Held, Refusal> {
+        // SAFETY: as in `change`.
+        let a = unsafe {
+            sys::shofrakin_set_cmn_window(
+                &mut self.record, window, self.frames.as_ptr(), self.frames.len(), self.rows.as_ptr(), self.rows.len(),
+                self.waiting_frames.as_ptr(), self.waiting_frames.len(), self.waiting_weights.as_ptr(), self.waiting_weights.len(),
+            )
+        };
+        self.answered(a)
+    }
+
     /// Appends a frame of [`IvectorInfo::base_dim`] numbers. Refusals 11 to 15.
     #[rustfmt::skip]
     pub fn push_frame(&mut self, frame: &[f32]) -> Result<Held, Refusal> {

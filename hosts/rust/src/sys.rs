@@ -130,6 +130,8 @@ records! {
         input_finished: bool,
         num_frames: f64,
         floor: usize,
+        window: usize,
+        longest: usize,
     }
 
     shofrakin_stream_answer: struct StreamAnswer {
@@ -225,6 +227,10 @@ extern "C" {
     ) -> StreamAnswer;
     pub fn shofrakin_forget_before(
         s: *mut IvectorStream, frame: usize, frames: *const f32, frames_len: usize, rows: *const f64, rows_len: usize,
+        waiting_frames: *const usize, waiting_frames_len: usize, waiting_weights: *const f32, waiting_weights_len: usize,
+    ) -> StreamAnswer;
+    pub fn shofrakin_set_cmn_window(
+        s: *mut IvectorStream, window: usize, frames: *const f32, frames_len: usize, rows: *const f64, rows_len: usize,
         waiting_frames: *const usize, waiting_frames_len: usize, waiting_weights: *const f32, waiting_weights_len: usize,
     ) -> StreamAnswer;
     pub fn shofrakin_get_frame(

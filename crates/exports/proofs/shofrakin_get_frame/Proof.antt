@@ -85,7 +85,7 @@ module _ (κs : Lfts 19) (a : Args this.signature κs) where
   abbrev stored : IvectorStream → IvectorStream
   stored s =
       streamFrom (h .info) (h .lengths) (h .accepted) (s .«num_frames_stats») (h .mark) (s .waiting) (h .«past_highest») (h .«delta_weights_provided»)
-      (h .«input_finished») (s .«num_frames») (h .floor)
+      (h .«input_finished») (s .«num_frames») (h .floor) (h .window) (h .longest)
 
   -- a fetch keeps the highest changed frame, and whether a change call was taken
   same-changes : (fetchChanges h (rooms .rings) (a .1 .0) .past-highest ≡ h .«past_highest») × (fetchChanges h (rooms .rings) (a .1 .0) .called ≡ h .«delta_weights_provided»)

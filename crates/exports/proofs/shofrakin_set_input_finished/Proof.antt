@@ -55,7 +55,7 @@ module _ (κs : Lfts 5) (a : Args this.signature κs) where
   abbrev stored : IvectorStream → IvectorStream
   stored s =
       streamFrom (h .info) (h .lengths) (h .accepted) (h .«num_frames_stats») (h .mark) (h .waiting) (h .«past_highest») (h .«delta_weights_provided»)
-      (s .«input_finished») (h .«num_frames») (h .floor)
+      (s .«input_finished») (h .«num_frames») (h .floor) (h .window) (h .longest)
 
   same : (r : StreamCall) → Said r → stored (r .stream) ≡ r .stream
   unfolding setInputFinished

@@ -1,14 +1,17 @@
 -- The fetch: refused, it leaves everything as it was (`fetch-refused`). Taken, a frame that is in the statistics already changes nothing (`stream-same`,
--- `rooms-same`); for another `up_to` counts the changes, `update_rooms` does the work and `remove_first` drops the changes that it used (`stream-up`,
+-- `rooms-same`); for another `in_force` puts the window in, `up_to` counts the changes, `update_rooms` does the work and `remove_first` drops the changes that it used (`stream-up`,
 -- `rooms-up`); either way `write_vector` writes the bits and counts (`fetch-made`). The NaN likelihoods are those that `update_rooms` counted, or none (`nans-up`,
 -- `nans-same`). The laws are those of Fetched.antt, the step is `getFrame`.
 use borrow.Author.Needs.{needs}
-use mathlib.Core.Path.{_≡_, refl, sym, _∙_}
+use mathlib.Core.Path.{_≡_, refl, sym, subst, _∙_}
+use mathlib.Core.Bool.{true}
 use Prim.Native.Nat.{ℕ, _≤_}
 use native.Mathlib.Omega.{arith}
 use lib.ListN.{length}
+use Rattle.definition.specs.declared.IvectorInfo.{IvectorInfo}
 use Rattle.definition.specs.declared.RoomLengths.{RoomLengths}
-use Rattle.definition.specs.Model.{Tables, tablesFrom, tableLengthsOf}
+use Rattle.definition.specs.Model.{Tables, tablesFrom, tableLengthsOf, tablesFit}
+use Rattle.definition.specs.Stream.{recordSound, roomsFit}
 use Rattle.definition.proofs.Ranges.{Fitting, fitting}
 use Rattle.program.specs.Rooms.{ringsFrom, estimateFrom, Rooms, roomsFrom, roomLengthsOf}
 use Rattle.program.specs.Calls.{Step, fetchRefusal, getFrame, fetchStream, fetchRooms}
@@ -156,9 +159,12 @@ returns-2 c =
 
 -- ---- a frame that is brought in
 
+in-force-requires : tie.Need-in-force-requires
+in-force-requires c κs = search needs
+
 up-to-requires : tie.Need-up-to-requires
 up-to-requires c κs =
-    let at-if1 = c .before .before .before .before in
+    let at-if1 = c .before .before .before .before .before in
     let start = begun at-if1 in
     let T = known at-if1 in
     (frames-in (start .args .s) (lent start) (held start) (start .args .frame) T, T .passed .whole-is .in-order)
@@ -166,7 +172,7 @@ up-to-requires c κs =
 update-rooms-requires : tie.Need-update-rooms-requires
 update-rooms-requires c κs =
     let at-up-to = to-up-to c in
-    let at-if2 = at-up-to .before .before in
+    let at-if2 = at-up-to .before .before .before in
     let at-if1 = at-if2 .before .before .before in
     let start = begun at-if1 in
     let T = known at-if1 in
@@ -174,8 +180,10 @@ update-rooms-requires c κs =
     let f = start .args .frame in
     let z : Rooms = held start in
     let fits = frames-in s (lent start) z f T in
+    let same = at-up-to .before .before .in-force .ensures in
     let k = at-up-to .up-to in (
-      (record-is _ _ _ _ _ _ T, tables-fit _ _ _ _ _ _ T, rooms-fit _ _ _ _ _ _ T),
+      subst (λ (i : IvectorInfo). (recordSound i ≡ true) × (tablesFit (i .opts) (i .dims) (tableLengthsOf (lent start)) ≡ true) × (roomsFit (i .dims) (lengths start) ≡ true)) (sym same)
+          (record-is _ _ _ _ _ _ T, tables-fit _ _ _ _ _ _ T, rooms-fit _ _ _ _ _ _ T),
       (
         at-if2 .if2 .left,
         T .below,
@@ -183,14 +191,14 @@ update-rooms-requires c κs =
         omega (arith, k .ensures .1, fits),
         omega (arith, k .ensures .1, weights-in s (lent start) z f T),
         λ j p. omega (arith, early-at s z f (k .result) fits (T .passed .whole-is .in-order) (k .ensures .0) (k .ensures .1) j p, T .below),
-        omega (arith, few-frames s z f (k .result) fits (T .passed .whole-is .in-order) (k .ensures .0) (k .ensures .1), T .below, T .passed .whole-is .few),
+        omega (arith, few-frames s z f (k .result) fits (T .passed .whole-is .in-order) (k .ensures .0) (k .ensures .1) same, T .below, T .passed .whole-is .few),
       ),
     )
 
 remove-first-requires : tie.Need-remove-first-requires
 remove-first-requires c κs =
     let at-up-to = to-up-to (to-update-rooms c .before) in
-    let at-if1 = at-up-to .before .before .before .before .before in
+    let at-if1 = at-up-to .before .before .before .before .before .before in
     let start = begun at-if1 in
     let s = start .args .s in
     let f = start .args .frame in
@@ -198,7 +206,7 @@ remove-first-requires c κs =
 
 add-t : tie.Need-add-t
 add-t c =
-    let T = known (to-up-to (to-update-rooms (to-remove-first c .before) .before) .before .before .before .before .before) in
+    let T = known (to-up-to (to-update-rooms (to-remove-first c .before) .before) .before .before .before .before .before .before) in
     omega (arith, T .below, T .passed .whole-is .few)
 
 sub-t : tie.Need-sub-t
@@ -207,13 +215,13 @@ sub-t c = to-up-to (to-update-rooms (to-remove-first (c .before) .before) .befor
 write-vector-requires-2 : tie.Need-write-vector-requires-2
 write-vector-requires-2 c κs =
     let at-update-rooms = to-update-rooms (to-remove-first (c .before .before .before) .before) in
-    let w = wide-enough (to-up-to (at-update-rooms .before) .before .before .before .before .before) in
+    let w = wide-enough (to-up-to (at-update-rooms .before) .before .before .before .before .before .before) in
     (omega (arith, w .0, at-update-rooms .update-rooms .kept .1 .1 .1 .1 .1 .1 .1 .1 .1 .1 .1 .1 .1 .1 .1 .1 .1 .1 .1 .1 .1 .1 .0), omega arith, w .1)
 
 reply-requires-3 : tie.Need-reply-requires-3
 reply-requires-3 c κs =
     let at-update-rooms = to-update-rooms (to-remove-first (to-slice-known16 (c .before .before)) .before) in
-    let at-if1 = to-up-to (at-update-rooms .before) .before .before .before .before .before in
+    let at-if1 = to-up-to (at-update-rooms .before) .before .before .before .before .before .before in
     let T = known at-if1 in
     λ _. (T .passed .whole-is .few, omega (arith, T .passed .whole-is))
 
@@ -247,7 +255,8 @@ returns-3 c =
     let at-remove-first = to-remove-first (to-slice-known16 at-write-vector) in
     let at-update-rooms = to-update-rooms (to-remove-first (to-slice-known16 (to-write-vector2 c)) .before) in
     let at-up-to = to-up-to (at-update-rooms .before) in
-    let at-if2 = to-up-to (at-update-rooms .before) .before .before in
+    let at-in-force = to-up-to (at-update-rooms .before) .before .before in
+    let at-if2 = at-in-force .before in
     let at-if1 = at-if2 .before .before .before in
     let start = begun at-if1 in
     let s = start .args .s in
@@ -260,9 +269,10 @@ returns-3 c =
     let late = at-if2 .if2 .left in
     let left = at-remove-first .remove-first .ensures in
     let worked = at-update-rooms .update-rooms .ensures in
-    let stream-is = stream-up s z f (k .result) fits in-order (k .ensures .0) (k .ensures .1) (lent start) late (worked .0) in
-    let rooms-are = rooms-up s z f (k .result) fits in-order (k .ensures .0) (k .ensures .1) (lent start) late (left .0) (left .1) (worked .1) in
-    let nans-are = nans-up s z f (k .result) fits in-order (k .ensures .0) (k .ensures .1) (lent start) late (worked .2) in (
+    let same = at-in-force .in-force .ensures in
+    let stream-is = stream-up s z f (k .result) fits in-order (k .ensures .0) (k .ensures .1) (lent start) late same (worked .0) in
+    let rooms-are = rooms-up s z f (k .result) fits in-order (k .ensures .0) (k .ensures .1) (lent start) late same (left .0) (left .1) (worked .1) in
+    let nans-are = nans-up s z f (k .result) fits in-order (k .ensures .0) (k .ensures .1) (lent start) late same (worked .2) in (
       fetch-made s (lent start) z f T (start .args .out .now) (none at-if1) (T .wide) (c .reply3 .ensures) stream-is rooms-are nans-are (at-write-vector .write-vector2 .ensures),
       λ h. absurd (h (step-number start ∙ none at-if1)),
     )
@@ -281,6 +291,7 @@ get-frame-spec =
     same-length-3
     same-length-4
     returns-2
+    in-force-requires
     up-to-requires
     update-rooms-requires
     remove-first-requires

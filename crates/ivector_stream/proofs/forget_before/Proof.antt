@@ -1,10 +1,12 @@
 -- `ivector_stream::forget_before` meets its contract: refused or taken, the rings are as they were; the new mark is no later than the statistics;
--- the new floor is the larger of the old one and the frame named.
+-- the new floor is the larger of the old one and the frame named, the
+-- longest window the one in force where the mark rises.
 use borrow.Author.Needs.{needs}
-use mathlib.Core.Path.{refl, ap₂, _∙_}
+use mathlib.Core.Path.{_≡_, refl, ap, _∙_}
 use mathlib.Core.List.{[]}
 use Prim.Native.Nat.{ℕ}
 use native.Mathlib.Omega.{arith}
+use Rattle.definition.specs.Machine.{longestFrom}
 use Rattle.program.specs.Rooms.{Rings, ringsFrom}
 use Rattle.program.specs.Calls.{callOf, withMark, RingStep, forgetBefore}
 use Rattle.ivector_stream.proofs.Records.{Passed, plain-passed, few, other-few}
@@ -23,6 +25,9 @@ step start = forgetBefore (start .args .s) (lent start) (start .args .frame)
 -- the start, from behind the refusal
 abbrev begun : tie.After-plain-refusal → tie.Start
 begun c = c .before .before .before .before .before
+
+three : {A B : Type 0} (f : A → A → A → B) {a a′ b b′ c c′ : A} → a ≡ a′ → b ≡ b′ → c ≡ c′ → f a b c ≡ f a′ b′ c′
+three f p q r = rw (p, q, r)
 
 -- once it is taken
 known : (c : tie.Else1) → Passed (begun (c .before) .args .s) (lent (begun (c .before)))
@@ -58,12 +63,15 @@ less-requires c κs = search needs
 larger-requires : tie.Need-larger-requires
 larger-requires c κs = search needs
 
+longest-from-requires : tie.Need-longest-from-requires
+longest-from-requires c κs = search needs
+
 larger-requires-2 : tie.Need-larger-requires-2
 larger-requires-2 c κs = search needs
 
 reply-requires-2 : tie.Need-reply-requires-2
 reply-requires-2 c κs =
-    let at-larger = c .before in
+    let at-larger = c .before .before in
     let at-if1 = to-if1 (at-larger .before .before .before) in
     let start = begun (at-if1 .before) in
     λ h.
@@ -74,14 +82,16 @@ reply-requires-2 c κs =
 returns-2 : tie.Need-returns-2
 unfolding forgetBefore
 returns-2 c =
-    let at-larger = c .before .before in
+    let at-longest-from = c .before .before in
+    let at-larger = at-longest-from .before in
     let at-smaller = at-larger .before .before .before in
     let at-if1 = to-if1 at-smaller in
     let at-plain-refusal = at-if1 .before in
     let start = begun at-plain-refusal in
     let a = start .args in
     let mark = forget-is (a .s) (a .waiting-frames .now) (a .frame) (at-smaller .smaller .ensures) (at-larger .before .before .lowest .ensures) (at-larger .before .less .ensures) (at-larger .larger .ensures) in
-    done (a .s) (lent start) (step start) (at-plain-refusal .plain-refusal .ensures) (at-if1 .if1 .left) (c .reply2 .ensures ∙ ap₂ (λ (m l : ℕ). callOf 0 (withMark (a .s) m l) 0 0) mark (c .before .larger2 .ensures)) refl
+    let longest = at-longest-from .longest-from .ensures ∙ ap (longestFrom (a .s .window) (a .s .longest) (a .s .mark)) mark in
+    done (a .s) (lent start) (step start) (at-plain-refusal .plain-refusal .ensures) (at-if1 .if1 .left) (c .reply2 .ensures ∙ three (λ (m l g : ℕ). callOf 0 (withMark (a .s) m l g) 0 0) mark (c .before .larger2 .ensures) longest) refl
 
 pub forget-before-spec : {M : Type 1} → statement M
 forget-before-spec =
@@ -94,6 +104,7 @@ forget-before-spec =
     lowest-requires
     less-requires
     larger-requires
+    longest-from-requires
     larger-requires-2
     reply-requires-2
     returns-2)

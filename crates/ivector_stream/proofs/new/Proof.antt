@@ -20,7 +20,7 @@ abbrev to-fresh-estimate : tie.After-reply → tie.After-fresh-estimate
 to-fresh-estimate c = c .before .before .before .before .before .before .before
 
 abbrev to-if1 : tie.After-clear-front → tie.Else1
-to-if1 c = c .before .before .before
+to-if1 c = c .before .before .before .before
 
 new-refusal-requires : tie.Need-new-refusal-requires
 new-refusal-requires c κs = search needs
@@ -29,7 +29,7 @@ returns : tie.Need-returns
 returns c = (new-refused _ _ _ (c .before .new-refusal .ensures) (c .if1 .taken), untouched _ _ _ (c .before .new-refusal .ensures) (c .if1 .taken))
 
 clear-front-requires : tie.Need-clear-front-requires
-clear-front-requires c κs = new-taken _ _ _ (c .before .before .before .new-refusal .ensures) (c .before .before .if1 .left) .row-long
+clear-front-requires c κs = new-taken _ _ _ (c .before .before .before .before .new-refusal .ensures) (c .before .before .before .if1 .left) .row-long
 
 add-clear-front : tie.Need-add-clear-front
 add-clear-front c =

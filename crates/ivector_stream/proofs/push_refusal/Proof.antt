@@ -28,7 +28,7 @@ abbrev begun : tie.Else1 → tie.Start
 begun c = c .before .before .before .before .before .before .before
 
 abbrev first-2 : tie.Else2 → tie.Else1
-first-2 c = c .before .before .before .before .before .before .before
+first-2 c = c .before .before .before .before .before .before
 
 abbrev first-3 : tie.Else3 → tie.Else1
 first-3 c = first-2 (c .before .before)
@@ -83,7 +83,7 @@ returns c = push-already _ _ _ (c .before .plain-refusal-at-push .ensures) (c .i
 
 returns-2 : tie.Need-returns-2
 unfolding pushTests
-returns-2 c = at (c .before .before .before .before .before .before .before) 0 (ap not (ne-eqb _ _ (c .if2 .taken)))
+returns-2 c = at (c .before .before .before .before .before .before) 0 (ap not (ne-eqb _ _ (c .if2 .taken)))
 
 any-not-finite-requires : tie.Need-any-not-finite-requires
 any-not-finite-requires c κs = search needs
@@ -134,14 +134,14 @@ add-if6 : tie.Need-add-if6
 add-if6 c =
     let at-if1 = first-5 (c .before) in
     let s = begun at-if1 .args .s in
-    omega (arith, rows-few (s .info .opts .«cmn_window») (s .accepted) (s .mark) (c .rows-held .ensures), few _ _ (known at-if1) .0)
+    omega (arith, rows-few (s .longest) (s .accepted) (s .mark) (c .rows-held .ensures), few _ _ (known at-if1) .0)
 
 mul-if6 : tie.Need-mul-if6
 mul-if6 c =
     let at-rows-held = c .before in
     let at-if1 = first-5 (at-rows-held .before) in
     let s = begun at-if1 .args .s in
-    let held = rows-few (s .info .opts .«cmn_window») (s .accepted) (s .mark) (at-rows-held .rows-held .ensures) in
+    let held = rows-few (s .longest) (s .accepted) (s .mark) (at-rows-held .rows-held .ensures) in
     let n : at-rows-held .rows-held .result + 1 ≤ 1000000002 = omega (arith, held, few _ _ (known at-if1) .0) in
     omega (arith, mul-le-mul n (known at-if1 .dims-are .base-is))
 

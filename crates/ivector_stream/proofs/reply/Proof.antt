@@ -6,7 +6,7 @@ use Rattle.ivector_stream.proofs.reply.Tie as tie
 
 -- places: one that comes before another
 abbrev to-if1 : tie.After-frames-held → tie.Else1
-to-if1 c = c .before .before .before
+to-if1 c = c .before
 
 returns : tie.Need-returns
 returns c = reply-10 _ _ _ _ (c .if1 .taken)
@@ -21,7 +21,7 @@ rows-held-requires c κs =
 
 returns-2 : tie.Need-returns-2
 returns-2 c =
-    let at-if1 = c .before .before .before .before in
+    let at-if1 = c .before .before in
     reply-held _ _ _ _ (at-if1 .if1 .left) (c .before .frames-held .ensures) (c .rows-held .ensures)
 
 pub reply-spec : {M : Type 1} → statement M

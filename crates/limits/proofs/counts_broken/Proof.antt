@@ -23,7 +23,7 @@ sound c = let start = c .before .before .before .before .before .before .before 
 
 -- from the test of frames held back to the third and to the first; from that of rows held to that of frames held
 abbrev third : tie.After-frames-held → tie.Else3
-third c = c .before .before .before .before
+third c = c .before .before .before .before .before .before
 
 abbrev first : tie.After-frames-held → tie.Else1
 first c = third c .before .before .before .before .before
@@ -47,19 +47,23 @@ returns-4 : tie.Need-returns-4
 unfolding breaks
 returns-4 c = counts-at _ _ 3 (omega arith) (lt-test (c .before .before .less2 .ensures) refl (c .if4 .taken))
 
-mul-if5 : tie.Need-mul-if5
-mul-if5 c =
+returns-5 : tie.Need-returns-5
+unfolding breaks
+returns-5 c = counts-at _ _ 4 (omega arith) (sym (c .before .windows-broken .ensures) ∙ c .if5 .taken)
+
+mul-if6 : tie.Need-mul-if6
+mul-if6 c =
     let at-frames-held = c .before in
     let at-if1 = first at-frames-held in
     let few : at-frames-held .frames-held .result ≤ 1000000000 = omega (arith, frames-few _ _ (at-frames-held .frames-held .ensures), at-if1 .if1 .left) in
     omega (arith, mul-le-mul few (sound at-if1 .base-is))
 
-returns-5 : tie.Need-returns-5
+returns-6 : tie.Need-returns-6
 unfolding breaks
-returns-5 c =
+returns-6 c =
     let at-frames-held = c .before .before .before in
     let some = sound (first at-frames-held) .some-base in
-    counts-at _ _ 4 (omega arith) (lt-test refl (at-frames-held .frames-held .ensures) (rows-under _ _ (at-frames-held .frames-held .result) some (c .if5 .taken)))
+    counts-at _ _ 5 (omega arith) (lt-test refl (at-frames-held .frames-held .ensures) (rows-under _ _ (at-frames-held .frames-held .result) some (c .if6 .taken)))
 
 rows-held-requires : tie.Need-rows-held-requires
 rows-held-requires c κs =
@@ -69,38 +73,39 @@ rows-held-requires c κs =
     let at-if1 = at-if2 .before .before in
     omega (arith, at-if1 .if1 .left, at-if2 .if2 .left, at-if3 .if3 .left, at-less .less .ensures)
 
-mul-if6 : tie.Need-mul-if6
-mul-if6 c =
+mul-if7 : tie.Need-mul-if7
+mul-if7 c =
     let at-rows-held = c .before in
     let at-if1 = first (frames-of at-rows-held) in
     let few : at-rows-held .rows-held .result ≤ 1000000001 = omega (arith, rows-few _ _ _ (at-rows-held .rows-held .ensures), at-if1 .if1 .left) in
     omega (arith, mul-le-mul few (sound at-if1 .base-is))
 
-returns-6 : tie.Need-returns-6
-unfolding breaks
-returns-6 c =
-    let at-rows-held = c .before .before .before in
-    let some = sound (first (frames-of at-rows-held)) .some-base in
-    counts-at _ _ 5 (omega arith) (lt-test refl (at-rows-held .rows-held .ensures) (rows-under _ _ (at-rows-held .rows-held .result) some (c .if6 .taken)))
-
 returns-7 : tie.Need-returns-7
 unfolding breaks
-returns-7 c = counts-at _ _ 6 (omega arith) (lt-test (c .before .before .smaller .ensures) refl (c .if7 .taken))
+returns-7 c =
+    let at-rows-held = c .before .before .before in
+    let some = sound (first (frames-of at-rows-held)) .some-base in
+    counts-at _ _ 6 (omega arith) (lt-test refl (at-rows-held .rows-held .ensures) (rows-under _ _ (at-rows-held .rows-held .result) some (c .if7 .taken)))
+
+returns-8 : tie.Need-returns-8
+unfolding breaks
+returns-8 c = counts-at _ _ 7 (omega arith) (lt-test (c .before .before .smaller .ensures) refl (c .if8 .taken))
 
 slice-aggregate-waiting-broken : tie.Need-slice-aggregate-waiting-broken
 slice-aggregate-waiting-broken c = sym (length-take-le _ _ (omega (arith, c .before .smaller2 .ensures)))
 
-returns-8 : tie.Need-returns-8
+returns-9 : tie.Need-returns-9
 unfolding breaks
-returns-8 c =
+returns-9 c =
     let at-smaller2 = c .before .before in
-    let at-if7 = at-smaller2 .before in
-    let at-smaller = at-if7 .before .before in
-    let at-if6 = at-smaller .before in
-    let at-rows-held = at-if6 .before .before .before in
-    let at-if5 = at-rows-held .before in
+    let at-if8 = at-smaller2 .before in
+    let at-smaller = at-if8 .before .before in
+    let at-if7 = at-smaller .before in
+    let at-rows-held = at-if7 .before .before .before in
+    let at-if6 = at-rows-held .before in
     let at-frames-held = frames-of at-rows-held in
-    let at-if4 = at-frames-held .before in
+    let at-if5 = at-frames-held .before in
+    let at-if4 = at-if5 .before .before in
     let at-less2 = at-if4 .before .before in
     let at-if3 = third at-frames-held in
     let at-less = at-if3 .before .before in
@@ -116,10 +121,13 @@ returns-8 c =
           (
             le-test (at-less2 .less2 .ensures) refl (at-if4 .if4 .left),
             (
-              le-test refl (at-frames-held .frames-held .ensures) (rows-reach _ _ (at-frames-held .frames-held .result) some (at-if5 .if5 .left)),
+              sym (at-if5 .before .windows-broken .ensures) ∙ at-if5 .if5 .left,
               (
-                le-test refl (at-rows-held .rows-held .ensures) (rows-reach _ _ (at-rows-held .rows-held .result) some (at-if6 .if6 .left)),
-                (le-test (at-smaller .smaller .ensures) refl (at-if7 .if7 .left), tt),
+                le-test refl (at-frames-held .frames-held .ensures) (rows-reach _ _ (at-frames-held .frames-held .result) some (at-if6 .if6 .left)),
+                (
+                  le-test refl (at-rows-held .rows-held .ensures) (rows-reach _ _ (at-rows-held .rows-held .result) some (at-if7 .if7 .left)),
+                  (le-test (at-smaller .smaller .ensures) refl (at-if8 .if8 .left), tt),
+                ),
               ),
             ),
           ),
@@ -130,5 +138,5 @@ returns-8 c =
 pub counts-broken-spec : {M : Type 1} → statement M
 counts-broken-spec =
     tie.close
-    (tie.spec returns returns-2 (λ c κs. search needs) returns-3 (λ c κs. search needs) returns-4 (λ c κs. search needs) mul-if5 returns-5 rows-held-requires mul-if6 returns-6
-    (λ c κs. search needs) returns-7 (λ c κs. search needs) slice-aggregate-waiting-broken (λ c κs. search needs) returns-8)
+    (tie.spec returns returns-2 (λ c κs. search needs) returns-3 (λ c κs. search needs) returns-4 (λ c κs. search needs) returns-5 (λ c κs. search needs) mul-if6 returns-6 rows-held-requires mul-if7 returns-7
+    (λ c κs. search needs) returns-8 (λ c κs. search needs) slice-aggregate-waiting-broken (λ c κs. search needs) returns-9)

@@ -1,4 +1,4 @@
--- `turn` meets its contract: a call on the rings by `ring_call` (`ring-turned`), a fetch by `get_frame` over its part of the outputs (`fetch-turned`). Both
+-- `turn` meets its contract: a call on the rings by `ring_call` (`ring-turned`), a window call (`window-turned`), a fetch by `get_frame` over its part of the outputs (`fetch-turned`). Both
 -- laws are in Lists.antt; where the part begins and ends is in Cut.antt.
 use borrow.Author.Needs.{needs}
 use mathlib.Core.Path.{refl}
@@ -8,7 +8,7 @@ use lib.ListN.{length}
 use Rattle.definition.specs.Model.{Tables, tablesFrom}
 use Rattle.program.specs.Rooms.{ringsFrom, estimateFrom, Rooms, roomsFrom}
 use Rattle.run_calls.proofs.Cut.{cut-ends, lent-long}
-use Rattle.run_calls.proofs.Lists.{ring-turned, fetch-turned}
+use Rattle.run_calls.proofs.Lists.{ring-turned, window-turned, fetch-turned}
 use Rattle.run_calls.proofs.turn.Statement.{statement}
 use Rattle.run_calls.proofs.turn.Tie as tie
 
@@ -43,10 +43,10 @@ at-larger c = c .before .before .before .before .before .before .before .before 
 
 -- the start, from there
 abbrev lent-from : tie.After-larger → tie.Start
-lent-from c = begun (c .before .before .before .before)
+lent-from c = begun (c .before .before .before .before .before)
 
 -- the fetch, from the end
-abbrev at-get-frame : tie.After-slice-known22 → tie.After-get-frame
+abbrev at-get-frame : tie.After-slice-known26 → tie.After-get-frame
 at-get-frame c = c .before .before .before .before .before .before .before .before .before .before .before .before .before .before .before .before
 
 -- ---- a call on the rings
@@ -87,6 +87,31 @@ returns c =
     ring-turned (a .k) (a .lists .now) (a .samples .now) (tables start) (length (a .scratch .now)) (a .s) (held start) (a .outs .now)
     (at-if1 .if1 .taken) (at-sample-part .sample-part .ensures) (at-frame-part .frame-part .ensures) (at-sample-part2 .sample-part2 .ensures) (called .ring-call .ensures)
 
+-- ---- a new window
+
+set-cmn-window-requires : tie.Need-set-cmn-window-requires
+set-cmn-window-requires c κs = search needs
+
+same-length-5 : tie.Need-same-length-5
+same-length-5 c = refl
+
+same-length-6 : tie.Need-same-length-6
+same-length-6 c = refl
+
+same-length-7 : tie.Need-same-length-7
+same-length-7 c = refl
+
+same-length-8 : tie.Need-same-length-8
+same-length-8 c = refl
+
+returns-2 : tie.Need-returns-2
+returns-2 c =
+    let at-if2 = c .before .before .before .before .before in
+    let start = begun (at-if2 .before .before) in
+    let a = start .args in
+    window-turned (a .k) (a .lists .now) (a .samples .now) (tables start) (length (a .scratch .now)) (a .s) (held start) (a .outs .now)
+    (at-if2 .if2 .taken) (c .set-cmn-window .ensures)
+
 -- ---- a fetch
 
 smaller-requires : tie.Need-smaller-requires
@@ -119,51 +144,52 @@ part-get-frame-end c = ends (at-larger c) .1
 get-frame-requires : tie.Need-get-frame-requires
 get-frame-requires c κs = search needs
 
-same-length-5 : tie.Need-same-length-5
-same-length-5 c = refl
-
-same-length-6 : tie.Need-same-length-6
-same-length-6 c = refl
-
-same-length-7 : tie.Need-same-length-7
-same-length-7 c = at-get-frame c .get-frame .kept .1 .1 .1 .1 .1 .1 .1 .1 .1 .1 .1 .1 .0
-
-same-length-8 : tie.Need-same-length-8
-same-length-8 c = at-get-frame c .get-frame .kept .1 .1 .1 .1 .1 .1 .1 .1 .1 .1 .1 .1 .1 .0
-
 same-length-9 : tie.Need-same-length-9
-same-length-9 c = at-get-frame c .get-frame .kept .1 .1 .1 .1 .1 .1 .1 .1 .1 .1 .1 .1 .1 .1 .0
+same-length-9 c = refl
 
 same-length-10 : tie.Need-same-length-10
-same-length-10 c = at-get-frame c .get-frame .kept .1 .1 .1 .1 .1 .1 .1 .1 .1 .1 .1 .1 .1 .1 .1 .0
+same-length-10 c = refl
 
 same-length-11 : tie.Need-same-length-11
-same-length-11 c = at-get-frame c .get-frame .kept .1 .1 .1 .1 .1 .1 .1 .1 .1 .1 .1 .1 .1 .1 .1 .1 .0
+same-length-11 c = at-get-frame c .get-frame .kept .1 .1 .1 .1 .1 .1 .1 .1 .1 .1 .1 .1 .0
 
 same-length-12 : tie.Need-same-length-12
-same-length-12 c = at-get-frame c .get-frame .kept .1 .1 .1 .1 .1 .1 .1 .1 .1 .1 .1 .1 .1 .1 .1 .1 .1 .0
+same-length-12 c = at-get-frame c .get-frame .kept .1 .1 .1 .1 .1 .1 .1 .1 .1 .1 .1 .1 .1 .0
 
 same-length-13 : tie.Need-same-length-13
-same-length-13 c = at-get-frame c .get-frame .kept .1 .1 .1 .1 .1 .1 .1 .1 .1 .1 .1 .1 .1 .1 .1 .1 .1 .1 .0
+same-length-13 c = at-get-frame c .get-frame .kept .1 .1 .1 .1 .1 .1 .1 .1 .1 .1 .1 .1 .1 .1 .0
 
 same-length-14 : tie.Need-same-length-14
-same-length-14 c =
+same-length-14 c = at-get-frame c .get-frame .kept .1 .1 .1 .1 .1 .1 .1 .1 .1 .1 .1 .1 .1 .1 .1 .0
+
+same-length-15 : tie.Need-same-length-15
+same-length-15 c = at-get-frame c .get-frame .kept .1 .1 .1 .1 .1 .1 .1 .1 .1 .1 .1 .1 .1 .1 .1 .1 .0
+
+same-length-16 : tie.Need-same-length-16
+same-length-16 c = at-get-frame c .get-frame .kept .1 .1 .1 .1 .1 .1 .1 .1 .1 .1 .1 .1 .1 .1 .1 .1 .1 .0
+
+same-length-17 : tie.Need-same-length-17
+same-length-17 c = at-get-frame c .get-frame .kept .1 .1 .1 .1 .1 .1 .1 .1 .1 .1 .1 .1 .1 .1 .1 .1 .1 .1 .0
+
+same-length-18 : tie.Need-same-length-18
+same-length-18 c =
     let fetched = at-get-frame c in
     let cut = at-larger (fetched .before .before) in
     let from = cut .before .before .smaller .result in
     lent-long from (cut .larger .result - from) (lent-from cut .args .outs .now) (fetched .get-frame .last .1 .1 .1 .1 .1 .1 .1 .1 .1 .1 .1 .1 .1 .1 .1 .1 .1 .1 .1 .0) (fetched .get-frame .kept .1 .1 .1 .1 .1 .1 .1 .1 .1 .1 .1 .1 .1 .1 .1 .1 .1 .1 .1 .0)
 
-returns-2 : tie.Need-returns-2
-returns-2 c =
+returns-3 : tie.Need-returns-3
+returns-3 c =
     let fetched = at-get-frame c in
     let cut = at-larger (fetched .before .before) in
     let at-smaller2 = cut .before in
     let at-smaller = at-smaller2 .before in
-    let at-if1 = at-smaller .before in
+    let at-if2 = at-smaller .before in
+    let at-if1 = at-if2 .before in
     let start = begun (at-if1 .before) in
     let a = start .args in
     fetch-turned (a .k) (a .lists .now) (a .samples .now) (tables start) (length (a .scratch .now)) (a .s) (held start) (a .outs .now)
-    (at-smaller .smaller .result) (at-smaller2 .smaller2 .result) (cut .larger .result) (at-if1 .if1 .left)
+    (at-smaller .smaller .result) (at-smaller2 .smaller2 .result) (cut .larger .result) (at-if1 .if1 .left) (at-if2 .if2 .left)
     (at-smaller .smaller .ensures) (at-smaller2 .smaller2 .ensures) (cut .larger .ensures) (fetched .get-frame .kept .1 .1 .1 .1 .1 .1 .1 .1 .1 .1 .1 .1 .1 .1 .1 .1 .1 .1 .1 .0) (fetched .get-frame .ensures .0)
 
 pub turn-spec : {M : Type 1} → statement M
@@ -179,6 +205,12 @@ turn-spec =
     same-length-3
     same-length-4
     returns
+    set-cmn-window-requires
+    same-length-5
+    same-length-6
+    same-length-7
+    same-length-8
+    returns-2
     smaller-requires
     smaller-requires-2
     larger-requires
@@ -187,14 +219,14 @@ turn-spec =
     part-get-frame-start
     part-get-frame-end
     get-frame-requires
-    same-length-5
-    same-length-6
-    same-length-7
-    same-length-8
     same-length-9
     same-length-10
     same-length-11
     same-length-12
     same-length-13
     same-length-14
-    returns-2)
+    same-length-15
+    same-length-16
+    same-length-17
+    same-length-18
+    returns-3)
