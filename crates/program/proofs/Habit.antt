@@ -28,7 +28,7 @@ use Rattle.definition.proofs.Floor.{first-not, lowest-under}
 use Rattle.program.specs.Rooms.{Rooms, framesOf, ringLengthsOf, roomLengthsOf}
 use Rattle.program.specs.Session.{Program, program, stepped, stepOf, programAfter}
 use Rattle.program.specs.Played.{Played, ended, answered, took}
-use Rattle.program.specs.Habit.{frameRoom, rowRoom, Never, windowOf, RowsEnough, HeldAfterForget, Ledger, ledger, entered, mayCome, inHabit, FramesEnough}
+use Rattle.program.specs.Habit.{EnoughRows, EnoughFrames, Never, windowOf, RowsEnough, HeldAfterForget, Ledger, ledger, entered, mayCome, inHabit, FramesEnough}
 use Rattle.program.proofs.Waiting.{inserts-none, lowest-at}
 use Rattle.program.proofs.Sound.{streamOf, held-are}
 use Rattle.program.proofs.Moves.{moved-on}
@@ -271,10 +271,10 @@ module _ (i : IvectorInfo) (t : Tables) (s : Played i t) where
   answers-are : answered i t s ≡ answers M′ (ringLengthsOf (s .lent .rings)) (s .calls)
   answers-are = keeps.keeps i t (s .lent) (s .scratch) (s .made) (s .made-is) (s .calls) .1
 
-  rows-there : (u : ℕ) → i .opts .«cmn_window» ≤ u → allOf (λ c. leb (windowOf c) u) (s .calls) ≡ true → frameRoom i (s .lent) + u ≤ rowRoom i (s .lent) → Never 15 (answered i t s)
+  rows-there : (u : ℕ) → i .opts .«cmn_window» ≤ u → allOf (λ c. leb (windowOf c) u) (s .calls) ≡ true → EnoughRows i (s .lent) u → Never 15 (answered i t s)
   rows-there u h p w = subst (Never 15) (sym answers-are) (rows-of M′ (ringLengthsOf (s .lent .rings)) u h w (s .calls) p)
 
-  frames-there : (L : ℕ) → L + i .opts .«left_context» + i .opts .«right_context» ≤ frameRoom i (s .lent)
+  frames-there : (L : ℕ) → EnoughFrames i (s .lent) L
       → inHabit L (i .opts .«right_context») (ledger 0 0 0 0) (s .calls) (answered i t s) ≡ true → Never 14 (answered i t s)
   frames-there L w p =
       subst (Never 14) (sym answers-are)

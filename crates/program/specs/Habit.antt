@@ -25,6 +25,13 @@ frameRoom i z = rowsIn (length (z .rings .frames)) (i .dims .«base_dim»)
 abbrev pub rowRoom : IvectorInfo → Rooms → ℕ
 rowRoom i z = rowsIn (length (z .rings .rows)) (i .dims .«base_dim»)
 
+-- rows enough for windows of at most w frames, and frames enough for utterances of at most L frames
+abbrev pub EnoughRows : IvectorInfo → Rooms → ℕ → Type 0
+EnoughRows i z w = frameRoom i z + w ≤ rowRoom i z
+
+abbrev pub EnoughFrames : IvectorInfo → Rooms → ℕ → Type 0
+EnoughFrames i z L = L + i .opts .«left_context» + i .opts .«right_context» ≤ frameRoom i z
+
 -- no answer is refusal r
 abbrev pub Never : ℕ → List Answer → Type 0
 Never r rs = anyOf (λ a. eqb (a .told .refusal) r) rs ≡ false
@@ -40,13 +47,13 @@ windowOf (forget f) = 0
 windowOf (setWindow w) = w
 windowOf (fetch f n) = 0
 
--- with R at least F + w no push is refused 15, w being the options' window or more and no call setting one above it
+-- with R at least F + w (`EnoughRows`) no push is refused 15, w being the options' window or more and no call setting one above it
 abbrev pub RowsEnough : Type 0
 RowsEnough =
     (i : IvectorInfo) (t : Tables) (s : Played i t) (w : ℕ)
     → i .opts .«cmn_window» ≤ w
     → allOf (λ c. leb (windowOf c) w) (s .calls) ≡ true
-    → frameRoom i (s .lent) + w ≤ rowRoom i (s .lent)
+    → EnoughRows i (s .lent) w
     → Never 15 (answered i t s)
 
 -- ---- a forget
@@ -102,7 +109,7 @@ inHabit L right b (c ∷ cs) (a ∷ rs) = mayCome L b c && inHabit L right (take
 abbrev pub FramesEnough : Type 0
 FramesEnough =
     (i : IvectorInfo) (t : Tables) (s : Played i t) (L : ℕ)
-    → L + i .opts .«left_context» + i .opts .«right_context» ≤ frameRoom i (s .lent)
+    → EnoughFrames i (s .lent) L
     → inHabit L (i .opts .«right_context») (ledger 0 0 0 0) (s .calls) (answered i t s) ≡ true
     → Never 14 (answered i t s)
 
@@ -125,8 +132,8 @@ abbrev pub AllTaken : Type 0
 AllTaken =
     (i : IvectorInfo) (t : Tables) (s : Played i t) (L : ℕ) (us : List (List (List Float)))
     → s .calls ≡ hears (i .opts .«right_context») (i .dims .«ivector_dim») 0 us
-    → L + i .opts .«left_context» + i .opts .«right_context» ≤ frameRoom i (s .lent)
-    → frameRoom i (s .lent) + i .opts .«cmn_window» ≤ rowRoom i (s .lent)
+    → EnoughFrames i (s .lent) L
+    → EnoughRows i (s .lent) (i .opts .«cmn_window»)
     → allOf (λ xs. leb (length xs) L && allOf (proper (i .dims .«base_dim»)) xs) us ≡ true
     → length (flatten us) ≤ 1000000000
     → took i t s ≡ flatten us
