@@ -8,7 +8,9 @@ use kaldi_io::Matrix;
 use kaldi_io::Packed;
 use kaldi_io::check_double_matrix;
 use kaldi_io::check_packed_double;
+use kaldi_io::f32_at;
 use kaldi_io::fill_doubles;
+use kaldi_io::narrowed_at;
 use kaldi_io::single_at;
 use kaldi_text::fill_row;
 use packed_matrix::packed_index;
@@ -114,7 +116,30 @@ pub fn fill_gconsts(
 
 // ---- matrices whose columns become rows
 
-// Column c, into a room that it fills.
+// Column c of numbers that are written as f32, and of f64, into a room that it fills.
+fn fill_column_f32(s: &[u8], from: usize, rows: usize, cols: usize, c: usize, out: &mut [f32])
+    requires { ⌜ Ready binary32 binary32 (rows * cols) (now s) from ⌝ }
+    requires { ⌜ (rows ≤ 1024) × (cols ≤ 1089) × (c < cols) × (length (now out) ≡ rows) ⌝ }
+    ensures { λ _. ⌜ now (out .exit) ≡ build rows (λ r. at (numbers binary32 binary32 (rows * cols) (drop from (now (s .entry)))) (r * cols + c)) ⌝ }
+{
+    let n = rows * cols;
+    for r in 0..rows {
+        out[r] = f32_at(s, from, n, r * cols + c);
+    }
+}
+
+fn fill_column_f64(s: &[u8], from: usize, rows: usize, cols: usize, c: usize, out: &mut [f32])
+    requires { ⌜ Ready binary32 binary64 (rows * cols) (now s) from ⌝ }
+    requires { ⌜ (rows ≤ 1024) × (cols ≤ 1089) × (c < cols) × (length (now out) ≡ rows) ⌝ }
+    ensures { λ _. ⌜ now (out .exit) ≡ build rows (λ r. at (numbers binary32 binary64 (rows * cols) (drop from (now (s .entry)))) (r * cols + c)) ⌝ }
+{
+    let n = rows * cols;
+    for r in 0..rows {
+        out[r] = narrowed_at(s, from, n, r * cols + c);
+    }
+}
+
+// The same at either width.
 fn fill_column(
     s: &[u8],
     from: usize,
@@ -128,9 +153,10 @@ fn fill_column(
     requires { ⌜ (rows ≤ 1024) × (cols ≤ 1089) × (c < cols) × (length (now out) ≡ rows) ⌝ }
     ensures { λ _. ⌜ now (out .exit) ≡ build rows (λ r. at (numbers binary32 (width double) (rows * cols) (drop from (now (s .entry)))) (r * cols + c)) ⌝ }
 {
-    let n = rows * cols;
-    for r in 0..rows {
-        out[r] = single_at(s, from, double, n, r * cols + c);
+    if double {
+        fill_column_f64(s, from, rows, cols, c, out);
+    } else {
+        fill_column_f32(s, from, rows, cols, c, out);
     }
 }
 

@@ -538,7 +538,7 @@ fn float_size(double: bool) -> usize
 }
 
 // Number i of n that were checked.
-fn f32_at(s: &[u8], from: usize, n: usize, i: usize) -> f32
+pub fn f32_at(s: &[u8], from: usize, n: usize, i: usize) -> f32
     requires { ⌜ Ready binary32 binary32 n (now s) from ⌝ }
     requires { ⌜ i < n ⌝ }
     ensures { λ r. ⌜ r ≡ at (numbers binary32 binary32 n (drop from (now (s .entry)))) i ⌝ }
@@ -554,7 +554,7 @@ fn f64_at(s: &[u8], from: usize, n: usize, i: usize) -> f64
     f64::from_bits(u64_at(s, from + 8 * i))
 }
 
-fn narrowed_at(s: &[u8], from: usize, n: usize, i: usize) -> f32
+pub fn narrowed_at(s: &[u8], from: usize, n: usize, i: usize) -> f32
     requires { ⌜ Ready binary32 binary64 n (now s) from ⌝ }
     requires { ⌜ i < n ⌝ }
     ensures { λ r. ⌜ r ≡ at (numbers binary32 binary64 n (drop from (now (s .entry)))) i ⌝ }
