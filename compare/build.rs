@@ -71,7 +71,12 @@ fn main() {
         1,
     );
     let (i, j, _) = cut(&iv, "let mut opts = IvectorOptions::default();", "let gmm = DiagGmm::parse");
+    // the settings files, read as texts that are given
+    let mut half = iv[i..j].to_string();
+    half = sub(&half, "std::fs::read_to_string(dir.join(\"splice.conf\"))", "Ok::<&str, ()>(splice)", 1);
+    half = sub(&half, "std::fs::read_to_string(dir.join(\"online_cmvn.conf\"))", "Ok::<&str, ()>(online_cmvn)", 1);
     iv.replace_range(i..j, "");
+    iv.push_str(&format!("\npub fn settings(splice: &str, online_cmvn: &str) -> IvectorOptions {{\n{half}opts\n}}\n"));
     iv = sub(&iv, "DiagGmm::parse(&std::fs::read(dir.join(\"final.dubm\"))?)?", "DiagGmm::parse(dubm)?", 1);
     iv = sub(&iv, "IvectorExtractor::parse(&std::fs::read(dir.join(\"final.ie\"))?)?", "IvectorExtractor::parse(ie)?", 1);
     iv = sub(&iv, "let mat = std::fs::read(dir.join(\"final.mat\"))?;", "", 1);

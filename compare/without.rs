@@ -43,6 +43,9 @@ pub mod ivector {
         pub left_context: usize,
         pub right_context: usize,
     }
+    pub fn settings(_: &str, _: &str) -> IvectorOptions {
+        unimplemented!()
+    }
     pub struct Extractor {
         pub prior_offset: f64,
     }

@@ -14,7 +14,7 @@
  * The calls ask nothing else: whatever numbers they get, they return; the questions answer any record. They keep no state, allocate
  * nothing, and may run in several threads on different records and rooms.
  *
- * Answers: `refusal` is 0 for a call that is taken, else a number from 1 to 24, or 27 to 32. A refused call writes nowhere.
+ * Answers: `refusal` is 0 for a call that is taken, else a number from 1 to 25, or 27 to 32. A refused call writes nowhere.
  *   1 an option is outside its range               13 push: 1,000,000,000 frames are in
  *   2 bytes end before an item does                14 push: the frame room is full
  *   3 the mark, a token or a size byte is wrong    15 push: the row room is full
@@ -27,9 +27,10 @@
  *  10 a record that no call made, or other lengths 22 fetch: the frame is above the highest changed one
  *  11 push: length is not the base dimension       23 silence: more frames than the table has, or a frame number too high
  *  12 push: a number is not finite                 24 silence: lists of different length, or too short for the answer
- *  27 voice: no enrolled vector, or more than 32   29 voice: a number not finite, or a limit below 0
- *  28 voice: a length is not the dimension's       30 change: a frame below one that a forget named
- *  31 window: outside 1..1,000                     32 window: above the longest, and older rows are gone
+ *  25 a settings text not ASCII, or too long       29 voice: a number not finite, or a limit below 0
+ *  27 voice: no enrolled vector, or more than 32   30 change: a frame below one that a forget named
+ *  28 voice: a length is not the dimension's       31 window: outside 1..1,000
+ *                                                  32 window: above the longest, and older rows are gone
  */
 #ifndef SHOFRAKIN_H
 #define SHOFRAKIN_H
@@ -101,6 +102,30 @@ typedef struct {
  * d(d+1)/2 + ds numbers, and free afterwards. A block's numbers may be f32 or f64, as its tag says; an f64 for a table of floats is
  * rounded to the nearest. */
 shofrakin_load_answer shofrakin_load(shofrakin_options opts,
+    const uint8_t *gmm, size_t gmm_len, const uint8_t *extractor, size_t extractor_len,
+    const uint8_t *lda, size_t lda_len, const uint8_t *cmvn, size_t cmvn_len,
+    float *gconsts, size_t gconsts_len, float *means_invvars_t, size_t means_invvars_t_len,
+    float *inv_vars_t, size_t inv_vars_t_len, double *sigma_inv_m, size_t sigma_inv_m_len,
+    double *u, size_t u_len, float *lda_t, size_t lda_t_len,
+    float *lda_offset, size_t lda_offset_len, double *global_mean_stats, size_t global_mean_stats_len,
+    double *scratch, size_t scratch_len);
+
+/* The answer of the settings: the options where the refusal is 0, else ones that a load refuses with 1. */
+typedef struct {
+    size_t refusal;
+    shofrakin_options opts;
+} shofrakin_settings_answer;
+
+/* The options from the maker's settings texts, splice.conf and online_cmvn.conf; a missing file is a text of no bytes. Lines `--key=value`, blanks
+ * around line and value aside; the first line with a key decides, and where its value can't be read the default stays. In splice.conf left-context
+ * and right-context (3), in online_cmvn.conf cmn-window (600), global-frames (200) and cmn-min-energy (50): a whole number below 2^64, and for
+ * the energy a float of digits below 2^24 with a power of ten of -10..10. The other options are 5, 15, 0.025, 0.1 and 100. An option outside its range
+ * is given as it is read: a load refuses it with 1. Refusal 25: a text above 65,536 bytes, or a byte above 127. */
+shofrakin_settings_answer shofrakin_settings(const uint8_t *splice, size_t splice_len, const uint8_t *online_cmvn, size_t online_cmvn_len);
+
+/* The options from the two texts, then shofrakin_load with them. Refusals 25, then 1 to 8. */
+shofrakin_load_answer shofrakin_load_with_settings(
+    const uint8_t *splice, size_t splice_len, const uint8_t *online_cmvn, size_t online_cmvn_len,
     const uint8_t *gmm, size_t gmm_len, const uint8_t *extractor, size_t extractor_len,
     const uint8_t *lda, size_t lda_len, const uint8_t *cmvn, size_t cmvn_len,
     float *gconsts, size_t gconsts_len, float *means_invvars_t, size_t means_invvars_t_len,

@@ -409,5 +409,24 @@ int main(void) {
     is("step, a block too short", shofrakin_registers_step(&stream, block, 15, &x, 1, TABLES, RINGS, ESTIMATE, out, 1).refusal, 10);
     is("its flags are left", block[1], 6);
     printf(wrong ? "%d differ\n" : "the headers fit the library\n", wrong);
+    /* the maker's settings: a load with them, their refusal, and a record that meets 1 */
+#define TEXTS(s, c) (const uint8_t *)(s), sizeof(s) - 1, (const uint8_t *)(c), sizeof(c) - 1
+    shofrakin_settings_answer o = shofrakin_settings(TEXTS("--left-context=1\n--right-context=1\n--left-context=9\n", " --cmn-window=2\r\n--cmn-min-energy=-4.55e1\n--global-frames=x\n"));
+    is("settings", o.refusal, 0);
+    is("the first left-context", o.opts.left_context, 1);
+    is("right-context", o.opts.right_context, 1);
+    is("cmn-window", o.opts.cmn_window, 2);
+    is("global-frames, unreadable", o.opts.global_frames, 200);
+    is("cmn-min-energy", o.opts.min_energy, -45.5);
+    is("num_gselect", o.opts.num_gselect, 5);
+    is("min_post", o.opts.min_post, 0.025f);
+    is("settings that are not ASCII", shofrakin_settings(TEXTS("", "\200")).refusal, 25);
+    model(3, 1.5);
+    m = shofrakin_load_with_settings(TEXTS("--left-context=1\n--right-context=1\n", ""), FILES, TABLES, scratch, 2);
+    is("load with settings", m.refusal, 0);
+    is("its window", m.info.opts.cmn_window, 600);
+    is("load with settings out of range", shofrakin_load_with_settings(TEXTS("--left-context=9\n", ""), FILES, TABLES, scratch, 2).refusal, 1);
+    is("load with refused settings", shofrakin_load_with_settings(TEXTS("--left-context=9\n\377", ""), FILES, TABLES, scratch, 2).refusal, 25);
+    printf(wrong ? "%d differ\n" : "the header fits the library\n", wrong);
     return wrong != 0;
 }

@@ -16,6 +16,7 @@ pub mod requests_nan;
 pub mod requests_widths;
 pub mod requests_window;
 pub mod script;
+pub mod settings;
 pub mod timed;
 #[allow(dead_code, warnings)]
 mod orig {

@@ -4,12 +4,14 @@
 //! compare nearest-lines              the same on cases with their answers, on standard input (FORMAT.md)
 //! compare loud FIRST COUNT           views of loud frames in the library's rooms, COUNT lists from the seed FIRST
 //! compare load-lines                 loads of models with their answers, on standard input (FORMAT.md)
+//! compare settings FIRST COUNT       the options from settings texts, COUNT pairs from the seed FIRST
+//! compare settings-lines             the same on pairs with their answers, on standard input (FORMAT.md)
 //! compare gen FIRST COUNT [KIND]     the lists as a script (FORMAT.md), on standard output
 //! compare answer                     the machine's answers to a script on standard input
 //! KIND: calls wild damage edges rooms forged silence long limit exact nan registers floor widths window big cuts, or all (all but big and cuts). THREADS: how
 //! many (2).
 //! Exit status 1 on any difference.
-use compare::{day, gen, lists, loud, nearest, requests_widths, script};
+use compare::{day, gen, lists, loud, nearest, requests_widths, script, settings};
 use std::io::{BufRead, Write};
 
 fn kinds(s: &str) -> Vec<gen::What> {
@@ -66,6 +68,8 @@ fn main() {
         Some("loud") => std::process::exit(i32::from(!loud::run(num(2, 1), num(3, 1000)))),
         Some("nearest-lines") => std::process::exit(i32::from(nearest::lines(std::io::stdin().lock()) != 0)),
         Some("load-lines") => std::process::exit(i32::from(requests_widths::lines(std::io::stdin().lock()) != 0)),
+        Some("settings") => std::process::exit(i32::from(settings::run(num(2, 1), num(3, 1000)) != 0)),
+        Some("settings-lines") => std::process::exit(i32::from(settings::lines(std::io::stdin().lock()) != 0)),
         Some("gen") => {
             let mut w = std::io::BufWriter::new(std::io::stdout().lock());
             for seed in num(2, 1)..num(2, 1) + num(3, 1) {
@@ -87,7 +91,7 @@ fn main() {
         }
         _ => {
             eprintln!(
-                "compare lists FIRST COUNT [KIND] | day [FRAMES [SEED]] | nearest FIRST COUNT | nearest-lines | loud FIRST COUNT | load-lines | gen FIRST COUNT [KIND] | answer"
+                "compare lists FIRST COUNT [KIND] | day [FRAMES [SEED]] | nearest FIRST COUNT | nearest-lines | loud FIRST COUNT | load-lines | settings FIRST COUNT | settings-lines | gen FIRST COUNT [KIND] | answer"
             );
             std::process::exit(2);
         }

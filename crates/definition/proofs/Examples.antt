@@ -201,10 +201,10 @@ pub record Examples : Type 0 where
   pub P1-two : lnOf (asF64 2) ≡ f64 0x3fe6_2e42_fefa_39ef
   pub P2-zero : expOf zero₃₂ ≡ one₃₂
   pub P2-minus-zero : expOf (neg zero₃₂) ≡ one₃₂
-  pub P3-taken : number (text "9007199254740991") 0 ≡ read (asF64 9007199254740991) 16
-  pub P3-refused : number (text "9007199254740992") 0 ≡ refused 7
-  pub P4-taken : number (text "1e22") 0 ≡ read (f64 0x4480_f0cf_064d_d592) 4
-  pub P4-refused : number (text "1e23") 0 ≡ refused 7
+  pub P3-taken : number binary64 (text "9007199254740991") 0 ≡ read (asF64 9007199254740991) 16
+  pub P3-refused : number binary64 (text "9007199254740992") 0 ≡ refused 7
+  pub P4-taken : number binary64 (text "1e22") 0 ≡ read (f64 0x4480_f0cf_064d_d592) 4
+  pub P4-refused : number binary64 (text "1e23") 0 ≡ refused 7
   pub P5 : narrowed (asF64 1 +₆₄ f64 0x3e70_0000_0000_0000) ≡ one₃₂
   pub P6-zero : minPostFor defaults zero₃₂ ≡ f32 0x3f7d_70a4
   pub P6-small : minPostFor defaults (f32 0x3c23_d70a) ≡ f32 0x3f7d_70a4

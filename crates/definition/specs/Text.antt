@@ -5,10 +5,10 @@ use mathlib.Core.Bool.{Bool, false, not, _&&_, _||_}
 use mathlib.Core.List.{List, [], _∷_, _++_}
 use lib.ListN.{length, take, drop}
 use lib.Dec.{leb, ltb, eqb}
-use lib.Ieee.{Float, lt}
+use lib.Ieee.{Float, Format, binary64, prec, lt}
 use Rattle.loops.specs.Lists.{if_then_else_}
 use Rattle.floats.specs.Operators.{zero₆₄}
-use Rattle.floats.specs.Decimal.{scaled}
+use Rattle.floats.specs.Decimal.{scaled, tens}
 use Rattle.definition.specs.Options.{within}
 use Rattle.definition.specs.Reader.{read, refused, Parser, after, _>>=_, _>>_, give, need, run, here}
 
@@ -47,20 +47,20 @@ signedDigits = do
 unfoldable pub exponent : Parser Power
 exponent s i = if here (λ b. eqb b 69 || eqb b 101) s i then signedDigits s (i + 1) else read (record { under = false; magnitude = 0 }) i
 
--- ±m * 10 ^ (up - down): m below 2 ^ 53, the power of ten -22 .. 22
-unfoldable pub toNearest : Bool → ℕ → ℕ → ℕ → Parser Float
-toNearest minus m up down = do
-  need (ltb m (2 ^ 53) && (leb up (down + 22) && leb down (up + 22))) 7
-  give (scaled minus m up down)
+-- ±m * 10 ^ (up - down): m below 2 ^ 53, the power of ten -22 .. 22; for an f32 (request 1) below 2 ^ 24, and -10 .. 10
+unfoldable pub toNearest : Format → Bool → ℕ → ℕ → ℕ → Parser Float
+toNearest f minus m up down = do
+  need (ltb m (2 ^ prec f) && (leb up (down + tens f) && leb down (up + tens f))) 7
+  give (scaled f minus m up down)
 
-unfoldable pub number : Parser Float
-number = do
+unfoldable pub number : Format → Parser Float
+number f = do
   minus ← sign
   a ← digits
   b ← fraction
   need (ltb 0 (length (a ++ b))) 7
   e ← exponent
-  toNearest minus (digitsValue 0 (a ++ b)) (if e .under then 0 else e .magnitude) ((if e .under then e .magnitude else 0) + length b)
+  toNearest f minus (digitsValue 0 (a ++ b)) (if e .under then 0 else e .magnitude) ((if e .under then e .magnitude else 0) + length b)
 
 -- ---- the matrix
 
@@ -78,7 +78,7 @@ skip t s i = read tt (i + run t (drop i s))
 unfoldable pub row : ℕ → Parser (List Float)
 row zero s i = refused 7
 row (suc n) s i = after (skip (λ b. not (eqb b 10) && space b) s i) (λ _ t p. if here stop t p then read [] p
-    else after (number t p) (λ x u q. if here (λ b. space b || stop b) u q then after (row n u q) (λ xs. give (x ∷ xs)) u else refused 7) t) s
+    else after (number binary64 t p) (λ x u q. if here (λ b. space b || stop b) u q then after (row n u q) (λ xs. give (x ∷ xs)) u else refused 7) t) s
 
 -- a row of at most 65, after blanks and blank rows
 unfoldable pub line : Parser (List Float)

@@ -16,11 +16,13 @@ use Rattle.definition.specs.declared.SilenceAnswer.{SilenceAnswer}
 use Rattle.definition.specs.declared.SilenceWeighting.{SilenceWeighting}
 use Rattle.definition.specs.declared.NewTable.{NewTable}
 use Rattle.definition.specs.declared.NewTable.the-variants as T
+use Rattle.definition.specs.Reader.{Got, read, refused}
 use Rattle.definition.specs.Model.{lengthsFrom}
 use Rattle.definition.specs.Silence.{decoder}
 use Rattle.program.specs.Rooms.{ringsFrom, estimateFrom, roomsFrom, roomLengthsOf}
 use Rattle.program.specs.Calls.{answerFrom, freshStream}
 use Rattle.exports.specs.declared.LoadAnswer.{LoadAnswer}
+use Rattle.exports.specs.declared.SettingsAnswer.{SettingsAnswer}
 use Rattle.exports.specs.declared.NewTableAnswer.{NewTableAnswer}
 use Rattle.exports.specs.declared.SilenceCounts.{SilenceCounts}
 
@@ -34,6 +36,26 @@ noInfo o =
 unfoldable pub loadAnswer : IvectorOptions → Loaded → LoadAnswer
 loadAnswer o (L.Model i) = record { refusal = 0; info = i }
 loadAnswer o (L.Refused n) = record { refusal = n; info = noInfo o }
+
+-- no window is 0
+abbrev pub noOptions : IvectorOptions
+noOptions =
+    record {
+      «left_context» = 0;
+      «right_context» = 0;
+      «cmn_window» = 0;
+      «global_frames» = 0;
+      «num_gselect» = 0;
+      «num_cg_iters» = 0;
+      «min_post» = zero₃₂;
+      «posterior_scale» = zero₃₂;
+      «max_count» = zero₆₄;
+      «min_energy» = zero₃₂;
+    }
+
+unfoldable pub settingsAnswer : Got IvectorOptions → SettingsAnswer
+settingsAnswer (read o i) = record { refusal = 0; opts = o }
+settingsAnswer (refused n) = record { refusal = n; opts = noOptions }
 
 -- no room has a length that a stream can have
 abbrev pub noStream : IvectorInfo → IvectorStream

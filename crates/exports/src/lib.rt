@@ -19,6 +19,7 @@ use definition::StreamAnswer;
 use definition::StreamCall;
 use definition::TableLengths;
 use nearest_voice::VoiceAnswer;
+use settings::Settings;
 ghost use mathlib.Core.Path.{_≡_};
 ghost use mathlib.Core.List.{[]};
 ghost use Prim.Native.Nat.{ℕ};
@@ -33,8 +34,9 @@ ghost use Rattle.program.specs.Calls.{newAnswer, freshRooms, ringCall, doneOn, 
 ghost use Rattle.nearest_voice.specs.Voice.{nearestVoice, voiceAnswer};
 ghost use Rattle.program.specs.Session.{program};
 ghost use Rattle.registers.specs.Board.{Board, board, blockRefusal, boardStep, FetchTaken};
+ghost use Rattle.settings.specs.Settings.{settingsOf, loadWith};
 ghost use Rattle.ivector_info.specs.Load.{filesOf, scratchKept};
-ghost use Rattle.exports.specs.Answers.{loadAnswer, noInfo, answered, newStreamAnswer, newTableAnswer, counted, noStream, noTable};
+ghost use Rattle.exports.specs.Answers.{loadAnswer, noInfo, noOptions, settingsAnswer, answered, newStreamAnswer, newTableAnswer, counted, noStream, noTable};
 
 // The answer of a load: the record where the refusal is 0, else one that no fresh stream takes.
 #[repr(C)]
@@ -151,6 +153,101 @@ pub extern "C" fn shofrakin_load(
         scratch,
     );
     load_answer(opts, a)
+}
+
+// ---- the maker's settings
+
+// The answer of the settings: the options where the refusal is 0, else ones that a load refuses with 1.
+#[repr(C)]
+pub struct SettingsAnswer {
+    pub refusal: usize,
+    pub opts: IvectorOptions,
+}
+
+fn no_options() -> IvectorOptions
+    ensures { λ r. ⌜ r ≡ noOptions ⌝ }
+{
+    IvectorOptions {
+        left_context: 0,
+        right_context: 0,
+        cmn_window: 0,
+        global_frames: 0,
+        num_gselect: 0,
+        num_cg_iters: 0,
+        min_post: 0.0,
+        posterior_scale: 0.0,
+        max_count: 0.0,
+        min_energy: 0.0,
+    }
+}
+
+// `settings::read_settings`.
+#[no_mangle]
+pub extern "C" fn shofrakin_settings(splice: &[u8], online_cmvn: &[u8]) -> SettingsAnswer
+    ensures { λ r. ⌜ r ≡ settingsAnswer (settingsOf (now (splice .entry)) (now («online_cmvn» .entry))) ⌝ }
+{
+    match settings::read_settings(splice, online_cmvn) {
+        Settings::Options(opts) => {
+            return SettingsAnswer { refusal: 0, opts };
+        }
+        Settings::Refused(refusal) => {
+            let opts = no_options();
+            return SettingsAnswer { refusal, opts };
+        }
+    }
+}
+
+// The options from the two settings texts, then `ivector_info::load` with them.
+#[no_mangle]
+pub extern "C" fn shofrakin_load_with_settings(
+    splice: &[u8],
+    online_cmvn: &[u8],
+    gmm: &[u8],
+    extractor: &[u8],
+    lda: &[u8],
+    cmvn: &[u8],
+    gconsts: &mut [f32],
+    means_invvars_t: &mut [f32],
+    inv_vars_t: &mut [f32],
+    sigma_inv_m: &mut [f64],
+    u: &mut [f64],
+    lda_t: &mut [f32],
+    lda_offset: &mut [f32],
+    global_mean_stats: &mut [f64],
+    scratch: &mut [f64],
+) -> LoadAnswer
+    ensures { λ r. ⌜ (
+        let t : Tables = tablesFrom (now (gconsts .entry)) (now («means_invvars_t» .entry)) (now («inv_vars_t» .entry)) (now («sigma_inv_m» .entry))
+        (now (u .entry)) (now («lda_t» .entry)) (now («lda_offset» .entry)) (now («global_mean_stats» .entry)) in
+        let o = settingsOf (now (splice .entry)) (now («online_cmvn» .entry)) in
+        let got = loadWith (now (splice .entry)) (now («online_cmvn» .entry)) (filesOf (now (gmm .entry)) (now (extractor .entry)) (now (lda .entry)) (now (cmvn .entry)))
+        (tableLengthsOf t) (length (now (scratch .entry))) in
+        (r ≡ loadAnswer (settingsAnswer o .opts) (loadedOf got))
+        × (tablesFrom (now (gconsts .exit)) (now («means_invvars_t» .exit)) (now («inv_vars_t» .exit)) (now («sigma_inv_m» .exit))
+        (now (u .exit)) (now («lda_t» .exit)) (now («lda_offset» .exit)) (now («global_mean_stats» .exit)) ≡ loadedTables got t)
+        × scratchKept got (now (scratch .entry)) (now (scratch .exit))) ⌝ }
+{
+    let a = shofrakin_settings(splice, online_cmvn);
+    let opts = a.opts;
+    if a.refusal != 0 {
+        return load_answer(opts, Loaded::Refused(a.refusal));
+    }
+    shofrakin_load(
+        opts,
+        gmm,
+        extractor,
+        lda,
+        cmvn,
+        gconsts,
+        means_invvars_t,
+        inv_vars_t,
+        sigma_inv_m,
+        u,
+        lda_t,
+        lda_offset,
+        global_mean_stats,
+        scratch,
+    )
 }
 
 // ---- a fresh stream

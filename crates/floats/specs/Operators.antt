@@ -54,9 +54,12 @@ one₆₄ = f64 0x3ff0_0000_0000_0000
 abbrev pub half₆₄ : Float
 half₆₄ = f64 0x3fe0_0000_0000_0000
 
--- a count as an f64
+-- a count as an f64, and as an f32
 abbrev pub asF64 : ℕ → Float
 asF64 n = ofInt binary64 (pos n)
+
+abbrev pub asF32 : ℕ → Float
+asF32 n = ofInt binary32 (pos n)
 
 -- element i, for an i below the length
 abbrev pub at : List Float → ℕ → Float

@@ -1,10 +1,10 @@
 // Functions on floats: narrowing, root, logarithm, exponential, decimals, and Rust's max, min, abs and is_finite.
 ghost use mathlib.Core.Path.{_≡_};
 ghost use Prim.Native.Nat.{_+_, _*_, _≤_, _<_, _^_};
-ghost use lib.Ieee.{binary64, toBits, ofBits};
+ghost use lib.Ieee.{binary32, binary64, toBits, ofBits};
 ghost use lib.Ieee.Nearest.{closest};
 ghost use lib.Ieee.Scale.{finite};
-ghost use Rattle.floats.specs.Operators.{asF64};
+ghost use Rattle.floats.specs.Operators.{asF32, asF64};
 ghost use Rattle.floats.specs.Narrow.{narrowed};
 ghost use Rattle.floats.specs.Sqrt.{squareRoot};
 ghost use Rattle.floats.specs.Ln.{chained, lnSum, lnOf, lnNarrow};
@@ -379,7 +379,7 @@ fn ten(k: u64) -> f64
 pub fn decimal(minus: bool, m: u64, up: u64, down: u64) -> f64
     requires { ⌜ m < 2 ^ 53 ⌝ }
     requires { ⌜ (up ≤ down + 22) × (down ≤ up + 22) ⌝ }
-    ensures { λ r. ⌜ r ≡ scaled minus m up down ⌝ }
+    ensures { λ r. ⌜ r ≡ scaled binary64 minus m up down ⌝ }
 {
     let mut x = m as f64;
     if minus {
@@ -389,5 +389,44 @@ pub fn decimal(minus: bool, m: u64, up: u64, down: u64) -> f64
         x * ten(up - down)
     } else {
         x / ten(down - up)
+    }
+}
+
+const TENS_F32: [f32; 11] = [
+    1.0,
+    10.0,
+    100.0,
+    1000.0,
+    10000.0,
+    100000.0,
+    1000000.0,
+    10000000.0,
+    100000000.0,
+    1000000000.0,
+    10000000000.0,
+];
+
+// 10^k, which an f32 holds.
+fn ten_f32(k: u64) -> f32
+    requires { ⌜ k ≤ 10 ⌝ }
+    ensures { λ r. ⌜ r ≡ asF32 (10 ^ k) ⌝ }
+{
+    TENS_F32[k as usize]
+}
+
+// The f32 nearest to ±m * 10^(up - down), likewise.
+pub fn decimal_f32(minus: bool, m: u64, up: u64, down: u64) -> f32
+    requires { ⌜ m < 2 ^ 24 ⌝ }
+    requires { ⌜ (up ≤ down + 10) × (down ≤ up + 10) ⌝ }
+    ensures { λ r. ⌜ r ≡ scaled binary32 minus m up down ⌝ }
+{
+    let mut x = m as f32;
+    if minus {
+        x = -x;
+    }
+    if down <= up {
+        x * ten_f32(up - down)
+    } else {
+        x / ten_f32(down - up)
     }
 }

@@ -9,11 +9,11 @@ use lib.ListN.{length, take, drop, getD}
 use Rattle.definition.specs.Text.{digitsValue}
 use Rattle.kaldi_io.proofs.Bytes.{next-byte}
 
-decimal-nil : (m : ℕ) → digitsValue m [] ≡ m
+pub decimal-nil : (m : ℕ) → digitsValue m [] ≡ m
 unfolding digitsValue
 decimal-nil m = refl
 
-decimal-cons : (m b : ℕ) (l : List ℕ) → digitsValue m (b ∷ l) ≡ digitsValue (m * 10 + (b - 48)) l
+pub decimal-cons : (m b : ℕ) (l : List ℕ) → digitsValue m (b ∷ l) ≡ digitsValue (m * 10 + (b - 48)) l
 unfolding digitsValue
 decimal-cons m b l = refl
 
@@ -22,7 +22,7 @@ unfolding digitsValue
 decimal-append m [] b = refl
 decimal-append m (x ∷ a) b = decimal-append (m * 10 + (x - 48)) a b
 
-decimal-ge : (m : ℕ) (l : List ℕ) → m ≤ digitsValue m l
+pub decimal-ge : (m : ℕ) (l : List ℕ) → m ≤ digitsValue m l
 unfolding digitsValue
 decimal-ge m [] = le-refl m
 decimal-ge m (b ∷ l) = le-trans (omega arith) (decimal-ge (m * 10 + (b - 48)) l)

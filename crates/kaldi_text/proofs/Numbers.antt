@@ -8,19 +8,22 @@ use native.Mathlib.Nat.{zero-add, le-refl}
 use native.Mathlib.Decide.{decLt}
 use native.Mathlib.Omega.{arith}
 use borrow.Author.Tests.{le-leb, lt-leb, lt-ltb, le-ltb}
-use lib.Dec.{leb, ltb, eqb}
+use lib.Dec.{leb, ltb, eqb, lit≤}
 use lib.ListN.{length, take, drop, length-append, length-drop}
-use lib.Ieee.{Float}
+use lib.Ieee.{Float, Format, binary32, binary64, prec}
 use Rattle.loops.specs.Lists.{if_then_else_}
 use Rattle.loops.proofs.Choose.{by-test}
 use Rattle.loops.proofs.Parts.{length-part}
-use Rattle.floats.specs.Decimal.{scaled}
+use Rattle.floats.specs.Decimal.{scaled, tens}
 use Rattle.definition.specs.Options.{within}
 use Rattle.definition.specs.Reader.{Got, Parser, after, run, here, refused, read}
 use Rattle.definition.specs.Text.{sign, digits, fraction, digitsValue, Power, signedDigits, exponent, toNearest, number}
 use Rattle.kaldi_io.proofs.Chain.{not-read, same-value, same-place, same-refusal}
 use Rattle.kaldi_text.specs.Steps.{capped}
 use Rattle.kaldi_text.proofs.Decimals.{decimal-append, decimal-cap}
+
+le-of-not-lt : (m n : ℕ) → (m < n → ⊥) → n ≤ m
+le-of-not-lt m n h = omega arith
 
 -- ---- a run of bytes ends within the text
 
@@ -91,76 +94,99 @@ module _ (s : List ℕ) (p : ℕ) {minus : Bool} {from to : ℕ} (lead : read mi
 
 -- ---- digits and power within their limits
 
-module _ (minus : Bool) (m u d : ℕ) (s : List ℕ) (next : ℕ) where
-  pub finished-big : 2 ^ 53 ≤ m → refused 7 ≡ toNearest minus m u d s next
+-- where a format comes in: the code's caps are above every limit
+prec-le : (f : Format) → 2 ^ prec f ≤ 2 ^ 53
+prec-le binary32 = lit≤ tt
+prec-le binary64 = lit≤ tt
+
+tens-le : (f : Format) → tens f ≤ 22
+tens-le binary32 = lit≤ tt
+tens-le binary64 = lit≤ tt
+
+module _ (f : Format) (minus : Bool) (m u d : ℕ) (s : List ℕ) (next : ℕ) where
+  pub finished-big : 2 ^ prec f ≤ m → refused 7 ≡ toNearest f minus m u d s next
   unfolding toNearest
-  finished-big h = simp (le-ltb m (2 ^ 53) h)
+  finished-big h = simp (le-ltb m (2 ^ prec f) h)
 
-  module _ (few : m < 2 ^ 53) where
-    pub finished-high : d + 22 < u → refused 7 ≡ toNearest minus m u d s next
+  module _ (few : m < 2 ^ prec f) where
+    pub finished-high : d + tens f < u → refused 7 ≡ toNearest f minus m u d s next
     unfolding toNearest
-    finished-high h = simp (lt-ltb m (2 ^ 53) few, lt-leb u (d + 22) h)
+    finished-high h = simp (lt-ltb m (2 ^ prec f) few, lt-leb u (d + tens f) h)
 
-    module _ (low : u ≤ d + 22) where
-      pub finished-low : u + 22 < d → refused 7 ≡ toNearest minus m u d s next
+    module _ (low : u ≤ d + tens f) where
+      pub finished-low : u + tens f < d → refused 7 ≡ toNearest f minus m u d s next
       unfolding toNearest
-      finished-low h = simp (lt-ltb m (2 ^ 53) few, le-leb u (d + 22) low, lt-leb d (u + 22) h)
+      finished-low h = simp (lt-ltb m (2 ^ prec f) few, le-leb u (d + tens f) low, lt-leb d (u + tens f) h)
 
-      pub finished-yes : d ≤ u + 22 → read (scaled minus m u d) next ≡ toNearest minus m u d s next
+      pub finished-yes : d ≤ u + tens f → read (scaled f minus m u d) next ≡ toNearest f minus m u d s next
       unfolding toNearest
-      finished-yes h = simp (lt-ltb m (2 ^ 53) few, le-leb u (d + 22) low, le-leb d (u + 22) h)
+      finished-yes h = simp (lt-ltb m (2 ^ prec f) few, le-leb u (d + tens f) low, le-leb d (u + tens f) h)
 
   -- a power too high or too low is refused, whatever the digits
-  out-of-reach : (d + 22 < u) ⊎ (u + 22 < d) → toNearest minus m u d s next ≡ refused 7
-  out-of-reach h = go (decLt m (2 ^ 53))
+  out-of-reach : (d + 22 < u) ⊎ (u + 22 < d) → toNearest f minus m u d s next ≡ refused 7
+  out-of-reach h = go (decLt m (2 ^ prec f))
     where
-      go : Dec (m < 2 ^ 53) → toNearest minus m u d s next ≡ refused 7
-      go (yes k) = ⊎-elim (λ l. sym (finished-high k l)) (λ l. sym (finished-low k (omega arith) l)) h
-      go (no k) = sym (finished-big (omega arith))
+      high : (n : ℕ) → n ≤ 22 → d + 22 < u → d + n < u
+      high n l k = omega arith
+
+      low : (n : ℕ) → n ≤ 22 → u + 22 < d → (u ≤ d + n) × (u + n < d)
+      low n l k = (omega arith, omega arith)
+
+      go : Dec (m < 2 ^ prec f) → toNearest f minus m u d s next ≡ refused 7
+      go (yes k) = ⊎-elim (λ l. sym (finished-high k (high (tens f) (tens-le f) l))) (λ l. let b = low (tens f) (tens-le f) l in sym (finished-low k (b .0) (b .1))) h
+      go (no k) = sym (finished-big (le-of-not-lt m (2 ^ prec f) k))
 
   -- the bytes play no part
-  finished-any : (t : List ℕ) → toNearest minus m u d s next ≡ toNearest minus m u d t next
+  finished-any : (t : List ℕ) → toNearest f minus m u d s next ≡ toNearest f minus m u d t next
   unfolding toNearest
-  finished-any t = by-test (ltb m (2 ^ 53) && (leb u (d + 22) && leb d (u + 22))) (λ e. rw e) (λ e. rw e)
+  finished-any t = by-test (ltb m (2 ^ prec f) && (leb u (d + tens f) && leb d (u + tens f))) (λ e. rw e) (λ e. rw e)
 
 -- the caps do not show
-module _ (minus : Bool) (s : List ℕ) (next : ℕ) where
-  cap-digits : (m u d : ℕ) → toNearest minus (min m (2 ^ 53)) u d s next ≡ toNearest minus m u d s next
-  cap-digits m u d = go (decLt m (2 ^ 53))
+module _ (f : Format) (minus : Bool) (s : List ℕ) (next : ℕ) where
+  cap-digits : (m u d : ℕ) → toNearest f minus (min m (2 ^ 53)) u d s next ≡ toNearest f minus m u d s next
+  cap-digits m u d = go (decLt m (2 ^ prec f))
     where
-      go : Dec (m < 2 ^ 53) → toNearest minus (min m (2 ^ 53)) u d s next ≡ toNearest minus m u d s next
-      go (yes k) = let e : min m (2 ^ 53) ≡ m = omega arith in ap (λ (x : ℕ). toNearest minus x u d s next) e
-      go (no k) = sym (finished-big minus (min m (2 ^ 53)) u d s next (omega arith)) ∙ finished-big minus m u d s next (omega arith)
+      under : (n : ℕ) → n ≤ 9007199254740992 → m < n → min m 9007199254740992 ≡ m
+      under n l k = omega arith
 
-  cap-up : (m e n : ℕ) → n ≤ 65536 → toNearest minus m (min e 100000) n s next ≡ toNearest minus m e n s next
+      over : (n : ℕ) → n ≤ 9007199254740992 → n ≤ m → n ≤ min m 9007199254740992
+      over n l k = omega arith
+
+      go : Dec (m < 2 ^ prec f) → toNearest f minus (min m (2 ^ 53)) u d s next ≡ toNearest f minus m u d s next
+      go (yes k) = ap (λ (x : ℕ). toNearest f minus x u d s next) (under (2 ^ prec f) (prec-le f) k)
+      go (no k) =
+          let l : 2 ^ prec f ≤ m = le-of-not-lt m (2 ^ prec f) k in
+          sym (finished-big f minus (min m (2 ^ 53)) u d s next (over (2 ^ prec f) (prec-le f) l)) ∙ finished-big f minus m u d s next l
+
+  cap-up : (m e n : ℕ) → n ≤ 65536 → toNearest f minus m (min e 100000) n s next ≡ toNearest f minus m e n s next
   cap-up m e n h = go (decLt e 100000)
     where
-      go : Dec (e < 100000) → toNearest minus m (min e 100000) n s next ≡ toNearest minus m e n s next
-      go (yes k) = let q : min e 100000 ≡ e = omega arith in ap (λ (x : ℕ). toNearest minus m x n s next) q
-      go (no k) = out-of-reach minus m (min e 100000) n s next (inl (omega arith)) ∙ sym (out-of-reach minus m e n s next (inl (omega arith)))
+      go : Dec (e < 100000) → toNearest f minus m (min e 100000) n s next ≡ toNearest f minus m e n s next
+      go (yes k) = let q : min e 100000 ≡ e = omega arith in ap (λ (x : ℕ). toNearest f minus m x n s next) q
+      go (no k) = out-of-reach f minus m (min e 100000) n s next (inl (omega arith)) ∙ sym (out-of-reach f minus m e n s next (inl (omega arith)))
 
-  cap-down : (m e n : ℕ) → toNearest minus m 0 (min e 100000 + n) s next ≡ toNearest minus m 0 (e + n) s next
+  cap-down : (m e n : ℕ) → toNearest f minus m 0 (min e 100000 + n) s next ≡ toNearest f minus m 0 (e + n) s next
   cap-down m e n = go (decLt e 100000)
     where
-      go : Dec (e < 100000) → toNearest minus m 0 (min e 100000 + n) s next ≡ toNearest minus m 0 (e + n) s next
-      go (yes k) = let q : min e 100000 ≡ e = omega arith in ap (λ (x : ℕ). toNearest minus m 0 (x + n) s next) q
-      go (no k) = out-of-reach minus m 0 (min e 100000 + n) s next (inr (omega arith)) ∙ sym (out-of-reach minus m 0 (e + n) s next (inr (omega arith)))
+      go : Dec (e < 100000) → toNearest f minus m 0 (min e 100000 + n) s next ≡ toNearest f minus m 0 (e + n) s next
+      go (yes k) = let q : min e 100000 ≡ e = omega arith in ap (λ (x : ℕ). toNearest f minus m 0 (x + n) s next) q
+      go (no k) = out-of-reach f minus m 0 (min e 100000 + n) s next (inr (omega arith)) ∙ sym (out-of-reach f minus m 0 (e + n) s next (inr (omega arith)))
 
 -- ---- the whole number
 
 -- what follows the exponent
-abbrev tail : Bool → List ℕ → List ℕ → List ℕ → Got Power → Got Float
-tail minus a b s g = after g (λ e. toNearest minus (digitsValue 0 (a ++ b)) (if e .under then 0 else e .magnitude) ((if e .under then e .magnitude else 0) + length b)) s
+abbrev tail : Format → Bool → List ℕ → List ℕ → List ℕ → Got Power → Got Float
+tail f minus a b s g = after g (λ e. toNearest f minus (digitsValue 0 (a ++ b)) (if e .under then 0 else e .magnitude) ((if e .under then e .magnitude else 0) + length b)) s
 
 -- as the code has it: an exponent of size z below zero, or not
-abbrev scaledBy : Bool → ℕ → Bool → ℕ → ℕ → Parser Float
-scaledBy minus m under z n = toNearest minus m (if under then 0 else z) ((if under then z else 0) + n)
+abbrev scaledBy : Format → Bool → ℕ → Bool → ℕ → ℕ → Parser Float
+scaledBy f minus m under z n = toNearest f minus m (if under then 0 else z) ((if under then z else 0) + n)
 
-cap-power : (minus : Bool) (m : ℕ) (under : Bool) (e n : ℕ) (s : List ℕ) (next : ℕ) → n ≤ 65536 → scaledBy minus m under (min e 100000) n s next ≡ scaledBy minus m under e n s next
-cap-power minus m true e n s next h = cap-down minus s next m e n
-cap-power minus m false e n s next h =
-    let z : (x : ℕ) → toNearest minus m x (0 + n) s next ≡ toNearest minus m x n s next = λ x. ap (λ (k : ℕ). toNearest minus m x k s next) (zero-add n) in
-    z (min e 100000) ∙ cap-up minus s next m e n h ∙ sym (z e)
+cap-power : (f : Format) (minus : Bool) (m : ℕ) (under : Bool) (e n : ℕ) (s : List ℕ) (next : ℕ) → n ≤ 65536 → scaledBy f minus m under (min e 100000) n s next ≡ scaledBy f minus m under e n s next
+cap-power f minus m true e n s next h = cap-down f minus s next m e n
+cap-power f minus m false e n s next h =
+    let z : (x : ℕ) → toNearest f minus m x (0 + n) s next ≡ toNearest f minus m x n s next = λ x. ap (λ (k : ℕ). toNearest f minus m x k s next) (zero-add n) in
+    z (min e 100000) ∙ cap-up f minus s next m e n h ∙ sym (z e)
 
 -- the parts of a number, as the code reads them: the sign, the digits from `from` to `to`, and those of the fraction from `start` to `stop`
 pub record Parts (s : List ℕ) (at : ℕ) (minus : Bool) (from to start stop : ℕ) : Type 0 where
@@ -171,7 +197,7 @@ pub record Parts (s : List ℕ) (at : ℕ) (minus : Bool) (from to start stop : 
   pub order : start ≤ stop
   pub fits : stop ≤ length s
 
-module _ {s : List ℕ} {at : ℕ} {minus : Bool} {from to start stop : ℕ} (o : Parts s at minus from to start stop) where
+module _ {s : List ℕ} {at : ℕ} {minus : Bool} {from to start stop : ℕ} (o : Parts s at minus from to start stop) (f : Format) where
   abbrev A : List ℕ
   A = take (to - from) (drop from s)
 
@@ -181,19 +207,19 @@ module _ {s : List ℕ} {at : ℕ} {minus : Bool} {from to start stop : ℕ} (o 
   count : length (A ++ B) ≡ (to - from) + (stop - start)
   count = length-append A B ∙ ap (λ (n : ℕ). n + length B) (part-length s from to (omega arith) (o .inside)) ∙ ap (λ (n : ℕ). (to - from) + n) (part-length s start stop (o .order) (o .fits))
 
-  pub number-empty : (to - from) + (stop - start) ≡ 0 → refused 7 ≡ number s at
+  pub number-empty : (to - from) + (stop - start) ≡ 0 → refused 7 ≡ number f s at
   unfolding number
   number-empty e = let z : length (A ++ B) ≡ 0 = count ∙ e in simp (← (o .lead), ← (digits-are s from (o .ends)), ← (o .part), z)
 
   module _ (some : (to - from) + (stop - start) ≡ 0 → ⊥) where
-    number-tail : number s at ≡ tail minus A B s (exponent s stop)
+    number-tail : number f s at ≡ tail f minus A B s (exponent s stop)
     unfolding number
     number-tail = let z : ltb 0 (length (A ++ B)) ≡ true = lt-ltb 0 (length (A ++ B)) (rw count (omega arith)) in simp (← (o .lead), ← (digits-are s from (o .ends)), ← (o .part), z)
 
-    pub number-refused : {e : ℕ} → refused e ≡ capped (exponent s stop) → refused e ≡ number s at
+    pub number-refused : {e : ℕ} → refused e ≡ capped (exponent s stop) → refused e ≡ number f s at
     number-refused {e} h = go (exponent s stop) h ∙ sym number-tail
       where
-        go : (g : Got Power) → refused e ≡ capped g → refused e ≡ tail minus A B s g
+        go : (g : Got Power) → refused e ≡ capped g → refused e ≡ tail f minus A B s g
         go (refused n) h = ap (λ (k : ℕ). refused k) (same-refusal h)
         go (read p x) h = absurd (not-read h)
 
@@ -204,27 +230,27 @@ module _ {s : List ℕ} {at : ℕ} {minus : Bool} {from to start stop : ℕ} (o 
       digits-held =
           second ∙ ap (λ (k : ℕ). min (digitsValue k B) (2 ^ 53)) first ∙ decimal-cap (digitsValue 0 A) (2 ^ 53) B ∙ ap (λ (k : ℕ). min k (2 ^ 53)) (sym (decimal-append 0 A B))
 
-      number-read : stop - start ≤ 65536 → scaledBy minus m u z (stop - start) s next ≡ number s at
+      number-read : stop - start ≤ 65536 → scaledBy f minus m u z (stop - start) s next ≡ number f s at
       number-read l = go (exponent s stop) held ∙ sym number-tail
         where
           n-is : stop - start ≡ length B
           n-is = sym (part-length s start stop (o .order) (o .fits))
 
-          go : (g : Got Power) → read (record { under = u; magnitude = z }) next ≡ capped g → scaledBy minus m u z (stop - start) s next ≡ tail minus A B s g
+          go : (g : Got Power) → read (record { under = u; magnitude = z }) next ≡ capped g → scaledBy f minus m u z (stop - start) s next ≡ tail f minus A B s g
           go (refused n) h = absurd (not-read (sym h))
           go (read p x) h =
               let e = same-value h in
-              ap (λ (k : ℕ). scaledBy minus k u z (stop - start) s next) digits-held
-              ∙ cap-digits minus s next (digitsValue 0 (A ++ B)) _ _
-              ∙ ap (λ (k : ℕ). scaledBy minus (digitsValue 0 (A ++ B)) u z k s next) n-is
-              ∙ ap (λ (q : Power). scaledBy minus (digitsValue 0 (A ++ B)) (q .under) (q .magnitude) (length B) s next) e
-              ∙ ap (scaledBy minus (digitsValue 0 (A ++ B)) (p .under) (min (p .magnitude) 100000) (length B) s) (same-place h)
-              ∙ cap-power minus (digitsValue 0 (A ++ B)) (p .under) (p .magnitude) (length B) s x (rw (← n-is) l)
+              ap (λ (k : ℕ). scaledBy f minus k u z (stop - start) s next) digits-held
+              ∙ cap-digits f minus s next (digitsValue 0 (A ++ B)) _ _
+              ∙ ap (λ (k : ℕ). scaledBy f minus (digitsValue 0 (A ++ B)) u z k s next) n-is
+              ∙ ap (λ (q : Power). scaledBy f minus (digitsValue 0 (A ++ B)) (q .under) (q .magnitude) (length B) s next) e
+              ∙ ap (scaledBy f minus (digitsValue 0 (A ++ B)) (p .under) (min (p .magnitude) 100000) (length B) s) (same-place h)
+              ∙ cap-power f minus (digitsValue 0 (A ++ B)) (p .under) (p .magnitude) (length B) s x (rw (← n-is) l)
 
-      pub number-under : u ≡ true → stop - start ≤ 65536 → toNearest minus m 0 (z + (stop - start)) [] next ≡ number s at
-      number-under e l = finished-any minus m 0 (z + (stop - start)) [] next s ∙ ap (λ (v : Bool). scaledBy minus m v z (stop - start) s next) (sym e) ∙ number-read l
+      pub number-under : u ≡ true → stop - start ≤ 65536 → toNearest f minus m 0 (z + (stop - start)) [] next ≡ number f s at
+      number-under e l = finished-any f minus m 0 (z + (stop - start)) [] next s ∙ ap (λ (v : Bool). scaledBy f minus m v z (stop - start) s next) (sym e) ∙ number-read l
 
-      pub number-over : u ≡ false → stop - start ≤ 65536 → toNearest minus m z (stop - start) [] next ≡ number s at
+      pub number-over : u ≡ false → stop - start ≤ 65536 → toNearest f minus m z (stop - start) [] next ≡ number f s at
       number-over e l =
-          finished-any minus m z (stop - start) [] next s ∙ ap (λ (n : ℕ). toNearest minus m z n s next) (sym (zero-add (stop - start)))
-          ∙ ap (λ (v : Bool). scaledBy minus m v z (stop - start) s next) (sym e) ∙ number-read l
+          finished-any f minus m z (stop - start) [] next s ∙ ap (λ (n : ℕ). toNearest f minus m z n s next) (sym (zero-add (stop - start)))
+          ∙ ap (λ (v : Bool). scaledBy f minus m v z (stop - start) s next) (sym e) ∙ number-read l

@@ -9,7 +9,7 @@ use borrow.Author.Tests.{le-leb, lt-leb, eq-eqb, ne-eqb}
 use lib.Dec.{leb, eqb}
 use lib.ListN.{length, drop, getD, length-drop}
 use lib.Seq.{getD-drop, drop-drop}
-use lib.Ieee.{Float, nan, lt}
+use lib.Ieee.{Float, binary64, nan, lt}
 use Rattle.loops.specs.Steps.{fill}
 use Rattle.loops.proofs.Choose.{by-test}
 use Rattle.loops.proofs.Fill.{fill-list}
@@ -80,11 +80,11 @@ module _ (k : ℕ) (s : List ℕ) (p : ℕ) {q : ℕ} (e : q ≡ p + run (λ b. 
   row-stop h = simp (← e, h)
 
   module _ (h : here stop s q ≡ false) where
-    row-bad : {n : ℕ} → number s q ≡ refused n → row (suc k) s p ≡ refused n
+    row-bad : {n : ℕ} → number binary64 s q ≡ refused n → row (suc k) s p ≡ refused n
     unfolding row skip
     row-bad x = simp (← e, h, x)
 
-    module _ {x : Float} {z : ℕ} (f : number s q ≡ read x z) where
+    module _ {x : Float} {z : ℕ} (f : number binary64 s q ≡ read x z) where
       row-joined : here (λ b. space b || stop b) s z ≡ false → row (suc k) s p ≡ refused 7
       unfolding row skip
       row-joined y = simp (← e, h, f, y)
@@ -131,10 +131,10 @@ module _ {s : List ℕ} {at n : ℕ} {y : Float} {p q : ℕ} (o : Turning s at n
       )
 
   module _ (h : here stop s q ≡ false) where
-    pub outline-bad : {r : ℕ} → number s q ≡ refused r → refused r ≡ outline 0 zero₆₄ (row 66 s at)
+    pub outline-bad : {r : ℕ} → number binary64 s q ≡ refused r → refused r ≡ outline 0 zero₆₄ (row 66 s at)
     outline-bad x = sym (turn (row-bad _ s p (o .gap) h x))
 
-    module _ {x : Float} {z : ℕ} (f : number s q ≡ read x z) where
+    module _ {x : Float} {z : ℕ} (f : number binary64 s q ≡ read x z) where
       pub outline-joined : here (λ b. space b || stop b) s z ≡ false → refused 7 ≡ outline 0 zero₆₄ (row 66 s at)
       outline-joined v = sym (turn (row-joined _ s p (o .gap) h f v))
 
@@ -266,10 +266,10 @@ module _ {s : List ℕ} {xs : List Float} {end i p q : ℕ} (o : Reading s xs en
       none : length (drop i xs) ≡ 0 → ⊥
       none z = omega (arith, o .more, length-drop i xs)
 
-  pub number-there : {n : ℕ} → number s q ≡ refused n → ⊥
+  pub number-there : {n : ℕ} → number binary64 s q ≡ refused n → ⊥
   number-there x = not-read (sym (row-bad (65 - i) s p (o .gap) going x) ∙ this)
 
-  module _ {x : Float} {z : ℕ} (f : number s q ≡ read x z) where
+  module _ {x : Float} {z : ℕ} (f : number binary64 s q ≡ read x z) where
     ended : here (λ b. space b || stop b) s z ≡ true
     ended = by-test (here (λ b. space b || stop b) s z) (λ t. t) (λ t. absurd (not-read (sym (row-joined (65 - i) s p (o .gap) going f t) ∙ this)))
 

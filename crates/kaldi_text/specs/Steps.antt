@@ -1,21 +1,23 @@
 -- What the answers of inner functions say.
 use mathlib.Core.Path.{_≡_}
 use mathlib.Core.Bool.{Bool, false, _||_}
-use mathlib.Core.List.{List}
+use mathlib.Core.List.{List, []}
 use Prim.Native.Nat.{ℕ, _+_, _≤_, min}
 use lib.ListN.{length}
 use lib.Dec.{eqb}
-use lib.Ieee.{Float}
+use lib.Ieee.{Float, Format}
 use Rattle.definition.specs.Options.{within}
 use Rattle.definition.specs.Reader.{Got, read, refused}
 use Rattle.definition.specs.Text as T
-use Rattle.definition.specs.Text.{space, last}
+use Rattle.definition.specs.Text.{space, last, toNearest}
 use Rattle.kaldi_io.specs.declared.Next.{Next}
 use Rattle.kaldi_io.specs.declared.Next.the-variants as N
 use Rattle.kaldi_text.specs.declared.Kind.{Kind}
 use Rattle.kaldi_text.specs.declared.Kind.the-variants as K
 use Rattle.kaldi_text.specs.declared.Power.{Power}
 use Rattle.kaldi_text.specs.declared.Power.the-variants as P
+use Rattle.kaldi_text.specs.declared.Decimal.{Decimal}
+use Rattle.kaldi_text.specs.declared.Decimal.the-variants as D
 use Rattle.kaldi_text.specs.declared.Row.{Row}
 use Rattle.kaldi_text.specs.declared.Row.the-variants as R
 
@@ -60,6 +62,17 @@ powerOf (P.Refused r) = refused r
 abbrev pub powerIn : Power → Type 0
 powerIn (P.Is under magnitude next) = magnitude ≤ 100000
 powerIn (P.Refused r) = Unit {0}
+
+-- ---- a number
+
+-- digits and power, in a format
+abbrev pub decimalOf : Format → Decimal → Got Float
+decimalOf f (D.Is minus m up down next) = toNearest f minus m up down [] next
+decimalOf f (D.Refused r) = refused r
+
+abbrev pub decimalIn : Decimal → Type 0
+decimalIn (D.Is minus m up down next) = (up ≤ 200000) × (down ≤ 200000)
+decimalIn (D.Refused r) = Unit {0}
 
 -- ---- rows
 

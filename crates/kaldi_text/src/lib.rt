@@ -8,13 +8,14 @@ ghost use mathlib.Core.List.{[]};
 ghost use Prim.Native.Nat.{_+_, _-_, _^_, _≤_, _<_, min};
 ghost use lib.ListN.{length, take, drop};
 ghost use lib.Dec.{eqb};
+ghost use lib.Ieee.{Format, binary64};
 ghost use Rattle.floats.specs.Operators.{zero₆₄};
 ghost use Rattle.definition.specs.Options.{within};
 ghost use Rattle.definition.specs.Reader.{read, run, here};
 ghost use Rattle.definition.specs.Text.{sign, fraction, digitsValue, exponent, toNearest, number, space, stop, row, line, bracket, ending, cmvnRows, cmvn};
 ghost use Rattle.kaldi_io.specs.Answers.{nextOf, numberOf};
 ghost use Rattle.kaldi_text.specs.Answers.{cmvnOf, cmvnIn, RowIn, cells};
-ghost use Rattle.kaldi_text.specs.Steps.{Sorted, capped, powerOf, powerIn, outline, rowOf, rowIn, nextIn};
+ghost use Rattle.kaldi_text.specs.Steps.{Sorted, capped, powerOf, powerIn, decimalOf, decimalIn, outline, rowOf, rowIn, nextIn};
 
 // ---- a number
 
@@ -63,7 +64,7 @@ fn is_digit(b: u8) -> bool
 }
 
 // The first place from `at` on that has no digit, or the end.
-fn skip_digits(s: &[u8], at: usize) -> usize
+pub fn skip_digits(s: &[u8], at: usize) -> usize
     ensures { λ r. ⌜ r ≡ at + run (within 48 57) (drop at (now (s .entry))) ⌝ }
 {
     let mut i = at;
@@ -125,7 +126,7 @@ fn read_fraction(s: &[u8], at: usize) -> Digits
     }
 }
 
-fn digit_value(b: u8) -> u64
+pub fn digit_value(b: u8) -> u64
     ensures { λ r. ⌜ (r ≡ b - 48) × (r < 256) ⌝ }
 {
     if b >= 48 { (b - 48) as u64 } else { 0 }
@@ -189,10 +190,70 @@ fn read_exponent(s: &[u8], at: usize) -> Power
     }
 }
 
-// The number ±m * 10^(up - down).
+// ±m * 10^(up - down), m at most 2^53: a number's digits and its power of ten, their limits still to be tested.
+pub enum Decimal {
+    Is {
+        minus: bool,
+        m: u64,
+        up: u64,
+        down: u64,
+        next: usize,
+    },
+    Refused(usize),
+}
+
+// The digits and the power of a number, for either format.
+pub fn read_decimal(s: &[u8], at: usize) -> Decimal
+    requires { ⌜ (at ≤ length (now s)) × (length (now s) ≤ 65536) ⌝ }
+    ensures { λ r. ⌜ ((f : Format) → decimalOf f r ≡ number f (now (s .entry)) at) ⌝ }
+    ensures { λ r. ⌜ decimalIn r ⌝ }
+{
+    let lead = read_sign(s, at);
+    let minus = lead.minus;
+    let from = lead.next;
+    let to = skip_digits(s, from);
+    let part = read_fraction(s, to);
+    let start = part.from;
+    let stop = part.to;
+    let behind = stop - start;
+    if to - from + behind == 0 {
+        return Decimal::Refused(7);
+    }
+    match read_exponent(s, stop) {
+        Power::Refused(e) => Decimal::Refused(e),
+        Power::Is {
+            under,
+            magnitude,
+            next,
+        } => {
+            let whole = decimal_of(s, from, to, 0, 9007199254740992);
+            let m = decimal_of(s, start, stop, whole, 9007199254740992);
+            let below = behind as u64;
+            if under {
+                Decimal::Is {
+                    minus,
+                    m,
+                    up: 0,
+                    down: magnitude + below,
+                    next,
+                }
+            } else {
+                Decimal::Is {
+                    minus,
+                    m,
+                    up: magnitude,
+                    down: below,
+                    next,
+                }
+            }
+        }
+    }
+}
+
+// The f64 ±m * 10^(up - down).
 fn finish(minus: bool, m: u64, up: u64, down: u64, next: usize) -> Number
     requires { ⌜ (up ≤ 200000) × (down ≤ 200000) ⌝ }
-    ensures { λ r. ⌜ numberOf r ≡ toNearest minus m up down [] next ⌝ }
+    ensures { λ r. ⌜ numberOf r ≡ toNearest binary64 minus m up down [] next ⌝ }
 {
     if m >= 9007199254740992 {
         return Number::Refused(7);
@@ -211,41 +272,23 @@ fn finish(minus: bool, m: u64, up: u64, down: u64, next: usize) -> Number
 
 fn read_number(s: &[u8], at: usize) -> Number
     requires { ⌜ (at ≤ length (now s)) × (length (now s) ≤ 65536) ⌝ }
-    ensures { λ r. ⌜ numberOf r ≡ number (now (s .entry)) at ⌝ }
+    ensures { λ r. ⌜ numberOf r ≡ number binary64 (now (s .entry)) at ⌝ }
 {
-    let lead = read_sign(s, at);
-    let minus = lead.minus;
-    let from = lead.next;
-    let to = skip_digits(s, from);
-    let part = read_fraction(s, to);
-    let start = part.from;
-    let stop = part.to;
-    let behind = stop - start;
-    if to - from + behind == 0 {
-        return Number::Refused(7);
-    }
-    match read_exponent(s, stop) {
-        Power::Refused(e) => Number::Refused(e),
-        Power::Is {
-            under,
-            magnitude,
+    match read_decimal(s, at) {
+        Decimal::Refused(e) => Number::Refused(e),
+        Decimal::Is {
+            minus,
+            m,
+            up,
+            down,
             next,
-        } => {
-            let whole = decimal_of(s, from, to, 0, 9007199254740992);
-            let m = decimal_of(s, start, stop, whole, 9007199254740992);
-            let below = behind as u64;
-            if under {
-                finish(minus, m, 0, magnitude + below, next)
-            } else {
-                finish(minus, m, magnitude, below, next)
-            }
-        }
+        } => finish(minus, m, up, down, next),
     }
 }
 
 // ---- the matrix
 
-fn is_space(b: u8) -> bool
+pub fn is_space(b: u8) -> bool
     ensures { λ r. ⌜ r ≡ space b ⌝ }
 {
     match kind_of(b) {
@@ -285,7 +328,7 @@ fn is_end(b: u8) -> bool
 }
 
 // The first place from `at` on that has no blank, or the end.
-fn skip_spaces(s: &[u8], at: usize) -> usize
+pub fn skip_spaces(s: &[u8], at: usize) -> usize
     ensures { λ r. ⌜ r ≡ at + run space (drop at (now (s .entry))) ⌝ }
 {
     let mut i = at;

@@ -1,10 +1,11 @@
 // Runs single functions on the vectors of standard input, and prints what each gives. A line is a function's letter and its arguments as
 // hexadecimal numbers, parted by one space each: l ln, n ln_f32, e exp, r narrow, f min_post_for, s select_posteriors, g linear_cgd,
-// c cholesky_solve, t a text number (its bytes), v nearest_voice.
+// c cholesky_solve, t a text number (its bytes), v nearest_voice, o the options of two settings texts.
 use definition::IvectorOptions;
 use kaldi_text::Cmvn;
 use libc::STDOUT_FILENO;
 use nearest_voice::NearestVoice;
+use settings::Settings;
 
 fn say(words: &[u8]) {
     io::write_all(STDOUT_FILENO, words);
@@ -398,6 +399,81 @@ fn print_voice(a: NearestVoice) {
     end_line();
 }
 
+// n bytes from place `at` of the text on, as far as the room has places; the place after them.
+fn read_bytes(text: &[u8], at: usize, n: usize, items: &mut [u8]) -> usize {
+    let mut next = at;
+    for i in 0..n {
+        let x = script::number(text, next, 16);
+        set_byte(items, i, (x.value % 256) as u8);
+        next = x.next;
+    }
+    next
+}
+
+fn set_byte(items: &mut [u8], i: usize, x: u8) {
+    if i < items.len() {
+        items[i] = x;
+    }
+}
+
+// `o n a1 .. an m b1 .. bm`: the bytes of splice.conf and of online_cmvn.conf
+fn settings_line(text: &[u8], at: usize) {
+    let mut splice = [0u8; 256];
+    let mut cmvn = [0u8; 256];
+    let n = script::number(text, at, 16);
+    let p = read_bytes(text, n.next, n.value, &mut splice);
+    let m = script::number(text, p, 16);
+    read_bytes(text, m.next, m.value, &mut cmvn);
+    settings_in(&splice, n.value, &cmvn, m.value);
+}
+
+fn settings_in(splice: &[u8], n: usize, cmvn: &[u8], m: usize) {
+    if splice.len() < n {
+        too_large();
+        return;
+    }
+    if cmvn.len() < m {
+        too_large();
+        return;
+    }
+    print_settings(settings::read_settings(&splice[..n], &cmvn[..m]));
+}
+
+fn print_option(n: usize) {
+    space();
+    io::print_decimal(STDOUT_FILENO, n as u64);
+}
+
+fn print_options(o: IvectorOptions) {
+    say(b"0");
+    print_option(o.left_context);
+    print_option(o.right_context);
+    print_option(o.cmn_window);
+    print_option(o.global_frames);
+    print_option(o.num_gselect);
+    print_option(o.num_cg_iters);
+    space();
+    print_f32(o.min_post);
+    space();
+    print_f32(o.posterior_scale);
+    space();
+    print_f64(o.max_count);
+    space();
+    print_f32(o.min_energy);
+}
+
+fn print_settings(a: Settings) {
+    match a {
+        Settings::Options(o) => {
+            print_options(o);
+        }
+        Settings::Refused(refusal) => {
+            io::print_decimal(STDOUT_FILENO, refusal as u64);
+        }
+    }
+    end_line();
+}
+
 fn one_number(letter: u8, text: &[u8], at: usize) {
     let x = script::number(text, at, 16);
     if letter == b'l' {
@@ -423,6 +499,7 @@ fn line(text: &[u8], at: usize) {
         b'c' => chol(text, from),
         b't' => text_number(text, from),
         b'v' => voice(text, from),
+        b'o' => settings_line(text, from),
         _ => one_number(letter, text, from),
     }
 }

@@ -97,6 +97,11 @@ records! {
         info: IvectorInfo,
     }
 
+    shofrakin_settings_answer: struct SettingsAnswer {
+        refusal: usize,
+        opts: IvectorOptions,
+    }
+
     shofrakin_ring_lengths: struct RingLengths {
         frames: usize,
         rows: usize,
@@ -191,6 +196,17 @@ records! {
 extern "C" {
     pub fn shofrakin_load(
         opts: IvectorOptions,
+        gmm: *const u8, gmm_len: usize, extractor: *const u8, extractor_len: usize,
+        lda: *const u8, lda_len: usize, cmvn: *const u8, cmvn_len: usize,
+        gconsts: *mut f32, gconsts_len: usize, means_invvars_t: *mut f32, means_invvars_t_len: usize,
+        inv_vars_t: *mut f32, inv_vars_t_len: usize, sigma_inv_m: *mut f64, sigma_inv_m_len: usize,
+        u: *mut f64, u_len: usize, lda_t: *mut f32, lda_t_len: usize,
+        lda_offset: *mut f32, lda_offset_len: usize, global_mean_stats: *mut f64, global_mean_stats_len: usize,
+        scratch: *mut f64, scratch_len: usize,
+    ) -> LoadAnswer;
+    pub fn shofrakin_settings(splice: *const u8, splice_len: usize, online_cmvn: *const u8, online_cmvn_len: usize) -> SettingsAnswer;
+    pub fn shofrakin_load_with_settings(
+        splice: *const u8, splice_len: usize, online_cmvn: *const u8, online_cmvn_len: usize,
         gmm: *const u8, gmm_len: usize, extractor: *const u8, extractor_len: usize,
         lda: *const u8, lda_len: usize, cmvn: *const u8, cmvn_len: usize,
         gconsts: *mut f32, gconsts_len: usize, means_invvars_t: *mut f32, means_invvars_t_len: usize,

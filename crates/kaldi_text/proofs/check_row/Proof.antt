@@ -6,6 +6,7 @@ use Prim.Native.Nat.{_-_}
 use native.Mathlib.Omega.{arith}
 use borrow.Author.Needs.{needs}
 use lib.Dec.{eqb}
+use lib.Ieee.{binary64}
 use Rattle.definition.specs.Reader.{here, read}
 use Rattle.definition.specs.Text.{number, space, stop}
 use Rattle.kaldi_io.specs.Answers.{numberOf}
@@ -40,7 +41,7 @@ stopped c e = sym (c .stop-here .ensures) ∙ e
 -- the number behind it
 found : (c : tie.After-x Inv-loop μ-loop) →
     let at-gaps = c .before .before .before .before .before in
-    number (start-of (at-gaps .before .before) .args .s .now) (at-gaps .skip-gaps .result) ≡ read (c .x .given .0 .0) (c .x .given .0 .1 .0)
+    number binary64 (start-of (at-gaps .before .before) .args .s .now) (at-gaps .skip-gaps .result) ≡ read (c .x .given .0 .0) (c .x .given .0 .1 .0)
 found c = told numberOf (c .before .before .read-number .ensures) (c .x .given .1)
 
 returns : tie.Need-returns Inv-loop μ-loop

@@ -1,100 +1,21 @@
--- `read_number` meets its contract: sign, digits, fraction and exponent make the definition's `number`; a number without digits, one with a
--- faulty exponent, and one of either sign of exponent are the four ways out (`number-..` in Numbers.antt).
+-- `read_number` meets its contract: what `read_decimal` says of the format binary64, then `finish`.
 use mathlib.Core.Path.{_∙_, subst}
-use Prim.Native.Nat.{_≤_}
-use native.Mathlib.Omega.{arith}
+use lib.Ieee.{binary64}
 use borrow.Author.Needs.{needs}
-use lib.ListN.{length}
-use Rattle.definition.specs.Options.{within}
 use Rattle.kaldi_io.proofs.Chain.{ends}
-use Rattle.kaldi_text.specs.declared.Power.the-variants as P
-use Rattle.kaldi_text.specs.Steps.{powerOf, powerIn}
-use Rattle.kaldi_text.proofs.Numbers.{run-within, Parts, number-empty, number-refused, number-under, number-over}
+use Rattle.kaldi_text.specs.Steps.{decimalOf, decimalIn}
 use Rattle.kaldi_text.proofs.read_number.Statement.{statement}
 use Rattle.kaldi_text.proofs.read_number.Tie as tie
 
--- the digits end inside the text
-digits-inside : (c : tie.After-skip-digits) → c .skip-digits .result ≤ length (c .before .before .before .args .s .now)
-digits-inside c =
-    let at = c .before in
-    omega (arith, run-within (within 48 57) (at .before .before .args .s .now) (at .read-sign .result .next) (at .read-sign .ensures .0))
-
-abbrev start-of : tie.After-read-fraction → tie.Start
-start-of c = c .before .before .before .before
-
--- what was read in front of the exponent
-parts : (c : tie.After-read-fraction) →
-    let a = start-of c .args in
-    let lead = c .before .before .read-sign .result in
-    let part = c .read-fraction .result in
-    Parts (a .s .now) (a .at) (lead .minus) (lead .next) (c .before .skip-digits .result) (part .from) (part .to)
-parts c =
-    let part = c .read-fraction .ensures in
-    record {
-      lead = c .before .before .read-sign .ensures .1;
-      ends = c .before .skip-digits .ensures;
-      inside = digits-inside (c .before);
-      part = part .0;
-      order = part .1 .0;
-      fits = part .1 .1;
-    }
-
--- an exponent that was read: the fraction in front of it, and its size
-abbrev fraction-of : tie.After-under → tie.After-read-fraction
-fraction-of c = c .before .before .before .before
-
-small : (c : tie.After-under) → powerIn (P.Is (c .under .given .0 .0) (c .under .given .0 .1 .0) (c .under .given .0 .1 .1 .0))
-small c = subst powerIn (c .under .given .1) (c .before .before .read-exponent .ensures .1)
-
--- and how few digits stand in front of it
-short : (c : tie.After-read-fraction) → (c .read-fraction .result .to ≤ length (start-of c .args .s .now)) × (length (start-of c .args .s .now) ≤ 65536)
-short c = (c .read-fraction .ensures .1 .1, start-of c .pre .1)
-
-read-fraction-requires : tie.Need-read-fraction-requires
-read-fraction-requires c κs = digits-inside c
-
-add-if1 : tie.Need-add-if1
-add-if1 c = omega (arith, digits-inside (c .before), c .read-fraction .ensures .1)
+finish-requires : tie.Need-finish-requires
+finish-requires c κs = subst decimalIn (c .before .minus .given .1) (c .before .before .before .read-decimal .ensures .1)
 
 returns : tie.Need-returns
-returns c = number-empty (parts (c .before)) (c .if1 .taken)
-
-decimal-of-requires : tie.Need-decimal-of-requires
-decimal-of-requires c κs = (digits-inside (fraction-of (c .before) .before), omega arith)
-
-add-finish : tie.Need-add-finish
-add-finish c = let at = c .before .before .before .before in omega (arith, small at, short (fraction-of at))
-
-finish-requires : tie.Need-finish-requires
-finish-requires c κs = let at = c .before .before .before .before in omega (arith, small at, short (fraction-of at))
-
-finish-requires-2 : tie.Need-finish-requires-2
-finish-requires-2 c κs = let at = c .before .before .before .before in omega (arith, small at, short (fraction-of at))
+returns c = ends (decimalOf binary64) (c .before .before .before .read-decimal .ensures .0 binary64) (c .before .e .given .1)
 
 returns-2 : tie.Need-returns-2
-returns-2 c =
-    let at = c .before .before .before in
-    number-refused (parts (at .before .before)) (at .before .if1 .left) (ends powerOf (at .read-exponent .ensures .0) (c .before .e .given .1))
-
-returns-3 : tie.Need-returns-3
-returns-3 c =
-    let at-two = c .before .before in
-    let at = at-two .before .before .before in
-    let at-power = at .before .before in
-    c .finish .ensures ∙ number-under (parts (fraction-of at)) (at-power .before .if1 .left) (ends powerOf (at-power .read-exponent .ensures .0) (at .under .given .1))
-    (at-two .before .decimal-of .ensures) (at-two .decimal-of2 .ensures) (c .before .if2 .taken) (omega (arith, short (fraction-of at)))
-
-returns-4 : tie.Need-returns-4
-returns-4 c =
-    let at-two = c .before .before in
-    let at = at-two .before .before .before in
-    let at-power = at .before .before in
-    c .finish2 .ensures ∙ number-over (parts (fraction-of at)) (at-power .before .if1 .left) (ends powerOf (at-power .read-exponent .ensures .0) (at .under .given .1))
-    (at-two .before .decimal-of .ensures) (at-two .decimal-of2 .ensures) (c .before .if2 .left) (omega (arith, short (fraction-of at)))
+returns-2 c = c .finish .ensures ∙ ends (decimalOf binary64) (c .before .before .before .before .read-decimal .ensures .0 binary64) (c .before .before .minus .given .1)
 
 pub read-number-spec : {M : Type 1} → statement M
 read-number-spec =
-    tie.close
-    (tie.spec (λ c κs. search needs) (λ c κs. search needs) read-fraction-requires (λ c. search needs) (λ c. search needs) add-if1 returns
-    (λ c κs. search needs) (λ c. search needs) (λ c. search needs) decimal-of-requires (λ c κs. search needs) add-finish finish-requires
-    finish-requires-2 returns-2 returns-3 returns-4)
+    tie.close (tie.spec (λ c κs. search needs) (λ c. search needs) (λ c. search needs) finish-requires returns returns-2)
