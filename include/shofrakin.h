@@ -134,6 +134,30 @@ shofrakin_load_answer shofrakin_load_with_settings(
     float *lda_offset, size_t lda_offset_len, double *global_mean_stats, size_t global_mean_stats_len,
     double *scratch, size_t scratch_len);
 
+/* ---- how much memory */
+
+/* The answer of shofrakin_model_dimensions: the dimensions where the refusal is 0, else zeros. */
+typedef struct {
+    size_t refusal;
+    shofrakin_dimensions dims;
+} shofrakin_dimensions_answer;
+
+/* The dimensions of the model in four files, as a load judges them: refusals 1 to 7. Nothing is written. */
+shofrakin_dimensions_answer shofrakin_model_dimensions(shofrakin_options opts,
+    const uint8_t *gmm, size_t gmm_len, const uint8_t *extractor, size_t extractor_len,
+    const uint8_t *lda, size_t lda_len, const uint8_t *cmvn, size_t cmvn_len);
+
+/* The answer of shofrakin_tables_needed: the lengths where the refusal is 0, else zeros. */
+typedef struct {
+    size_t refusal;
+    shofrakin_table_lengths tables;
+    size_t scratch;
+} shofrakin_tables_answer;
+
+/* How many numbers each table of a model keeps, and a load's scratch. A load into exactly these is not refused 8, into any shorter one it is.
+ * Refusals 1, 4, 5: options or dimensions that no load takes. */
+shofrakin_tables_answer shofrakin_tables_needed(shofrakin_options opts, shofrakin_dimensions dims);
+
 /* ---- the stream */
 
 /* The lengths of the rings that every call on a stream is lent: of frames, of prefix rows, and of the changes that wait. */
@@ -158,6 +182,17 @@ typedef struct {
     shofrakin_ring_lengths rings;
     shofrakin_estimate_lengths estimate;
 } shofrakin_room_lengths;
+
+/* The answer of shofrakin_rooms_needed: the lengths where the refusal is 0, else zeros. */
+typedef struct {
+    size_t refusal;
+    shofrakin_room_lengths lengths;
+} shofrakin_rooms_answer;
+
+/* How many numbers each room of a stream has that holds `frames` frames (1 to 1,000,000,000), `rows` prefix rows (2 to 2,000,000,000) and `changes` waiting
+ * changes. A fresh stream in rooms of exactly these lengths is not refused 8, and holds that many of each; in a room one number shorter it is refused 8, or
+ * holds one less. Refusal 4: dimensions that no load takes; 8: frames or rows outside these limits. */
+shofrakin_rooms_answer shofrakin_rooms_needed(shofrakin_dimensions dims, size_t frames, size_t rows, size_t changes);
 
 /* A stream's record: its model's record, the lengths of its rooms, frames accepted, the first frame not in the statistics, the mark below
  * which nothing is kept, changes that wait, one more than the highest changed frame, the statistics' frame count, the floor, which is the

@@ -408,6 +408,27 @@ int main(void) {
     is("its number", block[12], 21);
     is("step, a block too short", shofrakin_registers_step(&stream, block, 15, &x, 1, TABLES, RINGS, ESTIMATE, out, 1).refusal, 10);
     is("its flags are left", block[1], 6);
+
+    /* how much memory: the model's dimensions, its tables, and the rooms of a stream that holds four frames, seven rows and three changes */
+    shofrakin_dimensions_answer size = shofrakin_model_dimensions(opts, FILES);
+    is("dimensions", size.refusal, 0);
+    is("lda_cols", size.dims.lda_cols, 3);
+    is("base_dim", size.dims.base_dim, 1);
+    shofrakin_tables_answer need = shofrakin_tables_needed(opts, size.dims);
+    is("tables", need.refusal, 0);
+    is("lda_t", need.tables.lda_t, 3);
+    is("global_mean_stats", need.tables.global_mean_stats, 2);
+    is("scratch of a load", need.scratch, 2);
+    is("tables of no dimension", shofrakin_tables_needed(opts, (shofrakin_dimensions){0}).refusal, 4);
+    shofrakin_rooms_answer room = shofrakin_rooms_needed(size.dims, 4, 7, 3);
+    is("rooms", room.refusal, 0);
+    is("frames", room.lengths.rings.frames, 4);
+    is("rows", room.lengths.rings.rows, 7);
+    is("waiting_weights", room.lengths.rings.waiting_weights, 3);
+    is("cmvn_stats", room.lengths.estimate.cmvn_stats, 2);
+    is("scratch of a fetch", room.lengths.estimate.scratch, 1);
+    is("rooms for no frame", shofrakin_rooms_needed(size.dims, 0, 7, 3).refusal, 8);
+    is("dimensions of a cut file", shofrakin_model_dimensions(opts, gmm.b, gmm.len - 1, extractor.b, extractor.len, lda.b, lda.len, (const uint8_t *)cmvn_text, sizeof cmvn_text - 1).refusal, 2);
     printf(wrong ? "%d differ\n" : "the headers fit the library\n", wrong);
     /* the maker's settings: a load with them, their refusal, and a record that meets 1 */
 #define TEXTS(s, c) (const uint8_t *)(s), sizeof(s) - 1, (const uint8_t *)(c), sizeof(c) - 1

@@ -18,6 +18,9 @@ use definition::SilenceWeighting;
 use definition::StreamAnswer;
 use definition::StreamCall;
 use definition::TableLengths;
+use memory::DimensionsAnswer;
+use memory::RoomsAnswer;
+use memory::TablesAnswer;
 use nearest_voice::VoiceAnswer;
 use settings::Settings;
 ghost use mathlib.Core.Path.{_≡_};
@@ -35,6 +38,7 @@ ghost use Rattle.nearest_voice.specs.Voice.{nearestVoice, voiceAnswer};
 ghost use Rattle.program.specs.Session.{program};
 ghost use Rattle.registers.specs.Board.{Board, board, blockRefusal, boardStep, FetchTaken};
 ghost use Rattle.settings.specs.Settings.{settingsOf, loadWith};
+ghost use Rattle.memory.specs.Memory.{dimensionsOf, dimensionsAnswer, tablesNeeded, roomsNeeded};
 ghost use Rattle.ivector_info.specs.Load.{filesOf, scratchKept};
 ghost use Rattle.exports.specs.Answers.{loadAnswer, noInfo, noOptions, settingsAnswer, answered, newStreamAnswer, newTableAnswer, counted, noStream, noTable};
 
@@ -248,6 +252,43 @@ pub extern "C" fn shofrakin_load_with_settings(
         global_mean_stats,
         scratch,
     )
+}
+
+// ---- how much memory
+
+// `memory::model_dimensions`.
+#[no_mangle]
+pub extern "C" fn shofrakin_model_dimensions(
+    opts: IvectorOptions,
+    gmm: &[u8],
+    extractor: &[u8],
+    lda: &[u8],
+    cmvn: &[u8],
+) -> DimensionsAnswer
+    ensures { λ r. ⌜ r ≡ dimensionsAnswer (dimensionsOf opts (filesOf (now (gmm .entry)) (now (extractor .entry)) (now (lda .entry)) (now (cmvn .entry)))) ⌝ }
+{
+    memory::model_dimensions(opts, gmm, extractor, lda, cmvn)
+}
+
+// `memory::tables_needed`.
+#[no_mangle]
+pub extern "C" fn shofrakin_tables_needed(opts: IvectorOptions, dims: Dimensions) -> TablesAnswer
+    ensures { λ r. ⌜ r ≡ tablesNeeded opts dims ⌝ }
+{
+    memory::tables_needed(opts, dims)
+}
+
+// `memory::rooms_needed`.
+#[no_mangle]
+pub extern "C" fn shofrakin_rooms_needed(
+    dims: Dimensions,
+    frames: usize,
+    rows: usize,
+    changes: usize,
+) -> RoomsAnswer
+    ensures { λ r. ⌜ r ≡ roomsNeeded dims frames rows changes ⌝ }
+{
+    memory::rooms_needed(dims, frames, rows, changes)
 }
 
 // ---- a fresh stream

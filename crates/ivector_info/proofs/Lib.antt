@@ -1,4 +1,4 @@
 -- Laws of the load.
-mod Files
+pub mod Files
 mod Judging
 mod Tables

@@ -151,7 +151,7 @@ pub enum Judged {
 }
 
 // 1 to 8, with z the lengths of the lent tables and `scratch` that of scratch.
-fn judge(
+pub fn judge(
     opts: IvectorOptions,
     gmm: &[u8],
     extractor: &[u8],

@@ -102,6 +102,17 @@ records! {
         opts: IvectorOptions,
     }
 
+    shofrakin_dimensions_answer: struct DimensionsAnswer {
+        refusal: usize,
+        dims: Dimensions,
+    }
+
+    shofrakin_tables_answer: struct TablesAnswer {
+        refusal: usize,
+        tables: TableLengths,
+        scratch: usize,
+    }
+
     shofrakin_ring_lengths: struct RingLengths {
         frames: usize,
         rows: usize,
@@ -120,6 +131,11 @@ records! {
     shofrakin_room_lengths: struct RoomLengths {
         rings: RingLengths,
         estimate: EstimateLengths,
+    }
+
+    shofrakin_rooms_answer: struct RoomsAnswer {
+        refusal: usize,
+        lengths: RoomLengths,
     }
 
     /// A stream's record.
@@ -215,6 +231,13 @@ extern "C" {
         lda_offset: *mut f32, lda_offset_len: usize, global_mean_stats: *mut f64, global_mean_stats_len: usize,
         scratch: *mut f64, scratch_len: usize,
     ) -> LoadAnswer;
+    pub fn shofrakin_model_dimensions(
+        opts: IvectorOptions,
+        gmm: *const u8, gmm_len: usize, extractor: *const u8, extractor_len: usize,
+        lda: *const u8, lda_len: usize, cmvn: *const u8, cmvn_len: usize,
+    ) -> DimensionsAnswer;
+    pub fn shofrakin_tables_needed(opts: IvectorOptions, dims: Dimensions) -> TablesAnswer;
+    pub fn shofrakin_rooms_needed(dims: Dimensions, frames: usize, rows: usize, changes: usize) -> RoomsAnswer;
     pub fn shofrakin_new_stream(
         info: IvectorInfo,
         gconsts: *const f32, gconsts_len: usize, means_invvars_t: *const f32, means_invvars_t_len: usize,

@@ -1,0 +1,2 @@
+-- How much memory a model and a stream need.
+pub mod Memory
