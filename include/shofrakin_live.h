@@ -57,6 +57,9 @@ static inline const char *shofrakin_sentence(size_t refusal) {
     case 27: return "no vector is enrolled, or more than 32 are";
     case 28: return "a vector's length is not the dimension";
     case 29: return "a number of a vector or the limit is not finite, or the limit is below 0";
+    case 30: return "a change names a frame below one that a forget named";
+    case 31: return "the window is outside 1 to 1,000";
+    case 32: return "the window is above the longest, and older rows are gone";
     default: return "a number that this header has no sentence for";
     }
 }

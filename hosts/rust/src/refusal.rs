@@ -60,6 +60,9 @@ impl Refusal {
             27 => "no vector is enrolled, or more than 32 are",
             28 => "a vector's length is not the dimension",
             29 => "a number of a vector or the limit is not finite, or the limit is below 0",
+            30 => "a change names a frame below one that a forget named",
+            31 => "the window is outside 1 to 1,000",
+            32 => "the window is above the longest, and older rows are gone",
             _ => return None,
         })
     }
