@@ -1,0 +1,2 @@
+-- The trigger's definitions.
+pub mod Round

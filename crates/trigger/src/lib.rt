@@ -1,0 +1,478 @@
+// The trigger: the round of an utterance, above the stream, the silence table and the nearest voice. It names their calls alone, and what its
+// contract says are those calls in their order.
+use definition::DecoderFrame;
+use definition::InputFrame;
+use definition::IvectorStream;
+use definition::SilenceWeighting;
+use nearest_voice::NearestVoice;
+ghost use mathlib.Core.Path.{_≡_};
+ghost use mathlib.Core.Bool.{false};
+ghost use mathlib.Core.List.{List};
+ghost use Prim.Native.Nat.{ℕ, _-_, _≤_, _<_};
+ghost use lib.ListN.{length};
+ghost use lib.Ieee.{Float};
+ghost use Rattle.definition.specs.Model.{Tables, tablesFrom};
+ghost use Rattle.definition.specs.Silence.{tableRooms};
+ghost use Rattle.program.specs.Rooms.{Rings, ringsFrom, estimateFrom, Rooms, roomsFrom};
+ghost use Rattle.trigger.specs.Round.{Utterance, Voices, Bench, bench, withRings, withTable, withFetch, Round, roundFrom, ended, after, forgets, cut, Pushed, pushed, pushAll, frameLength, pushes, decoded as decodedOf, notes, ready as readyOf, weighs, resultOf, lastSteps, round as roundOf, worked};
+
+// How a round ends: with the nearest voice; with no vector, no frame being ready; or with a refusal's number and its step, 1 to 7.
+pub enum RoundResult {
+    Voice { index: usize, distance: f32 },
+    Nobody,
+    NoVector,
+    Refused { refusal: usize, step: usize },
+}
+
+// What a round returns: how it ended, how many changes weighing gave, and the records for the next call.
+pub struct TriggerRound {
+    pub result: RoundResult,
+    pub changes: usize,
+    pub stream: IvectorStream,
+    pub silence: SilenceWeighting,
+}
+
+// What the pushes return: the refusal of the first that was refused, or 0, and the record.
+struct PushedFrames {
+    refusal: usize,
+    stream: IvectorStream,
+}
+
+// The frames of an utterance, pushed one after the other.
+fn push_all(
+    s: IvectorStream,
+    numbers: &[f32],
+    frames: &mut [f32],
+    rows: &mut [f64],
+    waiting_frames: &[usize],
+    waiting_weights: &[f32],
+) -> PushedFrames
+    ensures { λ r. ⌜ pushed (r .refusal) (r .stream) (ringsFrom (now (frames .exit)) (now (rows .exit)) (now («waiting_frames» .entry)) (now («waiting_weights» .entry)))
+        ≡ pushAll s (ringsFrom (now (frames .entry)) (now (rows .entry)) (now («waiting_frames» .entry)) (now («waiting_weights» .entry))) (cut (frameLength s) (now (numbers .entry))) ⌝ }
+{
+    let i = s.info;
+    let d = i.dims;
+    let n = basics::larger(d.base_dim, 1);
+    let mut t = s;
+    let mut first = 0;
+    while first < numbers.len() {
+        let end = first + basics::smaller(n, numbers.len() - first);
+        let r = ivector_stream::push_frame(
+            t,
+            &numbers[first..end],
+            frames,
+            rows,
+            waiting_frames,
+            waiting_weights,
+        );
+        t = r.stream;
+        let a = r.answer;
+        if a.refusal != 0 {
+            return PushedFrames {
+                refusal: a.refusal,
+                stream: t,
+            };
+        }
+        first = end;
+    }
+    PushedFrames {
+        refusal: 0,
+        stream: t,
+    }
+}
+
+// What steps 1 and 2 return: a refusal and its step, or 0, and the record.
+struct Heard {
+    refusal: usize,
+    step: usize,
+    stream: IvectorStream,
+}
+
+// Steps 1 and 2: forget at the start, push.
+fn hear(
+    s: IvectorStream,
+    start: usize,
+    numbers: &[f32],
+    frames: &mut [f32],
+    rows: &mut [f64],
+    waiting_frames: &[usize],
+    waiting_weights: &[f32],
+) -> Heard
+    ensures { λ r. ⌜ ((b : Bench) (next : Bench → Round) →
+        let z : Rings = ringsFrom (now (frames .entry)) (now (rows .entry)) (now («waiting_frames» .entry)) (now («waiting_weights» .entry)) in
+        let y : Rings = ringsFrom (now (frames .exit)) (now (rows .exit)) (now («waiting_frames» .entry)) (now («waiting_weights» .entry)) in
+        after 1 (forgets start (withRings b s z)) (λ c. after 2 (pushes (now (numbers .entry)) c) next) ≡ ended (r .step) (r .refusal) (withRings b (r .stream) y) next) ⌝ }
+{
+    let f = ivector_stream::forget_before(s, start, frames, rows, waiting_frames, waiting_weights);
+    let a = f.answer;
+    let forgotten = f.stream;
+    if a.refusal != 0 {
+        return Heard {
+            refusal: a.refusal,
+            step: 1,
+            stream: forgotten,
+        };
+    }
+    let p = push_all(
+        forgotten,
+        numbers,
+        frames,
+        rows,
+        waiting_frames,
+        waiting_weights,
+    );
+    let stream = p.stream;
+    Heard {
+        refusal: p.refusal,
+        step: 2,
+        stream,
+    }
+}
+
+// The frames decoded.
+fn decoded(ends: &[usize]) -> usize
+    ensures { λ r. ⌜ r ≡ decodedOf (now (ends .entry)) ⌝ }
+{
+    let mut last = 0;
+    for i in 0..ends.len() {
+        last = basics::larger(last, ends[i]);
+    }
+    last
+}
+
+// What steps 3 and 4 return: a refusal and its step, or 0, how many changes were given, and the record.
+struct Weighed {
+    refusal: usize,
+    step: usize,
+    changes: usize,
+    silence: SilenceWeighting,
+}
+
+// Steps 3 and 4: note the path, weigh. `ready` is the stream's ready count.
+fn weigh_path(
+    silence: SilenceWeighting,
+    silence_phones: &[i32],
+    known: &mut [bool],
+    is_silence: &mut [bool],
+    current_weight: &mut [f32],
+    start: usize,
+    phones: &[i32],
+    starts: &[usize],
+    ends: &[usize],
+    ready: usize,
+    delta_frames: &mut [usize],
+    delta_weights: &mut [f32],
+) -> Weighed
+    ensures { λ r. ⌜ ((r .refusal ≡ 0 → (r .changes ≤ length (now («delta_frames» .entry))) × (r .changes ≤ length (now («delta_weights» .entry)))) × ((b : Bench) (xs : List Float) (next : Bench → Round) →
+        let u : Utterance = record { start = start; numbers = xs; phones = now (phones .entry); starts = now (starts .entry); ends = now (ends .entry) } in
+        readyOf (b .stream) ≡ ready →
+        after 3 (notes (now («silence_phones» .entry)) u (withTable b silence (tableRooms (now (known .entry)) (now («is_silence» .entry)) (now («current_weight» .entry))) (now («delta_frames» .entry)) (now («delta_weights» .entry)) 0))
+        (λ c. after 4 (weighs (readyOf (c .stream)) start c) next)
+        ≡ ended (r .step) (r .refusal)
+        (withTable b (r .silence) (tableRooms (now (known .exit)) (now («is_silence» .exit)) (now («current_weight» .exit))) (now («delta_frames» .exit)) (now («delta_weights» .exit)) (r .changes)) next)) ⌝ }
+{
+    let a = silence_weighting::compute_current_traceback(
+        silence,
+        silence_phones,
+        known,
+        is_silence,
+        current_weight,
+        phones,
+        starts,
+        ends,
+        DecoderFrame(decoded(ends)),
+    );
+    let noted = a.silence;
+    if a.refusal != 0 {
+        return Weighed {
+            refusal: a.refusal,
+            step: 3,
+            changes: 0,
+            silence: noted,
+        };
+    }
+    let w = silence_weighting::get_delta_weights(
+        noted,
+        known,
+        is_silence,
+        current_weight,
+        InputFrame(ready),
+        InputFrame(start),
+        delta_frames,
+        delta_weights,
+    );
+    let weighed = w.silence;
+    Weighed {
+        refusal: w.refusal,
+        step: 4,
+        changes: w.changes,
+        silence: weighed,
+    }
+}
+
+// The nearest voice as the result of a full round.
+fn result_of(v: NearestVoice) -> RoundResult
+    ensures { λ r. ⌜ r ≡ resultOf v ⌝ }
+{
+    match v {
+        NearestVoice::Voice { index, distance } => {
+            return RoundResult::Voice { index, distance };
+        }
+        NearestVoice::Nobody => {
+            return RoundResult::Nobody;
+        }
+        NearestVoice::Refused(refusal) => {
+            return RoundResult::Refused { refusal, step: 7 };
+        }
+    }
+}
+
+// What steps 6 and 7 return: how the round ends, and the record.
+struct Decided {
+    result: RoundResult,
+    stream: IvectorStream,
+}
+
+// Steps 6 and 7: fetch the last ready frame, find the nearest voice. With no ready frame the round ends before them.
+fn decide(
+    s: IvectorStream,
+    gconsts: &[f32],
+    means_invvars_t: &[f32],
+    inv_vars_t: &[f32],
+    sigma_inv_m: &[f64],
+    u: &[f64],
+    lda_t: &[f32],
+    lda_offset: &[f32],
+    global_mean_stats: &[f64],
+    frames: &[f32],
+    rows: &[f64],
+    waiting_frames: &mut [usize],
+    waiting_weights: &mut [f32],
+    cmvn_stats: &mut [f64],
+    linear: &mut [f64],
+    quadratic: &mut [f64],
+    current: &mut [f64],
+    scratch: &mut [f64],
+    out: &mut [u32],
+    voices: usize,
+    enrolled: &[u32],
+    limit: f32,
+) -> Decided
+    ensures { λ r. ⌜ (
+        let t : Tables = tablesFrom (now (gconsts .entry)) (now («means_invvars_t» .entry)) (now («inv_vars_t» .entry)) (now («sigma_inv_m» .entry))
+        (now (u .entry)) (now («lda_t» .entry)) (now («lda_offset» .entry)) (now («global_mean_stats» .entry)) in
+        let z : Rooms = roomsFrom (ringsFrom (now (frames .entry)) (now (rows .entry)) (now («waiting_frames» .entry)) (now («waiting_weights» .entry)))
+        (estimateFrom (now («cmvn_stats» .entry)) (now (linear .entry)) (now (quadratic .entry)) (now (current .entry))) in
+        let y : Rooms = roomsFrom (ringsFrom (now (frames .entry)) (now (rows .entry)) (now («waiting_frames» .exit)) (now («waiting_weights» .exit)))
+        (estimateFrom (now («cmvn_stats» .exit)) (now (linear .exit)) (now (quadratic .exit)) (now (current .exit))) in
+        let v : Voices = record { count = voices; enrolled = now (enrolled .entry); limit = limit } in
+        ((b : Bench) → roundFrom (r .result) (withFetch b (r .stream) y (now (out .exit))) ≡ lastSteps t (length (now (scratch .entry))) v (withFetch b s z (now (out .entry))))
+        × (worked (r .result) ≡ false → now (scratch .exit) ≡ now (scratch .entry))) ⌝ }
+{
+    let ready = ivector_stream::num_frames_ready(s);
+    if ready == 0 {
+        return Decided {
+            result: RoundResult::NoVector,
+            stream: s,
+        };
+    }
+    let f = ivector_fetch::get_frame(
+        s,
+        ready - 1,
+        gconsts,
+        means_invvars_t,
+        inv_vars_t,
+        sigma_inv_m,
+        u,
+        lda_t,
+        lda_offset,
+        global_mean_stats,
+        frames,
+        rows,
+        waiting_frames,
+        waiting_weights,
+        cmvn_stats,
+        linear,
+        quadratic,
+        current,
+        scratch,
+        out,
+    );
+    let a = f.answer;
+    let stream = f.stream;
+    if a.refusal != 0 {
+        let result = RoundResult::Refused {
+            refusal: a.refusal,
+            step: 6,
+        };
+        return Decided { result, stream };
+    }
+    let dim = ivector_stream::ivector_dim(stream);
+    let voice = nearest_voice::nearest_voice(dim, out, voices, enrolled, limit);
+    let result = result_of(voice);
+    Decided { result, stream }
+}
+
+// The round of an utterance: forget at `start`, push its frames, note the path of its segments, weigh, change, fetch the last ready frame, find the
+// nearest voice. `numbers` holds the frames one after the other; a last one that is cut short is pushed as it stands. The lists for the changes
+// and the output of the vector are lent: the first `changes` places of the lists hold what weighing gave, the output the vector where the fetch was taken. A
+// refusal ends the round with its number and step; what was done remains done. Scratch is free once a fetch is taken.
+pub fn round(
+    s: IvectorStream,
+    silence: SilenceWeighting,
+    start: usize,
+    numbers: &[f32],
+    phones: &[i32],
+    starts: &[usize],
+    ends: &[usize],
+    gconsts: &[f32],
+    means_invvars_t: &[f32],
+    inv_vars_t: &[f32],
+    sigma_inv_m: &[f64],
+    u: &[f64],
+    lda_t: &[f32],
+    lda_offset: &[f32],
+    global_mean_stats: &[f64],
+    frames: &mut [f32],
+    rows: &mut [f64],
+    waiting_frames: &mut [usize],
+    waiting_weights: &mut [f32],
+    cmvn_stats: &mut [f64],
+    linear: &mut [f64],
+    quadratic: &mut [f64],
+    current: &mut [f64],
+    scratch: &mut [f64],
+    silence_phones: &[i32],
+    known: &mut [bool],
+    is_silence: &mut [bool],
+    current_weight: &mut [f32],
+    delta_frames: &mut [usize],
+    delta_weights: &mut [f32],
+    out: &mut [u32],
+    voices: usize,
+    enrolled: &[u32],
+    limit: f32,
+) -> TriggerRound
+    ensures { λ r. ⌜ (
+        let t : Tables = tablesFrom (now (gconsts .entry)) (now («means_invvars_t» .entry)) (now («inv_vars_t» .entry)) (now («sigma_inv_m» .entry))
+        (now (u .entry)) (now («lda_t» .entry)) (now («lda_offset» .entry)) (now («global_mean_stats» .entry)) in
+        let z : Rooms = roomsFrom (ringsFrom (now (frames .entry)) (now (rows .entry)) (now («waiting_frames» .entry)) (now («waiting_weights» .entry)))
+        (estimateFrom (now («cmvn_stats» .entry)) (now (linear .entry)) (now (quadratic .entry)) (now (current .entry))) in
+        let y : Rooms = roomsFrom (ringsFrom (now (frames .exit)) (now (rows .exit)) (now («waiting_frames» .exit)) (now («waiting_weights» .exit)))
+        (estimateFrom (now («cmvn_stats» .exit)) (now (linear .exit)) (now (quadratic .exit)) (now (current .exit))) in
+        let w : Utterance = record { start = start; numbers = now (numbers .entry); phones = now (phones .entry); starts = now (starts .entry); ends = now (ends .entry) } in
+        let v : Voices = record { count = voices; enrolled = now (enrolled .entry); limit = limit } in
+        let b : Bench = bench s z silence (tableRooms (now (known .entry)) (now («is_silence» .entry)) (now («current_weight» .entry)))
+        (now («delta_frames» .entry)) (now («delta_weights» .entry)) 0 (now (out .entry)) in
+        (roundFrom (r .result) (bench (r .stream) y (r .silence) (tableRooms (now (known .exit)) (now («is_silence» .exit)) (now («current_weight» .exit)))
+        (now («delta_frames» .exit)) (now («delta_weights» .exit)) (r .changes) (now (out .exit)))
+        ≡ roundOf t (length (now (scratch .entry))) (now («silence_phones» .entry)) w v b)
+        × (worked (r .result) ≡ false → now (scratch .exit) ≡ now (scratch .entry))) ⌝ }
+{
+    let heard = hear(
+        s,
+        start,
+        numbers,
+        frames,
+        rows,
+        waiting_frames,
+        waiting_weights,
+    );
+    let pushed = heard.stream;
+    if heard.refusal != 0 {
+        let result = RoundResult::Refused {
+            refusal: heard.refusal,
+            step: heard.step,
+        };
+        return TriggerRound {
+            result,
+            changes: 0,
+            stream: pushed,
+            silence,
+        };
+    }
+    let ready = ivector_stream::num_frames_ready(pushed);
+    let weighed = weigh_path(
+        silence,
+        silence_phones,
+        known,
+        is_silence,
+        current_weight,
+        start,
+        phones,
+        starts,
+        ends,
+        ready,
+        delta_frames,
+        delta_weights,
+    );
+    let table = weighed.silence;
+    let changes = weighed.changes;
+    if weighed.refusal != 0 {
+        let result = RoundResult::Refused {
+            refusal: weighed.refusal,
+            step: weighed.step,
+        };
+        return TriggerRound {
+            result,
+            changes,
+            stream: pushed,
+            silence: table,
+        };
+    }
+    let c = ivector_stream::update_frame_weights(
+        pushed,
+        &delta_frames[..changes],
+        &delta_weights[..changes],
+        frames,
+        rows,
+        waiting_frames,
+        waiting_weights,
+    );
+    let changed = c.stream;
+    let a = c.answer;
+    if a.refusal != 0 {
+        let result = RoundResult::Refused {
+            refusal: a.refusal,
+            step: 5,
+        };
+        return TriggerRound {
+            result,
+            changes,
+            stream: changed,
+            silence: table,
+        };
+    }
+    let decided = decide(
+        changed,
+        gconsts,
+        means_invvars_t,
+        inv_vars_t,
+        sigma_inv_m,
+        u,
+        lda_t,
+        lda_offset,
+        global_mean_stats,
+        frames,
+        rows,
+        waiting_frames,
+        waiting_weights,
+        cmvn_stats,
+        linear,
+        quadratic,
+        current,
+        scratch,
+        out,
+        voices,
+        enrolled,
+        limit,
+    );
+    let result = decided.result;
+    let stream = decided.stream;
+    TriggerRound {
+        result,
+        changes,
+        stream,
+        silence: table,
+    }
+}
