@@ -405,6 +405,52 @@ shofrakin_step_answer shofrakin_registers_step(shofrakin_stream *s, uint8_t *blo
     double *quadratic, size_t quadratic_len, double *current, size_t current_len,
     double *scratch, size_t scratch_len, uint32_t *out, size_t out_len);
 
+/* ---- the trigger */
+
+/* How a round ended: the refusal and its step, 1 to 7, or both 0; whether the round was full, that is, went through all its steps; whether a voice
+ * is near enough, its index and its distance. Without a refusal a round that is not full ended before the fetch, no frame being ready. Index and
+ * distance are 0 where no voice was found. */
+typedef struct {
+    size_t refusal;
+    size_t step;
+    bool full;
+    bool found;
+    size_t index;
+    float distance;
+} shofrakin_round_outcome;
+
+/* The answer of a round: how it ended, how many changes weighing gave, and the two records, which take the place of those that were given. */
+typedef struct {
+    shofrakin_round_outcome outcome;
+    size_t changes;
+    shofrakin_stream stream;
+    shofrakin_silence silence;
+} shofrakin_round_answer;
+
+/* The round of an utterance. Its steps: 1 forget at `start`; 2 push the frames that `numbers` holds one after the other, a last one that is cut short
+ * as it stands; 3 note the path of the segments (phone, start, end), the frames decoded being the largest end; 4 weigh, from `start` up to the
+ * stream's ready count; 5 change by what weighing gave; 6 fetch the last ready frame into `out`; 7 find the nearest of `voices` enrolled vectors.
+ * A refusal ends the round with its number and step, and what was done remains done: go on with the records that the answer holds, whatever it
+ * says. The first `changes` places of `delta_frames` and `delta_weights` hold what weighing gave, `out` the vector once the fetch is taken. Weighing
+ * that gives more than 384 changes is refused 16 at step 5, with its weights noted in the table: they are not given again. The table is not made
+ * anew by a round: a new utterance wants a fresh one. Refusals by step: 1: 10. 2: 10 to 15. 3 and 4: 10, 23, 24. 5: 10, 16, 17, 30, 19.
+ * 6: 10, 20, 22. 7: 27 to 29. */
+shofrakin_round_answer shofrakin_round(shofrakin_stream s, shofrakin_silence silence, size_t start, const float *numbers, size_t numbers_len,
+    const int32_t *phones, size_t phones_len, const size_t *starts, size_t starts_len, const size_t *ends, size_t ends_len,
+    const float *gconsts, size_t gconsts_len, const float *means_invvars_t, size_t means_invvars_t_len,
+    const float *inv_vars_t, size_t inv_vars_t_len, const double *sigma_inv_m, size_t sigma_inv_m_len,
+    const double *u, size_t u_len, const float *lda_t, size_t lda_t_len,
+    const float *lda_offset, size_t lda_offset_len, const double *global_mean_stats, size_t global_mean_stats_len,
+    float *frames, size_t frames_len, double *rows, size_t rows_len,
+    size_t *waiting_frames, size_t waiting_frames_len, float *waiting_weights, size_t waiting_weights_len,
+    double *cmvn_stats, size_t cmvn_stats_len, double *linear, size_t linear_len,
+    double *quadratic, size_t quadratic_len, double *current, size_t current_len,
+    double *scratch, size_t scratch_len,
+    const int32_t *silence_phones, size_t silence_phones_len,
+    bool *known, size_t known_len, bool *is_silence, size_t is_silence_len, float *current_weight, size_t current_weight_len,
+    size_t *delta_frames, size_t delta_frames_len, float *delta_weights, size_t delta_weights_len,
+    uint32_t *out, size_t out_len, size_t voices, const uint32_t *enrolled, size_t enrolled_len, float limit);
+
 #ifdef __cplusplus
 }
 #endif

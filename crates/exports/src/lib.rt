@@ -23,7 +23,9 @@ use memory::RoomsAnswer;
 use memory::TablesAnswer;
 use nearest_voice::VoiceAnswer;
 use settings::Settings;
+use trigger::RoundAnswer;
 ghost use mathlib.Core.Path.{_≡_};
+ghost use mathlib.Core.Bool.{false};
 ghost use mathlib.Core.List.{[]};
 ghost use Prim.Native.Nat.{ℕ};
 ghost use lib.ListN.{length};
@@ -39,6 +41,7 @@ ghost use Rattle.program.specs.Session.{program};
 ghost use Rattle.registers.specs.Board.{Board, board, blockRefusal, boardStep, FetchTaken};
 ghost use Rattle.settings.specs.Settings.{settingsOf, loadWith};
 ghost use Rattle.memory.specs.Memory.{dimensionsOf, dimensionsAnswer, tablesNeeded, roomsNeeded};
+ghost use Rattle.trigger.specs.Round.{Utterance, Voices, Bench, bench, Round, round as roundOf, worked, roundOutcome};
 ghost use Rattle.ivector_info.specs.Load.{filesOf, scratchKept};
 ghost use Rattle.exports.specs.Answers.{loadAnswer, noInfo, noOptions, settingsAnswer, answered, newStreamAnswer, newTableAnswer, counted, noStream, noTable};
 
@@ -834,4 +837,100 @@ pub extern "C" fn shofrakin_registers_step(
     );
     *s = c.stream;
     StepAnswer { refusal: c.refusal }
+}
+
+// ---- the trigger
+
+// `trigger::round`. The records are given and returned by value.
+#[no_mangle]
+pub extern "C" fn shofrakin_round(
+    s: IvectorStream,
+    silence: SilenceWeighting,
+    start: usize,
+    numbers: &[f32],
+    phones: &[i32],
+    starts: &[usize],
+    ends: &[usize],
+    gconsts: &[f32],
+    means_invvars_t: &[f32],
+    inv_vars_t: &[f32],
+    sigma_inv_m: &[f64],
+    u: &[f64],
+    lda_t: &[f32],
+    lda_offset: &[f32],
+    global_mean_stats: &[f64],
+    frames: &mut [f32],
+    rows: &mut [f64],
+    waiting_frames: &mut [usize],
+    waiting_weights: &mut [f32],
+    cmvn_stats: &mut [f64],
+    linear: &mut [f64],
+    quadratic: &mut [f64],
+    current: &mut [f64],
+    scratch: &mut [f64],
+    silence_phones: &[i32],
+    known: &mut [bool],
+    is_silence: &mut [bool],
+    current_weight: &mut [f32],
+    delta_frames: &mut [usize],
+    delta_weights: &mut [f32],
+    out: &mut [u32],
+    voices: usize,
+    enrolled: &[u32],
+    limit: f32,
+) -> RoundAnswer
+    ensures { λ r. ⌜ (
+        let t : Tables = tablesFrom (now (gconsts .entry)) (now («means_invvars_t» .entry)) (now («inv_vars_t» .entry)) (now («sigma_inv_m» .entry))
+        (now (u .entry)) (now («lda_t» .entry)) (now («lda_offset» .entry)) (now («global_mean_stats» .entry)) in
+        let z : Rooms = roomsFrom (ringsFrom (now (frames .entry)) (now (rows .entry)) (now («waiting_frames» .entry)) (now («waiting_weights» .entry)))
+        (estimateFrom (now («cmvn_stats» .entry)) (now (linear .entry)) (now (quadratic .entry)) (now (current .entry))) in
+        let y : Rooms = roomsFrom (ringsFrom (now (frames .exit)) (now (rows .exit)) (now («waiting_frames» .exit)) (now («waiting_weights» .exit)))
+        (estimateFrom (now («cmvn_stats» .exit)) (now (linear .exit)) (now (quadratic .exit)) (now (current .exit))) in
+        let w : Utterance = record { start = start; numbers = now (numbers .entry); phones = now (phones .entry); starts = now (starts .entry); ends = now (ends .entry) } in
+        let v : Voices = record { count = voices; enrolled = now (enrolled .entry); limit = limit } in
+        let b : Bench = bench s z silence (tableRooms (now (known .entry)) (now («is_silence» .entry)) (now («current_weight» .entry)))
+        (now («delta_frames» .entry)) (now («delta_weights» .entry)) 0 (now (out .entry)) in
+        let x : Round = roundOf t (length (now (scratch .entry))) (now («silence_phones» .entry)) w v b in
+        (r .outcome ≡ roundOutcome (x .result))
+        × (bench (r .stream) y (r .silence) (tableRooms (now (known .exit)) (now («is_silence» .exit)) (now («current_weight» .exit)))
+        (now («delta_frames» .exit)) (now («delta_weights» .exit)) (r .changes) (now (out .exit)) ≡ x .bench)
+        × (worked (x .result) ≡ false → now (scratch .exit) ≡ now (scratch .entry))) ⌝ }
+{
+    let c = trigger::round(
+        s,
+        silence,
+        start,
+        numbers,
+        phones,
+        starts,
+        ends,
+        gconsts,
+        means_invvars_t,
+        inv_vars_t,
+        sigma_inv_m,
+        u,
+        lda_t,
+        lda_offset,
+        global_mean_stats,
+        frames,
+        rows,
+        waiting_frames,
+        waiting_weights,
+        cmvn_stats,
+        linear,
+        quadratic,
+        current,
+        scratch,
+        silence_phones,
+        known,
+        is_silence,
+        current_weight,
+        delta_frames,
+        delta_weights,
+        out,
+        voices,
+        enrolled,
+        limit,
+    );
+    trigger::round_answer(c)
 }

@@ -8,6 +8,7 @@ use lib.Dec.{eqb}
 use lib.IntN.{ℤ}
 use lib.Ieee.{Float}
 use Rattle.loops.specs.Lists.{if_then_else_, build}
+use Rattle.floats.specs.Operators.{zero₃₂}
 use Rattle.definition.specs.declared.IvectorStream.{IvectorStream}
 use Rattle.definition.specs.declared.SilenceWeighting.{SilenceWeighting}
 use Rattle.definition.specs.Model.{Tables}
@@ -20,6 +21,9 @@ use Rattle.nearest_voice.specs.declared.NearestVoice.the-variants as N
 use Rattle.nearest_voice.specs.Voice.{nearestVoice}
 use Rattle.trigger.specs.declared.RoundResult.{RoundResult}
 use Rattle.trigger.specs.declared.RoundResult.the-variants as R
+use Rattle.trigger.specs.declared.RoundOutcome.{RoundOutcome}
+use Rattle.trigger.specs.declared.RoundAnswer.{RoundAnswer}
+use Rattle.trigger.specs.declared.TriggerRound.{TriggerRound}
 
 -- ---- what a round is given, and what it works on
 
@@ -184,3 +188,16 @@ worked (R.Voice i d) = true
 worked R.Nobody = true
 worked R.NoVector = false
 worked (R.Refused r k) = eqb k 7
+
+-- the numbers of each end: index and distance are 0 beside all but a voice
+unfoldable pub roundOutcome : RoundResult → RoundOutcome
+roundOutcome (R.Voice i d) = record { refusal = 0; step = 0; full = true; found = true; index = i; distance = d }
+roundOutcome R.Nobody = record { refusal = 0; step = 0; full = true; found = false; index = 0; distance = zero₃₂ }
+roundOutcome R.NoVector = record { refusal = 0; step = 0; full = false; found = false; index = 0; distance = zero₃₂ }
+roundOutcome (R.Refused r k) = record { refusal = r; step = k; full = false; found = false; index = 0; distance = zero₃₂ }
+
+abbrev pub roundAnswerFrom : RoundOutcome → ℕ → IvectorStream → SilenceWeighting → RoundAnswer
+roundAnswerFrom o n s q = record { outcome = o; changes = n; stream = s; silence = q }
+
+abbrev pub roundAnswer : TriggerRound → RoundAnswer
+roundAnswer a = roundAnswerFrom (roundOutcome (a .result)) (a .changes) (a .stream) (a .silence)

@@ -14,7 +14,7 @@ ghost use lib.Ieee.{Float};
 ghost use Rattle.definition.specs.Model.{Tables, tablesFrom};
 ghost use Rattle.definition.specs.Silence.{tableRooms};
 ghost use Rattle.program.specs.Rooms.{Rings, ringsFrom, estimateFrom, Rooms, roomsFrom};
-ghost use Rattle.trigger.specs.Round.{Utterance, Voices, Bench, bench, withRings, withTable, withFetch, Round, roundFrom, ended, after, forgets, cut, Pushed, pushed, pushAll, frameLength, pushes, decoded as decodedOf, notes, ready as readyOf, weighs, resultOf, lastSteps, round as roundOf, worked};
+ghost use Rattle.trigger.specs.Round.{Utterance, Voices, Bench, bench, withRings, withTable, withFetch, Round, roundFrom, ended, after, forgets, cut, Pushed, pushed, pushAll, frameLength, pushes, decoded as decodedOf, notes, ready as readyOf, weighs, resultOf, lastSteps, round as roundOf, worked, roundOutcome, roundAnswer};
 
 // How a round ends: with the nearest voice; with no vector, no frame being ready; or with a refusal's number and its step, 1 to 7.
 pub enum RoundResult {
@@ -24,9 +24,30 @@ pub enum RoundResult {
     Refused { refusal: usize, step: usize },
 }
 
+// How a round ends as a record, for hosts without such enums: the refusal's number and its step, 0 where none was refused; whether the round was
+// full, that is, went through all its steps; whether somebody is near enough, and who. Without a refusal a round that is not full has no vector.
+#[repr(C)]
+pub struct RoundOutcome {
+    pub refusal: usize,
+    pub step: usize,
+    pub full: bool,
+    pub found: bool,
+    pub index: usize,
+    pub distance: f32,
+}
+
 // What a round returns: how it ended, how many changes weighing gave, and the records for the next call.
 pub struct TriggerRound {
     pub result: RoundResult,
+    pub changes: usize,
+    pub stream: IvectorStream,
+    pub silence: SilenceWeighting,
+}
+
+// The same for such hosts.
+#[repr(C)]
+pub struct RoundAnswer {
+    pub outcome: RoundOutcome,
     pub changes: usize,
     pub stream: IvectorStream,
     pub silence: SilenceWeighting,
@@ -474,5 +495,67 @@ pub fn round(
         changes,
         stream,
         silence: table,
+    }
+}
+
+fn round_outcome(a: RoundResult) -> RoundOutcome
+    ensures { λ r. ⌜ r ≡ roundOutcome a ⌝ }
+{
+    match a {
+        RoundResult::Voice { index, distance } => {
+            return RoundOutcome {
+                refusal: 0,
+                step: 0,
+                full: true,
+                found: true,
+                index,
+                distance,
+            };
+        }
+        RoundResult::Nobody => {
+            return RoundOutcome {
+                refusal: 0,
+                step: 0,
+                full: true,
+                found: false,
+                index: 0,
+                distance: 0.0,
+            };
+        }
+        RoundResult::NoVector => {
+            return RoundOutcome {
+                refusal: 0,
+                step: 0,
+                full: false,
+                found: false,
+                index: 0,
+                distance: 0.0,
+            };
+        }
+        RoundResult::Refused { refusal, step } => {
+            return RoundOutcome {
+                refusal,
+                step,
+                full: false,
+                found: false,
+                index: 0,
+                distance: 0.0,
+            };
+        }
+    }
+}
+
+pub fn round_answer(a: TriggerRound) -> RoundAnswer
+    ensures { λ r. ⌜ r ≡ roundAnswer a ⌝ }
+{
+    let stream = a.stream;
+    let silence = a.silence;
+    let result = a.result;
+    let outcome = round_outcome(result);
+    RoundAnswer {
+        outcome,
+        changes: a.changes,
+        stream,
+        silence,
     }
 }

@@ -205,6 +205,22 @@ records! {
     shofrakin_step_answer: struct StepAnswer {
         refusal: usize,
     }
+
+    shofrakin_round_outcome: struct RoundOutcome {
+        refusal: usize,
+        step: usize,
+        full: bool,
+        found: bool,
+        index: usize,
+        distance: f32,
+    }
+
+    shofrakin_round_answer: struct RoundAnswer {
+        outcome: RoundOutcome,
+        changes: usize,
+        stream: IvectorStream,
+        silence: SilenceWeighting,
+    }
 }
 
 // A slice is a pointer and a length, two arguments.
@@ -318,4 +334,21 @@ extern "C" {
         quadratic: *mut f64, quadratic_len: usize, current: *mut f64, current_len: usize,
         scratch: *mut f64, scratch_len: usize, out: *mut u32, out_len: usize,
     ) -> StepAnswer;
+    pub fn shofrakin_round(
+        s: IvectorStream, silence: SilenceWeighting, start: usize, numbers: *const f32, numbers_len: usize,
+        phones: *const i32, phones_len: usize, starts: *const usize, starts_len: usize, ends: *const usize, ends_len: usize,
+        gconsts: *const f32, gconsts_len: usize, means_invvars_t: *const f32, means_invvars_t_len: usize,
+        inv_vars_t: *const f32, inv_vars_t_len: usize, sigma_inv_m: *const f64, sigma_inv_m_len: usize,
+        u: *const f64, u_len: usize, lda_t: *const f32, lda_t_len: usize,
+        lda_offset: *const f32, lda_offset_len: usize, global_mean_stats: *const f64, global_mean_stats_len: usize,
+        frames: *mut f32, frames_len: usize, rows: *mut f64, rows_len: usize,
+        waiting_frames: *mut usize, waiting_frames_len: usize, waiting_weights: *mut f32, waiting_weights_len: usize,
+        cmvn_stats: *mut f64, cmvn_stats_len: usize, linear: *mut f64, linear_len: usize,
+        quadratic: *mut f64, quadratic_len: usize, current: *mut f64, current_len: usize,
+        scratch: *mut f64, scratch_len: usize,
+        silence_phones: *const i32, silence_phones_len: usize,
+        known: *mut bool, known_len: usize, is_silence: *mut bool, is_silence_len: usize, current_weight: *mut f32, current_weight_len: usize,
+        delta_frames: *mut usize, delta_frames_len: usize, delta_weights: *mut f32, delta_weights_len: usize,
+        out: *mut u32, out_len: usize, voices: usize, enrolled: *const u32, enrolled_len: usize, limit: f32,
+    ) -> RoundAnswer;
 }
