@@ -429,6 +429,29 @@ int main(void) {
     is("scratch of a fetch", room.lengths.estimate.scratch, 1);
     is("rooms for no frame", shofrakin_rooms_needed(size.dims, 0, 7, 3).refusal, 8);
     is("dimensions of a cut file", shofrakin_model_dimensions(opts, gmm.b, gmm.len - 1, extractor.b, extractor.len, lda.b, lda.len, (const uint8_t *)cmvn_text, sizeof cmvn_text - 1).refusal, 2);
+    /* rounds on the same model: nobody enrolled, then the vector of that round; a frame that is not finite */
+    stream = shofrakin_new_stream(m.info, TABLES, RINGS, ESTIMATE).stream;
+    table = shofrakin_new_silence_weighting(phones, 2, 0.25f, 1, 8).silence;
+    shofrakin_round_answer r = shofrakin_round(stream, table, 0, &x, 1, path, 1, from, 1, to, 1, TABLES, RINGS, ESTIMATE, phones, 2,
+        known, 8, is_silence, 8, current_weight, 8, by, 16, weights, 16, out, 1, 0, voices, 0, 1);
+    is("round, nobody enrolled", r.outcome.refusal, 27);
+    is("its step", r.outcome.step, 7);
+    is("not full", r.outcome.full, false);
+    is("accepted", r.stream.accepted, 1);
+    is("accepted, in the record that was given", stream.accepted, 0);
+    is("length", r.silence.length.number, 2);
+    voices[0] = out[0];
+    r = shofrakin_round(r.stream, r.silence, 0, &x, 0, path, 1, from, 1, to, 1, TABLES, RINGS, ESTIMATE, phones, 2,
+        known, 8, is_silence, 8, current_weight, 8, by, 16, weights, 16, out, 1, 1, voices, 1, 1);
+    is("round, one enrolled", r.outcome.refusal, 0);
+    is("full", r.outcome.full, true);
+    is("somebody", r.outcome.found, true);
+    memcpy(&x, voices + 5, 4);
+    r = shofrakin_round(r.stream, r.silence, 1, &x, 1, path, 1, from, 1, to, 1, TABLES, RINGS, ESTIMATE, phones, 2,
+        known, 8, is_silence, 8, current_weight, 8, by, 16, weights, 16, out, 1, 1, voices, 1, 1);
+    is("round, a frame that is not finite", r.outcome.refusal, 12);
+    is("its step", r.outcome.step, 2);
+    is("no changes", r.changes, 0);
     printf(wrong ? "%d differ\n" : "the headers fit the library\n", wrong);
     /* the maker's settings: a load with them, their refusal, and a record that meets 1 */
 #define TEXTS(s, c) (const uint8_t *)(s), sizeof(s) - 1, (const uint8_t *)(c), sizeof(c) - 1

@@ -588,18 +588,20 @@ pub enum What {
     Widths,
     /// Request No. 12: window calls around forgets.
     Window,
+    /// Request No. 13: rounds of an utterance.
+    Trigger,
 }
 
 /// What `all` stands for (Big and Cuts are asked for by name).
 #[rustfmt::skip]
-pub const KINDS: [What; 15] = [
+pub const KINDS: [What; 16] = [
     What::Calls, What::Wild, What::Damage, What::Edges, What::Rooms, What::Forged, What::Silence, What::Long, What::Limit,
-    What::Exact, What::Nan, What::Registers, What::Floor, What::Widths, What::Window,
+    What::Exact, What::Nan, What::Registers, What::Floor, What::Widths, What::Window, What::Trigger,
 ];
 #[rustfmt::skip]
-pub const NAMED: [What; 17] = [
+pub const NAMED: [What; 18] = [
     What::Calls, What::Wild, What::Damage, What::Edges, What::Rooms, What::Forged, What::Silence, What::Long, What::Limit,
-    What::Exact, What::Nan, What::Registers, What::Floor, What::Widths, What::Window, What::Big, What::Cuts,
+    What::Exact, What::Nan, What::Registers, What::Floor, What::Widths, What::Window, What::Trigger, What::Big, What::Cuts,
 ];
 
 pub struct CallList {
@@ -629,6 +631,7 @@ pub fn call_list(seed: u64, what: What) -> CallList {
         What::Floor => crate::requests_floor::floor(&mut r, &mut s),
         What::Widths => crate::requests_widths::widths(&mut r, &mut s),
         What::Window => crate::requests_window::window(&mut r, &mut s),
+        What::Trigger => crate::trigger::trigger(&mut r, &mut s),
     }
     s.cmds.push(Cmd::End);
     s

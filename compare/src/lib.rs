@@ -18,6 +18,7 @@ pub mod requests_window;
 pub mod script;
 pub mod settings;
 pub mod timed;
+pub mod trigger;
 #[allow(dead_code, warnings)]
 mod orig {
     include!(concat!(env!("OUT_DIR"), "/orig.rs"));

@@ -4,6 +4,7 @@ use crate::machine::{model_needs, room_lens, stream_needs, EV};
 use crate::original::{nan, plain, HERE};
 use crate::rattle::{self, Call};
 use crate::script::*;
+use crate::trigger::Ended;
 use std::collections::BTreeMap;
 
 /// How many differences are told; the others are counted.
@@ -83,7 +84,7 @@ impl Tally {
         );
         println!("states compared after a taken call {}  silence calls {}", self.states, self.silence);
         println!("answers by refusal (0: taken) and call:");
-        for n in 0..=24 {
+        for n in 0..=30 {
             let v: Vec<(char, u64)> = self.refusals.iter().filter(|(k, _)| k.1 == n).map(|(k, v)| (k.0, *v)).collect();
             let sum: u64 = v.iter().map(|x| x.1).sum();
             println!("  {n:2} {sum:11}  {}", v.iter().map(|x| format!("{}={}", x.0, x.1)).collect::<Vec<_>>().join(" "));
@@ -421,6 +422,42 @@ pub fn one(seed: u64, what: What, t: &mut Tally) {
                 if al.is_empty() && !library_state(t, &run, rs.as_ref().unwrap(), seed, what, i) {
                     return;
                 }
+            }
+            Cmd::Round(u) => {
+                // not followed on the original: each step is a plain call, and those are compared in the other kinds
+                (ps, ns, sil) = (None, None, None);
+                t.forged += u64::from(!al.is_empty() || !sal.is_empty());
+                let (Some(s), Some(q)) = (rs.as_mut(), rsil.as_mut()) else { continue };
+                t.library += 1;
+                let (a, l, wrong) = rattle::rounded(s, q, u, &al, &sal);
+                let m = run.last_round.as_ref().unwrap();
+                let o = a.outcome;
+                let ended = match (o.refusal, o.full, o.found) {
+                    (0, true, true) => Ended::Voice(o.index, o.distance.to_bits()),
+                    (0, true, false) => Ended::Nobody,
+                    (0, false, _) => Ended::NoVector,
+                    (n, ..) => Ended::Refused(n as u32, o.step as u32),
+                };
+                // past the changes that were given, and without a vector, the lists are as they were lent
+                let given = m.changes.clone().unwrap_or_default();
+                let k = given.len();
+                let same = ended == m.ended
+                    && a.changes == k
+                    && given.iter().enumerate().all(|(i, x)| l.delta_frames[i] as u64 == x.0 && canon32(f32::from_bits(l.delta_weights[i])) == canon32(x.1))
+                    && l.delta_weights[k..].iter().all(|x| *x == rattle::UNTOUCHED)
+                    && match &m.vector {
+                        Some(v) => l.out[..v.len()] == v[..] && l.out[v.len()..].iter().all(|x| *x == rattle::UNTOUCHED),
+                        None => l.out.iter().all(|x| *x == rattle::UNTOUCHED),
+                    };
+                if !same || wrong.is_some() {
+                    t.diff(seed, what, i, format!("round: machine {m:?}, library {o:?} {} {wrong:?}", a.changes));
+                    return;
+                }
+                t.fetches += u64::from(m.vector.is_some());
+                if !library_state(t, &run, rs.as_ref().unwrap(), seed, what, i) {
+                    return;
+                }
+                silence_state(t, &run, None, rsil.as_ref().unwrap(), seed, what, i);
             }
             Cmd::Table(room, w, sub, ph) => {
                 sil = (n == 0 && HERE).then(|| plain::Silence::new(ph, *w, *sub as usize));

@@ -8,8 +8,8 @@
 //! compare settings-lines             the same on pairs with their answers, on standard input (FORMAT.md)
 //! compare gen FIRST COUNT [KIND]     the lists as a script (FORMAT.md), on standard output
 //! compare answer                     the machine's answers to a script on standard input
-//! KIND: calls wild damage edges rooms forged silence long limit exact nan registers floor widths window big cuts, or all (all but big and cuts). THREADS: how
-//! many (2).
+//! KIND: calls wild damage edges rooms forged silence long limit exact nan registers floor widths window trigger big cuts, or all (all but big and cuts).
+//! THREADS: how many (2).
 //! Exit status 1 on any difference.
 use compare::{day, gen, lists, loud, nearest, requests_widths, script, settings};
 use std::io::{BufRead, Write};

@@ -1,5 +1,6 @@
 //! Scripts of calls (FORMAT.md): parse, print, and run on the machine.
 use crate::machine::*;
+use crate::trigger::{Ended, Round, Utterance};
 
 #[derive(Clone, Debug)]
 pub enum Cmd {
@@ -21,6 +22,8 @@ pub enum Cmd {
     Weigh(u64, u64, u64, u64),
     /// Request 11: the length of the vector buffer, the frame buffer, the block.
     Step(usize, Vec<f32>, Vec<u8>),
+    /// Request 13.
+    Round(Utterance),
     Alter(Alter),
     SAlter(SAlter),
     End,
@@ -63,6 +66,18 @@ pub fn print(c: &Cmd) -> String {
         ),
         Cmd::Bytes(k, b) => format!("{} {} {}", ['g', 'e', 'l', 'c'][*k], b.len(), hex(b)),
         Cmd::Step(n, x, b) => format!("r {n} {} {} {}", list(x, |v| h32(*v)), b.len(), hex(b)),
+        Cmd::Round(u) => format!(
+            "u {} {} {} {} {} {} {} {} {}",
+            u.start,
+            list(&u.frames, |v| h32(*v)),
+            list(&u.phones, |v| v.to_string()),
+            list(&u.starts, |v| v.to_string()),
+            list(&u.ends, |v| v.to_string()),
+            joined(&u.lent),
+            u.voices,
+            list(&u.enrolled, |v| h32(*v)),
+            h32(u.limit)
+        ),
         Cmd::Model(d) => format!("m {}", joined(d)),
         Cmd::Tables => "k".into(),
         Cmd::Stream(l, d) => format!("s {} {}", joined(l), joined(d)),
@@ -134,6 +149,17 @@ pub fn parse(line: &str) -> Cmd {
             Cmd::Bytes("gelc".find(k).unwrap(), b)
         }
         "r" => Cmd::Step(t.u() as usize, t.list(|t| t.f()), t.bytes()),
+        "u" => Cmd::Round(Utterance {
+            start: t.u(),
+            frames: t.list(|t| t.f()),
+            phones: t.list(|t| t.i() as i32),
+            starts: t.list(|t| t.u()),
+            ends: t.list(|t| t.u()),
+            lent: std::array::from_fn(|_| t.u()),
+            voices: t.u(),
+            enrolled: t.list(|t| t.f()),
+            limit: t.f(),
+        }),
         "m" => Cmd::Model(std::array::from_fn(|_| t.i())),
         "k" => Cmd::Tables,
         "s" => Cmd::Stream(std::array::from_fn(|_| t.u()), std::array::from_fn(|_| t.i())),
@@ -180,6 +206,7 @@ pub struct Runner {
     pub last_weigh: Option<Vec<(u64, f32)>>,
     /// The block after a step that was not answered 10.
     pub last_block: Option<Vec<u8>>,
+    pub last_round: Option<Round>,
     pub refusals: std::collections::BTreeMap<(char, u32), u64>,
 }
 
@@ -222,6 +249,7 @@ impl Runner {
         self.last = None;
         self.last_weigh = None;
         self.last_block = None;
+        self.last_round = None;
         match c {
             Cmd::Options(o) => {
                 self.opts = Some(*o);
@@ -331,6 +359,24 @@ impl Runner {
                 }
                 self.last = answer;
                 self.last_block = Some(b);
+                Some(s)
+            }
+            Cmd::Round(u) => {
+                let (al, sal) = (std::mem::take(&mut self.al), std::mem::take(&mut self.sal));
+                let (st, t) = (self.stream.as_mut().expect("no stream"), self.sil.as_mut().expect("no table"));
+                let r = crate::trigger::round(st, t, u, &al, &sal);
+                let (n, mut s) = match r.ended {
+                    Ended::Refused(n, step) => (n, format!("1 {n} {step}")),
+                    Ended::NoVector => (0, "2".into()),
+                    Ended::Nobody => (0, "3".into()),
+                    Ended::Voice(i, d) => (0, format!("4 {i} {d:08x}")),
+                };
+                self.note('u', n);
+                if let Some(v) = &r.changes {
+                    s.push_str(&format!(" {}", list(v, |x| format!("{} {:08x}", x.0, x.1.to_bits()))));
+                }
+                r.vector.iter().flatten().for_each(|b| s.push_str(&format!(" {b:08x}")));
+                self.last_round = Some(r);
                 Some(s)
             }
             Cmd::Table(r, w, s, p) => {
