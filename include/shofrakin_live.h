@@ -404,6 +404,23 @@ static inline shofrakin_silence_counts shofrakin_silence_live_delta_weights(shof
         s->silence.table, num_frames_ready, first_decoder_frame, frames, len, weights, len);
 }
 
+/* ---- the trigger */
+
+/* The round of an utterance on a stream and a table: shofrakin_round with their records and rooms, which it leaves as the round does. `segments` is the
+ * length of the three lists of segments, `changes` that of the two lists for the changes. */
+static inline shofrakin_round_answer shofrakin_live_round(shofrakin_live *s, shofrakin_silence_live *t, size_t start,
+    const float *numbers, size_t numbers_len, const int32_t *phones, const size_t *starts, const size_t *ends, size_t segments,
+    size_t *delta_frames, float *delta_weights, size_t changes, uint32_t *out, size_t out_len,
+    size_t voices, const uint32_t *enrolled, size_t enrolled_len, float limit) {
+    shofrakin_round_answer a = shofrakin_round(s->stream, t->silence, start, numbers, numbers_len, phones, segments, starts, segments, ends, segments,
+        SHOFRAKIN_TABLES_(s->model), SHOFRAKIN_RINGS_(s, s->stream.lengths), SHOFRAKIN_ESTIMATE_(s, s->stream.lengths),
+        t->silence_phones, t->silence.phones, t->known, t->silence.table, t->is_silence, t->silence.table, t->current_weight, t->silence.table,
+        delta_frames, changes, delta_weights, changes, out, out_len, voices, enrolled, enrolled_len, limit);
+    s->stream = a.stream;
+    t->silence = a.silence;
+    return a;
+}
+
 #ifdef __cplusplus
 }
 #endif
