@@ -43,10 +43,12 @@ mod stream;
 #[doc(hidden)]
 #[allow(missing_docs)]
 pub mod sys;
+mod trigger;
 mod voice;
 
 pub use model::{Dimensions, IvectorInfo, IvectorOptions, OpenError, MODEL_FILES};
 pub use refusal::Refusal;
 pub use silence::{DecoderFrame, InputFrame, PhoneSegment, SilenceWeighting};
 pub use stream::{Fetched, Held, IvectorStream, Room, MAX_CHANGES};
+pub use trigger::{Round, RoundEnd};
 pub use voice::{nearest_voice, Voice};

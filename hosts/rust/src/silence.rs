@@ -23,11 +23,11 @@ pub struct PhoneSegment {
 /// hundred decoder frames when the path changes. The changes go to [`IvectorStream`](crate::IvectorStream).
 #[derive(Clone, Debug)]
 pub struct SilenceWeighting {
-    record: sys::SilenceWeighting,
-    silence_phones: Vec<i32>,
-    known: Vec<bool>,
-    is_silence: Vec<bool>,
-    current_weight: Vec<f32>,
+    pub(crate) record: sys::SilenceWeighting,
+    pub(crate) silence_phones: Vec<i32>,
+    pub(crate) known: Vec<bool>,
+    pub(crate) is_silence: Vec<bool>,
+    pub(crate) current_weight: Vec<f32>,
 }
 
 impl SilenceWeighting {

@@ -74,18 +74,18 @@ pub struct Fetched {
 ///
 /// A refused call changes nothing.
 pub struct IvectorStream {
-    info: IvectorInfo,
-    record: sys::IvectorStream,
-    held: Held,
-    frames: Vec<f32>,
-    rows: Vec<f64>,
-    waiting_frames: Vec<usize>,
-    waiting_weights: Vec<f32>,
-    cmvn_stats: Vec<f64>,
-    linear: Vec<f64>,
-    quadratic: Vec<f64>,
-    current: Vec<f64>,
-    scratch: Vec<f64>,
+    pub(crate) info: IvectorInfo,
+    pub(crate) record: sys::IvectorStream,
+    pub(crate) held: Held,
+    pub(crate) frames: Vec<f32>,
+    pub(crate) rows: Vec<f64>,
+    pub(crate) waiting_frames: Vec<usize>,
+    pub(crate) waiting_weights: Vec<f32>,
+    pub(crate) cmvn_stats: Vec<f64>,
+    pub(crate) linear: Vec<f64>,
+    pub(crate) quadratic: Vec<f64>,
+    pub(crate) current: Vec<f64>,
+    pub(crate) scratch: Vec<f64>,
 }
 
 impl IvectorStream {

@@ -1,6 +1,6 @@
 //! The types over the library: a model, streams, the silence table, the nearest voice; what is refused, and with which number.
 use shofrakin::{
-    nearest_voice, DecoderFrame, Held, InputFrame, IvectorInfo, IvectorOptions, IvectorStream, OpenError, PhoneSegment, Refusal, Room,
+    nearest_voice, DecoderFrame, Held, InputFrame, IvectorInfo, IvectorOptions, IvectorStream, OpenError, PhoneSegment, Refusal, Room, RoundEnd,
     SilenceWeighting, Voice, MAX_CHANGES,
 };
 use std::path::{Path, PathBuf};
@@ -398,4 +398,43 @@ fn every_refusal_has_a_sentence() {
     let info = info();
     let r = IvectorStream::new(&info, Room { frames: 0, ..Room::default() }).unwrap_err();
     assert_eq!(r.to_string(), "refused, 8: a lent room is too short");
+}
+
+#[test]
+fn rounds() {
+    let info = info();
+    let mut stream = IvectorStream::new(&info, Room::for_utterances(&info, 40)).unwrap();
+    let mut vector = vec![0.0; info.ivector_dim()];
+    let table = || SilenceWeighting::new(&[1], 0.25, 1, DecoderFrame(40)).unwrap();
+    let path = [PhoneSegment { phone: 1, start: 0, end: 5 }, PhoneSegment { phone: 2, start: 5, end: 19 }];
+    let numbers = |from: usize| (from..from + 20).flat_map(frame).collect::<Vec<f32>>();
+    // nobody is enrolled: the vector is there all the same
+    let a = stream.round(&mut table(), 0, &numbers(0), &path, &[] as &[Vec<f32>], 1.0, &mut vector);
+    assert!(matches!(a.end, RoundEnd::Refused(r, 7) if r.number() == 27), "{a:?}");
+    assert!(!a.changes.is_empty() && vector.iter().any(|x| *x != 0.0));
+    assert_eq!(stream.held().frames, 20);
+    // the same calls, one by one
+    let mut plain = IvectorStream::new(&info, Room::for_utterances(&info, 40)).unwrap();
+    let mut same = vec![0.0; info.ivector_dim()];
+    let mut silence = table();
+    plain.forget_before(0).unwrap();
+    for x in numbers(0).chunks(4) {
+        plain.push_frame(x).unwrap();
+    }
+    silence.compute_current_traceback(&path, DecoderFrame(19)).unwrap();
+    let changes = silence.get_delta_weights(InputFrame(plain.num_frames_ready()), InputFrame(0)).unwrap();
+    assert_eq!(changes, a.changes);
+    plain.update_frame_weights(&changes).unwrap();
+    plain.get_frame(plain.num_frames_ready() - 1, &mut same).unwrap();
+    assert_eq!(same, vector);
+    assert_eq!(plain.held(), stream.held());
+    // with that vector enrolled; then a frame that is cut short
+    let enrolled = [vector.clone()];
+    let a = stream.round(&mut table(), 20, &numbers(20), &path, &enrolled, 1e9, &mut vector);
+    assert!(matches!(a.end, RoundEnd::Full(Some(Voice { index: 0, .. }))), "{a:?}");
+    let a = stream.round(&mut table(), 40, &[1.0], &path, &enrolled, 1e9, &mut vector);
+    assert!(matches!(a.end, RoundEnd::Refused(r, 2) if r.number() == 11), "{a:?}");
+    // a fresh stream has no frame ready
+    let mut fresh = IvectorStream::new(&info, Room::default()).unwrap();
+    assert_eq!(fresh.round(&mut table(), 0, &[], &[], &enrolled, 1.0, &mut vector).end, RoundEnd::NoVector);
 }
