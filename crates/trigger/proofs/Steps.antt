@@ -163,7 +163,7 @@ change-is s z r y b e = ap (λ c. done (c .call .answer .refusal) (withRings b (
 
 told-number : (q : ℕ) (s : IvectorStream) (n m : ℕ) → answerOf q s n m .refusal ≡ q
 unfolding answerOf
-told-number q s n m = choose-map (λ (a : StreamAnswer). a .refusal) (eqb q 10) (answerFrom q 0 0 0 0) (answerFrom q (framesHeld (s .accepted) (s .mark)) (rowsHeld (s .info .opts .«cmn_window») (s .accepted) (s .mark)) n m) ∙ choose-same (eqb q 10) q
+told-number q s n m = choose-map (λ (a : StreamAnswer). a .refusal) (eqb q 10) (answerFrom q 0 0 0 0) (answerFrom q (framesHeld (s .accepted) (s .mark)) (rowsHeld (s .longest) (s .accepted) (s .mark)) n m) ∙ choose-same (eqb q 10) q
 
 module _ (t : Tables) (n : ℕ) (v : Voices) (s : IvectorStream) (z : Rooms) (out : List ℕ) (k : ℕ) (k-is : k ≡ ready s) where
   pub no-vector : k ≡ 0 → (b : Bench) → roundFrom R.NoVector (withFetch b s z out) ≡ lastSteps t n v (withFetch b s z out)
