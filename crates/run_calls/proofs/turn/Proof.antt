@@ -43,10 +43,10 @@ at-larger c = c .before .before .before .before .before .before .before .before 
 
 -- the start, from there
 abbrev lent-from : tie.After-larger → tie.Start
-lent-from c = begun (c .before .before .before .before .before)
+lent-from c = begun (c .before .before .before .before .before .before)
 
 -- the fetch, from the end
-abbrev at-get-frame : tie.After-slice-known26 → tie.After-get-frame
+abbrev at-get-frame : tie.After-slice-known22 → tie.After-get-frame
 at-get-frame c = c .before .before .before .before .before .before .before .before .before .before .before .before .before .before .before .before
 
 -- ---- a call on the rings
@@ -107,7 +107,7 @@ same-length-8 c = refl
 returns-2 : tie.Need-returns-2
 returns-2 c =
     let at-if2 = c .before .before .before .before .before in
-    let start = begun (at-if2 .before .before) in
+    let start = begun (at-if2 .before .before .before) in
     let a = start .args in
     window-turned (a .k) (a .lists .now) (a .samples .now) (tables start) (length (a .scratch .now)) (a .s) (held start) (a .outs .now)
     (at-if2 .if2 .taken) (c .set-cmn-window .ensures)
@@ -185,7 +185,7 @@ returns-3 c =
     let at-smaller2 = cut .before in
     let at-smaller = at-smaller2 .before in
     let at-if2 = at-smaller .before in
-    let at-if1 = at-if2 .before in
+    let at-if1 = at-if2 .before .before in
     let start = begun (at-if1 .before) in
     let a = start .args in
     fetch-turned (a .k) (a .lists .now) (a .samples .now) (tables start) (length (a .scratch .now)) (a .s) (held start) (a .outs .now)
