@@ -221,7 +221,7 @@ fn what_a_stream_refuses() {
     assert_eq!(s.num_frames_stats(), 2);
     s.forget_before(2).unwrap();
     assert_eq!(s.held(), Held { frames: 2, rows: 4 });
-    assert_eq!(number(s.update_frame_weights(&[(0, 1.0)])), 18);
+    assert_eq!(number(s.update_frame_weights(&[(0, 1.0)])), 30);
     assert_eq!(number(s.update_frame_weights(&vec![(2, 0.0); MAX_CHANGES + 1])), 16);
     let mut tight = IvectorStream::new(&info, Room { frames: 9, rows: Some(3), waiting: 0 }).unwrap();
     tight.push_frame(&frame(0)).unwrap();
