@@ -25,7 +25,12 @@ load-scratch-requires : tie.Need-load-scratch-requires
 load-scratch-requires c κs = (holds (c .before .before .before .before .dims-in-range .ensures) (c .before .before .before .if2 .left))
 
 returns-4 : tie.Need-returns-4
-returns-4 c = sized _ _ (holds (c .before .before .before .before .before .before .before .options-in-range .ensures) (c .before .before .before .before .before .before .if1 .left)) (holds (c .before .before .before .before .before .dims-in-range .ensures) (c .before .before .before .before .if2 .left)) (holds (c .before .before .before .dims-agree .ensures) (c .before .before .if3 .left)) (c .before .table-sizes .ensures) (c .load-scratch .ensures)
+returns-4 c =
+    let at-if3 = c .before .before in
+    let at-if2 = at-if3 .before .before in
+    let at-if1 = at-if2 .before .before in
+    sized _ _ (holds (at-if1 .before .options-in-range .ensures) (at-if1 .if1 .left)) (holds (at-if2 .before .dims-in-range .ensures) (at-if2 .if2 .left))
+    (holds (at-if3 .before .dims-agree .ensures) (at-if3 .if3 .left)) (c .before .table-sizes .ensures) (c .load-scratch .ensures)
 
 pub tables-needed-spec : {M : Type 1} → statement M
 tables-needed-spec =
