@@ -12,19 +12,22 @@
 //!
 //! let model = concat!(env!("CARGO_MANIFEST_DIR"), "/../../examples/model");
 //! let info = IvectorInfo::open(Path::new(model))?;
+//! // with room for utterances of up to 200 frames no push is refused for want of it
 //! let mut stream = IvectorStream::new(&info, Room::for_utterances(&info, 200))?;
 //! let mut vector = vec![0.0; info.ivector_dim()];
-//! for t in 0..1000 {
-//!     stream.push_frame(&[7.0, (t as f32).sin(), 0.5, -0.25])?;
-//!     // each utterance has 200 frames: at its end its vector is fetched, and what lies before the next one is forgotten
-//!     let ready = stream.num_frames_ready();
-//!     if ready > 0 && ready % 200 == 0 {
-//!         let fetched = stream.get_frame(ready - 1, &mut vector)?;
-//!         assert_eq!(fetched.not_finite, 0);
-//!         stream.forget_before(ready)?;
+//! let mut pushed = 0;
+//! for length in [200, 120, 200, 57, 200] {
+//!     for t in 0..length {
+//!         stream.push_frame(&[7.0, (t as f32).sin(), 0.5, -0.25])?;
 //!     }
+//!     pushed += length;
+//!     // the utterance is over: its vector is fetched, and what lies before the next one is forgotten
+//!     let fetched = stream.get_frame(stream.num_frames_ready() - 1, &mut vector)?;
+//!     assert_eq!(fetched.not_finite, 0);
+//!     stream.forget_before(pushed)?;
 //! }
-//! assert!(stream.held().frames < 220);
+//! // the contexts, one frame each in this model, are all that is held
+//! assert_eq!(stream.held().frames, 2);
 //! # Ok::<(), Box<dyn std::error::Error>>(())
 //! ```
 //!
@@ -34,10 +37,9 @@
 #![warn(missing_docs)]
 
 pub mod archive;
-mod lengths;
 mod model;
 mod refusal;
-mod settings;
+mod registers;
 mod silence;
 mod stream;
 #[doc(hidden)]
@@ -46,7 +48,7 @@ pub mod sys;
 mod trigger;
 mod voice;
 
-pub use model::{Dimensions, IvectorInfo, IvectorOptions, OpenError, MODEL_FILES};
+pub use model::{Dimensions, IvectorInfo, IvectorOptions, OpenError, MODEL_FILES, SETTINGS_FILES};
 pub use refusal::Refusal;
 pub use silence::{DecoderFrame, InputFrame, PhoneSegment, SilenceWeighting};
 pub use stream::{Fetched, Held, IvectorStream, Room, MAX_CHANGES};

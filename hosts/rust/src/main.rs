@@ -90,8 +90,9 @@ fn extract(options: &[&str], model: &str, feats: &str, out: &str) -> Result<bool
         Some(p) => Box::new(File::create(p).map_err(unwritten)?),
         None => Box::new(io::stdout().lock()),
     });
-    let o = info.options();
-    let room = Room { frames: max_frames.unwrap_or(period + o.left_context + o.right_context), rows: None, waiting: 0 };
+    // every vector begins an utterance: at most a period is pushed from one to the next, and before the first as much as makes it ready
+    let enough = Room { waiting: 0, ..Room::for_utterances(&info, period.max(info.options().right_context + 1)) };
+    let room = Room { frames: max_frames.unwrap_or(enough.frames), ..enough };
 
     let mut archive = Archive::new(input);
     let mut tally = Tally::new();
@@ -223,7 +224,8 @@ impl Tally {
 fn info(model: &str) -> Result<bool, Fault> {
     let info = IvectorInfo::open(Path::new(model)).map_err(other)?;
     let (d, o, room) = (info.dimensions(), info.options(), Room::default());
-    let stream = std::mem::size_of::<IvectorStream>();
+    let memory = |room: Room| Ok(room.memory(&info).map_err(other)? + std::mem::size_of::<IvectorStream>());
+    let (bytes, more) = (memory(room)?, memory(Room { frames: room.frames + 1, ..room })?);
     let text = format!(
         "\
 model            {model}
@@ -261,11 +263,11 @@ a stream         {} bytes with room for {} frames, {} rows and {} changes; {} fo
         o.max_count,
         o.num_cg_iters,
         info.memory(),
-        room.memory(&info) + stream,
+        bytes,
         room.frames,
         room.rows_for(&info),
         room.waiting,
-        12 * d.base_dim,
+        more - bytes,
     );
     io::stdout().write_all(text.as_bytes()).map_err(other)?;
     Ok(true)

@@ -1,7 +1,8 @@
 use crate::sys::TableLengths;
 pub use crate::sys::{Dimensions, IvectorOptions};
-use crate::{lengths, settings, sys, Refusal};
+use crate::{sys, Refusal};
 use std::fmt;
+use std::io::ErrorKind;
 use std::path::{Path, PathBuf};
 use std::sync::Arc;
 
@@ -24,8 +25,23 @@ impl Default for IvectorOptions {
     }
 }
 
+impl IvectorOptions {
+    /// The options from the bytes of the maker's settings files, `splice.conf` and `online_cmvn.conf`; a missing file is one of no bytes. Lines
+    /// `--key=value`, of which the first with a key decides; where there is none, or its value can't be read, the default stays. An option outside its
+    /// range is given as it is read, and refused by a load (1). Refusal 25.
+    pub fn from_settings(splice: &[u8], online_cmvn: &[u8]) -> Result<IvectorOptions, Refusal> {
+        // SAFETY: slices' pointers with their lengths.
+        let a = unsafe { sys::shofrakin_settings(splice.as_ptr(), splice.len(), online_cmvn.as_ptr(), online_cmvn.len()) };
+        Refusal::of(a.refusal)?;
+        Ok(a.opts)
+    }
+}
+
 /// A model's files, as [`IvectorInfo::open`] names them.
 pub const MODEL_FILES: [&str; 4] = ["final.dubm", "final.ie", "final.mat", "global_cmvn.stats"];
+
+/// The maker's settings files, which may be missing.
+pub const SETTINGS_FILES: [&str; 2] = ["splice.conf", "online_cmvn.conf"];
 
 /// Everything read once per model. It is not changed any more, and may be shared: a clone is another handle to the same tables.
 #[derive(Clone)]
@@ -52,27 +68,70 @@ impl IvectorInfo {
     /// Loads a model from its folder: `final.dubm`, `final.ie`, `final.mat` and `global_cmvn.stats`, with the settings of `splice.conf` and
     /// `online_cmvn.conf` where these are there.
     pub fn open(dir: &Path) -> Result<IvectorInfo, OpenError> {
-        let opts = settings::read(dir)?;
-        let mut files = Vec::new();
-        for name in MODEL_FILES {
+        let mut texts = [vec![], vec![]];
+        for (text, name) in texts.iter_mut().zip(SETTINGS_FILES) {
             let path = dir.join(name);
-            files.push(std::fs::read(&path).map_err(|e| OpenError::Unread(path, e))?);
+            match std::fs::read(&path) {
+                Ok(b) => *text = b,
+                Err(e) if e.kind() == ErrorKind::NotFound => (),
+                Err(e) => return Err(OpenError::Unread(path, e)),
+            }
         }
-        IvectorInfo::from_bytes(opts, &files[0], &files[1], &files[2], &files[3]).map_err(|r| {
-            let file = at_fault(opts, [&files[0], &files[1], &files[2], &files[3]], r).map(|i| dir.join(MODEL_FILES[i]));
-            OpenError::Refused(r, file.unwrap_or_else(|| dir.to_path_buf()))
+        let [splice, online_cmvn] = &texts;
+        let in_settings = |r| OpenError::Refused(r, dir.join(SETTINGS_FILES[setting_at_fault(splice, r)]));
+        let opts = IvectorOptions::from_settings(splice, online_cmvn).map_err(in_settings)?;
+        let mut files = [vec![], vec![], vec![], vec![]];
+        for (file, name) in files.iter_mut().zip(MODEL_FILES) {
+            let path = dir.join(name);
+            *file = std::fs::read(&path).map_err(|e| OpenError::Unread(path, e))?;
+        }
+        let [gmm, extractor, lda, cmvn] = &files;
+        IvectorInfo::from_bytes_with_settings(splice, online_cmvn, gmm, extractor, lda, cmvn).map_err(|r| match r.number() {
+            1 => in_settings(r),
+            _ => OpenError::Refused(r, at_fault(opts, [gmm, extractor, lda, cmvn], r).map_or(dir.to_path_buf(), |i| dir.join(MODEL_FILES[i]))),
         })
     }
 
     /// Loads a model from the bytes of its four files. Refusals 1 to 7.
+    #[rustfmt::skip]
     pub fn from_bytes(opts: IvectorOptions, gmm: &[u8], extractor: &[u8], lda: &[u8], cmvn: &[u8]) -> Result<IvectorInfo, Refusal> {
-        // files whose dimensions are not to be had are refused whatever is lent
-        let (tables, scratch) = match lengths::dimensions(&opts, gmm, extractor, lda, cmvn) {
-            Some(d) => (lengths::tables(&opts, &d), lengths::load_scratch(&d)),
-            None => (NO_TABLES, 0),
+        let (mut t, mut scratch) = Tables::needed(opts, [gmm, extractor, lda, cmvn])?;
+        // SAFETY: every pointer is a slice's with its length, initialised and aligned; what is written is borrowed alone.
+        let a = unsafe {
+            sys::shofrakin_load(
+                opts,
+                gmm.as_ptr(), gmm.len(), extractor.as_ptr(), extractor.len(), lda.as_ptr(), lda.len(), cmvn.as_ptr(), cmvn.len(),
+                t.gconsts.as_mut_ptr(), t.gconsts.len(), t.means_invvars_t.as_mut_ptr(), t.means_invvars_t.len(),
+                t.inv_vars_t.as_mut_ptr(), t.inv_vars_t.len(), t.sigma_inv_m.as_mut_ptr(), t.sigma_inv_m.len(),
+                t.u.as_mut_ptr(), t.u.len(), t.lda_t.as_mut_ptr(), t.lda_t.len(), t.lda_offset.as_mut_ptr(), t.lda_offset.len(),
+                t.global_mean_stats.as_mut_ptr(), t.global_mean_stats.len(), scratch.as_mut_ptr(), scratch.len(),
+            )
         };
-        let mut tables = Tables::new(tables);
-        let a = tables.load(opts, [gmm, extractor, lda, cmvn], &mut vec![0.0; scratch]);
+        IvectorInfo::of(a, t)
+    }
+
+    /// The same with the options of the two settings files' bytes ([`IvectorOptions::from_settings`]). Refusals 25, then 1 to 7.
+    #[rustfmt::skip]
+    pub fn from_bytes_with_settings(
+        splice: &[u8], online_cmvn: &[u8], gmm: &[u8], extractor: &[u8], lda: &[u8], cmvn: &[u8],
+    ) -> Result<IvectorInfo, Refusal> {
+        let opts = IvectorOptions::from_settings(splice, online_cmvn)?;
+        let (mut t, mut scratch) = Tables::needed(opts, [gmm, extractor, lda, cmvn])?;
+        // SAFETY: as above.
+        let a = unsafe {
+            sys::shofrakin_load_with_settings(
+                splice.as_ptr(), splice.len(), online_cmvn.as_ptr(), online_cmvn.len(),
+                gmm.as_ptr(), gmm.len(), extractor.as_ptr(), extractor.len(), lda.as_ptr(), lda.len(), cmvn.as_ptr(), cmvn.len(),
+                t.gconsts.as_mut_ptr(), t.gconsts.len(), t.means_invvars_t.as_mut_ptr(), t.means_invvars_t.len(),
+                t.inv_vars_t.as_mut_ptr(), t.inv_vars_t.len(), t.sigma_inv_m.as_mut_ptr(), t.sigma_inv_m.len(),
+                t.u.as_mut_ptr(), t.u.len(), t.lda_t.as_mut_ptr(), t.lda_t.len(), t.lda_offset.as_mut_ptr(), t.lda_offset.len(),
+                t.global_mean_stats.as_mut_ptr(), t.global_mean_stats.len(), scratch.as_mut_ptr(), scratch.len(),
+            )
+        };
+        IvectorInfo::of(a, t)
+    }
+
+    fn of(a: sys::LoadAnswer, tables: Tables) -> Result<IvectorInfo, Refusal> {
         Refusal::of(a.refusal)?;
         Ok(IvectorInfo(Arc::new(Loaded { info: a.info, tables })))
     }
@@ -119,9 +178,6 @@ impl fmt::Debug for IvectorInfo {
     }
 }
 
-const NO_TABLES: TableLengths =
-    TableLengths { gconsts: 0, means_invvars_t: 0, inv_vars_t: 0, sigma_inv_m: 0, u: 0, lda_t: 0, lda_offset: 0, global_mean_stats: 0 };
-
 impl Tables {
     fn new(n: TableLengths) -> Tables {
         Tables {
@@ -136,41 +192,48 @@ impl Tables {
         }
     }
 
-    #[rustfmt::skip]
-    fn load(&mut self, opts: IvectorOptions, [gmm, extractor, lda, cmvn]: [&[u8]; 4], scratch: &mut [f64]) -> sys::LoadAnswer {
-        // SAFETY: every pointer is a slice's with its length, initialised and aligned; what is written is borrowed alone.
-        unsafe {
-            sys::shofrakin_load(
-                opts,
-                gmm.as_ptr(), gmm.len(), extractor.as_ptr(), extractor.len(), lda.as_ptr(), lda.len(), cmvn.as_ptr(), cmvn.len(),
-                self.gconsts.as_mut_ptr(), self.gconsts.len(), self.means_invvars_t.as_mut_ptr(), self.means_invvars_t.len(),
-                self.inv_vars_t.as_mut_ptr(), self.inv_vars_t.len(), self.sigma_inv_m.as_mut_ptr(), self.sigma_inv_m.len(),
-                self.u.as_mut_ptr(), self.u.len(), self.lda_t.as_mut_ptr(), self.lda_t.len(),
-                self.lda_offset.as_mut_ptr(), self.lda_offset.len(),
-                self.global_mean_stats.as_mut_ptr(), self.global_mean_stats.len(),
-                scratch.as_mut_ptr(), scratch.len(),
-            )
-        }
+    /// The tables that the model in these files needs, of exactly their lengths, and a load's scratch. Refusals 1 to 7.
+    fn needed(opts: IvectorOptions, files: [&[u8]; 4]) -> Result<(Tables, Vec<f64>), Refusal> {
+        let d = dimensions(opts, files);
+        Refusal::of(d.refusal)?;
+        // SAFETY: numbers alone.
+        let n = unsafe { sys::shofrakin_tables_needed(opts, d.dims) };
+        Refusal::of(n.refusal)?;
+        Ok((Tables::new(n.tables), vec![0.0; n.scratch]))
     }
 }
 
-/// The number that these files are refused with, no room being lent.
-fn judged(opts: IvectorOptions, files: [&[u8]; 4]) -> usize {
-    Tables::new(NO_TABLES).load(opts, files, &mut []).refusal
+/// The dimensions of the model in four files, or the number that a load refuses them with.
+#[rustfmt::skip]
+fn dimensions(opts: IvectorOptions, [gmm, extractor, lda, cmvn]: [&[u8]; 4]) -> sys::DimensionsAnswer {
+    // SAFETY: every pointer is a slice's with its length; nothing is written.
+    unsafe {
+        sys::shofrakin_model_dimensions(
+            opts, gmm.as_ptr(), gmm.len(), extractor.as_ptr(), extractor.len(), lda.as_ptr(), lda.len(), cmvn.as_ptr(), cmvn.len(),
+        )
+    }
+}
+
+/// Which settings file a refusal 25 or 1 speaks of: the first, where it has the same number with an empty one beside it. A load judges its options (1)
+/// before a file.
+fn setting_at_fault(splice: &[u8], r: Refusal) -> usize {
+    let alone = IvectorOptions::from_settings(splice, b"").map_or_else(Refusal::number, |o| dimensions(o, [b""; 4]).refusal);
+    (alone != r.number()).into()
 }
 
 /// Which file a refusal from 2 to 7 speaks of; nothing where it is about several. The files are judged one after the other, so that a fault
 /// is in an earlier one exactly where nothing that stands in the next one's place is seen: neither one that ends too early (2) nor one
 /// with a wrong mark (3). An empty CMVN text is 7, and no other file is.
 fn at_fault(opts: IvectorOptions, [gmm, extractor, lda, cmvn]: [&[u8]; 4], r: Refusal) -> Option<usize> {
-    let seen = |short: [&[u8]; 4], marked: [&[u8]; 4]| judged(opts, short) != judged(opts, marked);
+    let judged = |files: [&[u8]; 4]| dimensions(opts, files).refusal;
+    let seen = |short: [&[u8]; 4], marked: [&[u8]; 4]| judged(short) != judged(marked);
     if !(2..=7).contains(&r.number()) {
         None
     } else if !seen([gmm, b"", lda, cmvn], [gmm, b"no", lda, cmvn]) {
         Some(0)
     } else if !seen([gmm, extractor, b"", cmvn], [gmm, extractor, b"no", cmvn]) {
         Some(1)
-    } else if judged(opts, [gmm, extractor, lda, b""]) != 7 {
+    } else if judged([gmm, extractor, lda, b""]) != 7 {
         Some(2)
     } else if r.number() == 7 {
         Some(3)

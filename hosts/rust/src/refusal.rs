@@ -57,12 +57,14 @@ impl Refusal {
             23 => "more decoder frames than the silence table has, or a frame number too high",
             24 => "the silence lists differ in length, or are too short for the answer",
             25 => "a settings text is not ASCII, or longer than 65,536 bytes",
+            26 => "the output is shorter than the model's files",
             27 => "no vector is enrolled, or more than 32 are",
             28 => "a vector's length is not the dimension",
             29 => "a number of a vector or the limit is not finite, or the limit is below 0",
             30 => "a change names a frame below one that a forget named",
             31 => "the window is outside 1 to 1,000",
             32 => "the window is above the longest, and older rows are gone",
+            33 => "a seed or a size outside its limits, a list too short for what is drawn, or input that can't be read",
             _ => return None,
         })
     }

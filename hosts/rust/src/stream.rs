@@ -1,20 +1,33 @@
-use crate::{lengths, sys, IvectorInfo, Refusal};
+use crate::sys::RoomLengths;
+use crate::{sys, IvectorInfo, Refusal};
 use std::fmt;
 
 /// The most entries of one change call.
 pub const MAX_CHANGES: usize = 384;
 
-/// How much a stream has room for. It is allocated when the stream is made; its calls allocate nothing.
+/// How much a stream has room for. It is allocated when the stream is made, exactly that much; its calls allocate nothing.
+///
+/// How much is enough is proved over every list of calls, refused ones among them (docs/PROOFS.md and crates/program/specs/Habit.antt of the
+/// repository):
+///
+/// - `frames-enough`: with at least L frames and both contexts no push is refused for want of a frame (14), where at most L frames are pushed
+///   from one start of an utterance to the next. A start is a [`forget_before`](IvectorStream::forget_before) of a frame above the last ready one, where that
+///   one was fetched and no change since has named it or a frame below it.
+/// - `rows-enough`: with as many rows as frames and the window together no push is refused for want of a row (15). The window is the model's, or
+///   the longest that is set.
+/// - `all-taken`: so a caller that pushes an utterance of at most L frames, fetches the last ready frame, forgets before the count of frames pushed, and
+///   does so again, has every frame taken, up to 1,000,000,000 of them.
+///
+/// Neither can be less: in the example of `tight` a push is refused with a frame or a row fewer.
 ///
 /// The default has room for utterances of up to 1,000 frames, whatever the contexts, and for 1,024 changes.
 #[derive(Clone, Copy, Debug, PartialEq, Eq)]
 pub struct Room {
-    /// How many frames may be held at once: those accepted, less those below the mark that [`IvectorStream::forget_before`] raises. A
-    /// caller that fetches and forgets at each utterance's start needs its longest utterance and both contexts
-    /// ([`for_utterances`](Room::for_utterances)).
+    /// How many frames may be held at once: those accepted, less those below the mark that [`IvectorStream::forget_before`] raises. 1 to 1,000,000,000.
+    /// [`for_utterances`](Room::for_utterances) has as many as `frames-enough` asks for.
     pub frames: usize,
-    /// How many prefix rows may be held, for the CMVN window. `None` is as many as `frames` and the model's window together, which are enough:
-    /// with them no push is refused for want of a row (15).
+    /// How many prefix rows may be held, for the CMVN window: 2 to 2,000,000,000. `None` is as many as `frames` and the model's window together, which
+    /// `rows-enough` asks for; a caller that sets a longer window ([`IvectorStream::set_cmn_window`]) gives `frames` and that window.
     pub rows: Option<usize>,
     /// How many weight changes may wait for their frames to be fetched. 0 for a stream whose weights are never changed.
     pub waiting: usize,
@@ -27,7 +40,8 @@ impl Default for Room {
 }
 
 impl Room {
-    /// For utterances of at most `longest` frames, fetched and forgotten one by one.
+    /// For utterances of at most `longest` frames, each begun by a fetch of the last ready frame and a forget: `longest` frames and both contexts
+    /// (`frames-enough`), and as many rows as these and the window (`rows-enough`).
     pub fn for_utterances(info: &IvectorInfo, longest: usize) -> Room {
         let o = info.options();
         Room { frames: longest.saturating_add(o.left_context + o.right_context), ..Room::default() }
@@ -38,13 +52,21 @@ impl Room {
         self.rows.unwrap_or(self.frames.saturating_add(info.options().cmn_window))
     }
 
-    /// The bytes of a stream's rooms.
-    pub fn memory(&self, info: &IvectorInfo) -> usize {
-        let n = lengths::rooms(info.dimensions(), self.frames, self.rows_for(info), self.waiting);
+    /// The bytes of a stream's rooms. Refusal 8, as [`IvectorStream::new`].
+    pub fn memory(&self, info: &IvectorInfo) -> Result<usize, Refusal> {
+        let n = self.lengths(info)?;
         let (r, e) = (n.rings, n.estimate);
         let floats = [r.frames, r.waiting_weights].map(|n| n.saturating_mul(4));
         let others = [r.rows, r.waiting_frames, e.cmvn_stats, e.linear, e.quadratic, e.current, e.scratch].map(|n| n.saturating_mul(8));
-        floats.into_iter().chain(others).fold(0, usize::saturating_add)
+        Ok(floats.into_iter().chain(others).fold(0, usize::saturating_add))
+    }
+
+    /// The lengths of a stream's rooms: the least that hold as much.
+    fn lengths(&self, info: &IvectorInfo) -> Result<RoomLengths, Refusal> {
+        // SAFETY: numbers alone.
+        let a = unsafe { sys::shofrakin_rooms_needed(*info.dimensions(), self.frames, self.rows_for(info), self.waiting) };
+        Refusal::of(a.refusal)?;
+        Ok(a.lengths)
     }
 }
 
@@ -89,10 +111,10 @@ pub struct IvectorStream {
 }
 
 impl IvectorStream {
-    /// A fresh stream on a model. Refusal 8 where the room has no frame, or fewer than two rows.
+    /// A fresh stream on a model. Refusal 8 where the room has no frame or fewer than two rows, or more than 1,000,000,000 frames or twice as many rows.
     #[rustfmt::skip]
     pub fn new(info: &IvectorInfo, room: Room) -> Result<IvectorStream, Refusal> {
-        let n = lengths::rooms(info.dimensions(), room.frames, room.rows_for(info), room.waiting);
+        let n = room.lengths(info)?;
         let mut frames = vec![0f32; n.rings.frames];
         let mut rows = vec![0f64; n.rings.rows];
         let waiting_frames = vec![0usize; n.rings.waiting_frames];
@@ -132,7 +154,7 @@ impl IvectorStream {
     }
 
     /// Changes of the weights of input frames, applied as their frames are reached; at most [`MAX_CHANGES`]. From the first such call on,
-    /// even an empty one, fetches are weighted. Refusals 16 to 19.
+    /// even an empty one, fetches are weighted. Refusals 16, 17, 30 and 19.
     pub fn update_frame_weights(&mut self, deltas: &[(usize, f32)]) -> Result<Held, Refusal> {
         // one more than a call takes, so that the call itself refuses a list that is too long
         let (mut frames, mut weights) = ([0; MAX_CHANGES + 1], [0.0; MAX_CHANGES + 1]);
@@ -173,7 +195,11 @@ impl IvectorStream {
         self.answered(a)
     }
 
-    /// An utterance begins at `frame`, and no change will reach before it: frees what neither it nor a waiting change can need.
+    /// An utterance begins at `frame`, and no change may name a frame before it from now on (30): frees what neither it nor a waiting change can need. Any
+    /// frame number is taken and none is taken back: a forget far ahead ends all changes of this stream for good, but for the empty one.
+    ///
+    /// Where all frames below `frame` were fetched and no change below it waits, at most the frames from it on and the left context are held
+    /// (`held-after-forget` of docs/PROOFS.md).
     #[rustfmt::skip]
     pub fn forget_before(&mut self, frame: usize) -> Result<Held, Refusal> {
         // SAFETY: as in `change`.
@@ -187,7 +213,8 @@ impl IvectorStream {
     }
 
     /// The window of the fetches to come, 1 to 1,000 frames: what is known so far carries over. Refusals 31, and 32 for a window above the longest since
-    /// the mark last rose, once older rows are gone.
+    /// the mark last rose, once older rows are gone. So from then on the longest can only fall: a stream that gets a window of 1 and begins an utterance
+    /// is left with 1. A window above the model's needs more rows ([`Room::rows`]).
     #[rustfmt::skip]
     pub fn set_cmn_window(&mut self, window: usize) -> Result<Held, Refusal> {
         // SAFETY: as in `change`.
@@ -249,6 +276,20 @@ impl IvectorStream {
         };
         let held = self.answered(a)?;
         Ok(Fetched { held, not_finite: a.not_finite, nan_likelihoods: a.nan_likelihoods })
+    }
+
+    /// What is held now: neither a round nor a step over registers tells both counts, and a finish on a copy of the record does.
+    #[rustfmt::skip]
+    pub(crate) fn counted(&self) -> Held {
+        let mut copy = self.record;
+        // SAFETY: as in `change`; nothing but the copy is written.
+        let a = unsafe {
+            sys::shofrakin_set_input_finished(
+                &mut copy, self.frames.as_ptr(), self.frames.len(), self.rows.as_ptr(), self.rows.len(),
+                self.waiting_frames.as_ptr(), self.waiting_frames.len(), self.waiting_weights.as_ptr(), self.waiting_weights.len(),
+            )
+        };
+        Held { frames: a.frames_held, rows: a.rows_held }
     }
 
     /// How many frames can be fetched: those accepted, less the right context until the input is finished.

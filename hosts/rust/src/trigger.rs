@@ -1,4 +1,4 @@
-use crate::{sys, Held, IvectorStream, PhoneSegment, Refusal, SilenceWeighting, Voice};
+use crate::{sys, IvectorStream, PhoneSegment, Refusal, SilenceWeighting, Voice};
 
 /// How a round ended.
 #[derive(Clone, Copy, Debug, PartialEq)]
@@ -83,19 +83,5 @@ impl IvectorStream {
             Ok(()) => RoundEnd::NoVector,
         };
         Round { end, changes: frames.into_iter().zip(weights).take(a.changes).collect() }
-    }
-
-    /// What is held now: a round tells no counts, and a finish on a copy of the record does.
-    #[rustfmt::skip]
-    fn counted(&self) -> Held {
-        let mut copy = self.record;
-        // SAFETY: as above; nothing but the copy is written.
-        let a = unsafe {
-            sys::shofrakin_set_input_finished(
-                &mut copy, self.frames.as_ptr(), self.frames.len(), self.rows.as_ptr(), self.rows.len(),
-                self.waiting_frames.as_ptr(), self.waiting_frames.len(), self.waiting_weights.as_ptr(), self.waiting_weights.len(),
-            )
-        };
-        Held { frames: a.frames_held, rows: a.rows_held }
     }
 }

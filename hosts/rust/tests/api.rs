@@ -171,26 +171,61 @@ fn a_refused_folder_names_the_file() {
 #[test]
 fn settings() {
     let dir = folder("settings");
-    let with = |splice: &[u8], cmvn: &[u8]| {
+    let open = |splice: &[u8], cmvn: &[u8]| {
         std::fs::write(dir.join("splice.conf"), splice).unwrap();
         std::fs::write(dir.join("online_cmvn.conf"), cmvn).unwrap();
-        IvectorInfo::open(&dir).map(|i| *i.options()).map_err(|e| match e {
-            OpenError::Refused(r, _) => r.number(),
-            e => panic!("{e}"),
-        })
+        IvectorInfo::open(&dir)
     };
+    let with = |splice: &[u8], cmvn: &[u8]| *open(splice, cmvn).unwrap().options();
     let one = b"--left-context=1\n--right-context=1";
-    let o = with(one, b" --cmn-window=20 \n--global-frames=+7\n--cmn-min-energy=-2.5e1\n--cmn-window=30\n--speaker-frames=1\n").unwrap();
+    let o = with(one, b" --cmn-window=20 \n--global-frames=+7\n--cmn-min-energy=-2.5e1\n--cmn-window=30\n--speaker-frames=1\n");
     assert_eq!((o.cmn_window, o.global_frames, o.min_energy), (20, 7, -25.0));
     // the first line with a key decides; what can't be read leaves the default
-    let o = with(one, b"--cmn-window=x\n--cmn-window=30\n--cmn-min-energy=16777216\n#--global-frames=1").unwrap();
+    let o = with(one, b"--cmn-window=x\n--cmn-window=30\n--cmn-min-energy=16777216\n#--global-frames=1");
     assert_eq!((o.cmn_window, o.global_frames, o.min_energy), (600, 200, 50.0));
-    assert_eq!(with(one, b"--cmn-min-energy=1.00000e-5").unwrap().min_energy, 1e-5);
-    assert_eq!(with(one, b"--cmn-min-energy=1e-11").unwrap().min_energy, 50.0);
-    assert_eq!(with(one, b"--cmn-window=0"), Err(1));
-    assert_eq!(with(one, b"\xff"), Err(25));
-    assert_eq!(with(one, &[b'\n'; 65537]), Err(25));
-    assert!(with(one, &[b'\n'; 65536]).is_ok());
+    assert_eq!(with(one, b"--cmn-min-energy=1.00000e-5").min_energy, 1e-5);
+    assert_eq!(with(one, b"--cmn-min-energy=1e-11").min_energy, 50.0);
+    assert!(open(one, &[b'\n'; 65536]).is_ok());
+    // a refused file is named: the first of two
+    let says = |splice: &[u8], cmvn: &[u8]| open(splice, cmvn).unwrap_err().to_string();
+    let in_file = |name: &str, what: &str| format!("{}: refused, {what}", dir.join(name).display());
+    let text = "25: a settings text is not ASCII, or longer than 65,536 bytes";
+    let range = "1: an option is outside its range";
+    let (first, second) = ("splice.conf", "online_cmvn.conf");
+    assert_eq!(says(one, b"\xff"), in_file(second, text));
+    assert_eq!(says(b"--left-context=1\n\x80", b""), in_file(first, text));
+    assert_eq!(says(b"\xff", b"\xff"), in_file(first, text));
+    assert_eq!(says(one, &[b'\n'; 65537]), in_file(second, text));
+    assert_eq!(says(&[b'\n'; 65537], b""), in_file(first, text));
+    assert_eq!(says(one, b"--cmn-window=0"), in_file(second, range));
+    assert_eq!(says(b"--left-context=9", b"--cmn-window=0"), in_file(first, range));
+    // 25 comes before 1, and both before a file of the model, even one that is not there
+    assert_eq!(says(b"--left-context=9", b"\xff"), in_file(second, text));
+    std::fs::write(dir.join("final.dubm"), b"").unwrap();
+    assert_eq!(says(one, b"--global-frames=0"), in_file(second, range));
+    std::fs::remove_file(dir.join("final.dubm")).unwrap();
+    assert_eq!(says(one, b"\xff"), in_file(second, text));
+    // one that is there and can't be read
+    std::fs::remove_file(dir.join(first)).unwrap();
+    std::fs::create_dir(dir.join(first)).unwrap();
+    assert!(matches!(IvectorInfo::open(&dir), Err(OpenError::Unread(p, _)) if p == dir.join(first)));
+}
+
+/// What the settings' bytes give is what the options do, and no settings are the defaults.
+#[test]
+fn settings_from_bytes() {
+    assert_eq!(IvectorOptions::from_settings(b"", b""), Ok(IvectorOptions::default()));
+    assert_eq!(number(IvectorOptions::from_settings(b"", b"\x80")), 25);
+    let b = p9();
+    let load = |splice: &[u8], online: &[u8]| IvectorInfo::from_bytes_with_settings(splice, online, &b[0], &b[1], &b[2], &b[3]);
+    let none = b"--left-context=0\n--right-context=0\n";
+    let o = IvectorOptions::from_settings(none, b"--cmn-window=7").unwrap();
+    assert_eq!(o, IvectorOptions { left_context: 0, right_context: 0, cmn_window: 7, ..IvectorOptions::default() });
+    let (x, y) = (load(none, b"--cmn-window=7").unwrap(), IvectorInfo::from_bytes(o, &b[0], &b[1], &b[2], &b[3]).unwrap());
+    assert_eq!((x.options(), x.dimensions(), x.memory()), (y.options(), y.dimensions(), y.memory()));
+    assert_eq!(number(load(b"", b"")), 5);
+    assert_eq!(number(load(b"--left-context=9", b"")), 1);
+    assert_eq!(number(load(b"--left-context=9", b"\xff")), 25);
 }
 
 #[test]
@@ -198,6 +233,13 @@ fn what_a_stream_refuses() {
     let info = info();
     assert_eq!(number(IvectorStream::new(&info, Room { frames: 0, ..Room::default() })), 8);
     assert_eq!(number(IvectorStream::new(&info, Room { rows: Some(1), ..Room::default() })), 8);
+    let large = Room { frames: 1_000_000_001, rows: Some(2), waiting: 0 };
+    for room in [large, Room { frames: 1, rows: Some(2_000_000_001), waiting: 0 }, Room::for_utterances(&info, usize::MAX)] {
+        assert_eq!(number(IvectorStream::new(&info, room)), 8);
+        assert_eq!(number(room.memory(&info)), 8);
+    }
+    // 3 frames and 603 rows of 4 numbers, 2 changes, and the fetch's rooms: 5, 3, 6, 3, and 2 Gaussians of 3 or 3 by 3
+    assert_eq!(Room { frames: 3, rows: None, waiting: 2 }.memory(&info), Ok(4 * (12 + 2) + 8 * (2412 + 2 + 5 + 3 + 6 + 3 + 12)));
     let mut s = IvectorStream::new(&info, Room { frames: 3, rows: None, waiting: 2 }).unwrap();
     let mut out = [0.0; 3];
     assert_eq!(number(s.push_frame(&[1.0])), 11);
@@ -285,24 +327,105 @@ fn forgetting_changes_no_vector() {
     assert_eq!(keeps.held().frames, n);
 }
 
-/// A caller that fetches and forgets at each utterance's start never meets a full room in the longest utterance and both contexts.
+/// P9's model with contexts and a window.
+fn spliced(left: usize, right: usize, window: usize) -> IvectorInfo {
+    let columns = left + 1 + right;
+    let mut b = p9();
+    b[2] = [b"\0BFM " as &[u8], &[4, 1, 0, 0, 0], &[4, columns as u8, 0, 0, 0], &1f32.to_le_bytes().repeat(columns)].concat();
+    let o = IvectorOptions { left_context: left, right_context: right, cmn_window: window, posterior_scale: 0.25, ..IvectorOptions::default() };
+    IvectorInfo::from_bytes(o, &b[0], &b[1], &b[2], &b[3]).unwrap()
+}
+
+/// The example of crates/program/proofs/Tight.antt: three utterances of 2 frames at contexts 1 and 1 and window 2, the second and the third begun by a fetch
+/// of the last ready frame and a forget. There the calls' refusal numbers are computed from the definitions, in exactly these rooms, with a frame less,
+/// and with a row less.
+#[test]
+fn rooms_are_tight() {
+    let info = spliced(1, 1, 2);
+    let room = Room::for_utterances(&info, 2);
+    assert_eq!((room.frames, room.rows_for(&info)), (4, 6));
+    let numbers = |frames: usize, rows: usize| {
+        let mut s = IvectorStream::new(&info, Room { frames, rows: Some(rows), waiting: 1 }).unwrap();
+        let calls = [('p', 0), ('p', 0), ('v', 0), ('d', 2), ('p', 0), ('p', 0), ('v', 2), ('d', 4), ('p', 0), ('p', 0)];
+        calls.map(|(call, at)| {
+            let r = match call {
+                'p' => s.push_frame(&[60.0]),
+                'v' => s.get_frame(at, &mut [0.0]).map(|a| a.held),
+                _ => s.forget_before(at),
+            };
+            r.map_or_else(Refusal::number, |_| 0)
+        })
+    };
+    assert_eq!(numbers(4, 6), [0; 10]);
+    assert_eq!(numbers(3, 6), [0, 0, 0, 0, 0, 14, 21, 0, 14, 14]);
+    assert_eq!(numbers(4, 5), [0, 0, 0, 0, 0, 0, 0, 0, 0, 15]);
+}
+
+/// A caller that pushes an utterance, fetches the last ready frame and forgets is never refused 14 or 15 in rooms by the rules, and is in rooms of a frame or
+/// a row less, once its utterances are as long as they may be.
 #[test]
 fn utterances_fit_in_their_room() {
-    let info = info();
-    let longest = 40;
-    let room = Room::for_utterances(&info, longest);
-    assert_eq!((room.frames, room.rows_for(&info)), (42, 642));
-    let mut s = IvectorStream::new(&info, room).unwrap();
-    let (mut out, mut start) = ([0.0; 3], 0);
-    for t in 0..10_000 {
-        s.push_frame(&frame(t)).unwrap();
-        // an utterance is over as soon as its last frame is ready
-        if s.num_frames_ready() == start + longest {
-            start += longest;
-            s.get_frame(start - 1, &mut out).unwrap();
-            s.forget_before(start).unwrap();
-        }
+    for (left, right, window, longest) in [(0, 0, 1, 2), (1, 1, 2, 2), (3, 3, 10, 5), (8, 8, 20, 1), (0, 4, 7, 3), (5, 0, 3, 40), (3, 3, 600, 100)] {
+        let info = spliced(left, right, window);
+        let room = Room { waiting: 0, ..Room::for_utterances(&info, longest) };
+        assert_eq!((room.frames, room.rows_for(&info)), (longest + left + right, longest + left + right + window));
+        // how many pushes are refused 14, and 15, and how many frames were held at most
+        let refused = |frames: usize, rows: usize, any_length: bool| {
+            let mut s = IvectorStream::new(&info, Room { frames, rows: Some(rows), waiting: 0 }).unwrap();
+            let (mut counts, mut most, mut pushed, mut x) = ([0, 0], 0, 0, 1u32);
+            while pushed < 3000 {
+                x = x.wrapping_mul(1_664_525).wrapping_add(1_013_904_223);
+                for _ in 0..if any_length { 1 + (x >> 16) as usize % longest } else { longest } {
+                    match s.push_frame(&[(pushed % 90) as f32]).map_err(Refusal::number) {
+                        Ok(h) => (pushed, most) = (pushed + 1, most.max(h.frames)),
+                        Err(n @ (14 | 15)) => counts[n - 14] += 1,
+                        Err(n) => panic!("{n}"),
+                    }
+                }
+                if let Some(last) = s.num_frames_ready().checked_sub(1) {
+                    s.get_frame(last, &mut [0.0]).unwrap();
+                }
+                s.forget_before(pushed).unwrap();
+                if counts != [0, 0] {
+                    break;
+                }
+            }
+            (counts, most)
+        };
+        let (f, r) = (room.frames, room.rows_for(&info));
+        assert_eq!(refused(f, r, true).0, [0, 0]);
+        assert_eq!(refused(f, r, false), ([0, 0], f));
+        let fewer = refused(f - 1, r, false).0;
+        assert!(fewer[0] > 0 && fewer[1] == 0, "{fewer:?}");
+        let fewer = refused(f, r - 1, false).0;
+        assert!(fewer[0] == 0 && fewer[1] > 0, "{fewer:?}");
     }
+}
+
+/// The same commands as plain calls and as steps over registers.
+#[test]
+fn a_board_with_registers() {
+    let info = info();
+    let (mut plain, mut board) = (IvectorStream::new(&info, Room::default()).unwrap(), IvectorStream::new(&info, Room::default()).unwrap());
+    let (mut a, mut b, mut block) = ([0.0; 3], [0.0; 3], [0; 16]);
+    for t in 0..50 {
+        plain.push_frame(&frame(t)).unwrap();
+        block[0] = 1;
+        board.registers_step(&mut block, &frame(t), &mut b).unwrap();
+        assert_eq!((block[0], block[1], block[8]), (0, 4, t as u8 + 1));
+    }
+    plain.get_frame(40, &mut a).unwrap();
+    (block[0], block[4]) = (4, 40);
+    board.registers_step(&mut block, &[], &mut b).unwrap();
+    assert_eq!((block[1], block[12], a), (5, 0, b));
+    plain.forget_before(41).unwrap();
+    (block[0], block[4]) = (3, 41);
+    board.registers_step(&mut block, &[], &mut b).unwrap();
+    assert_eq!(plain.held(), board.held());
+    (block[0], block[4]) = (4, 50);
+    board.registers_step(&mut block, &[], &mut b).unwrap();
+    assert_eq!((block[1], block[12]), (6, 21));
+    assert_eq!(number(board.registers_step(&mut block[..15], &[], &mut b)), 10);
 }
 
 #[test]

@@ -161,4 +161,6 @@ fn sentences_are_the_c_helpers() {
     assert_eq!(have.remove(&0), Some("taken"));
     let want: BTreeMap<_, _> = (0..100).filter_map(|n| Some((n, Refusal::sentence_of(n)?))).collect();
     assert_eq!(have, want);
+    // every number that a call or a program refuses with
+    assert!(want.keys().copied().eq(1..=33), "{:?}", want.keys());
 }

@@ -147,6 +147,20 @@ fn what_is_damaged() {
     std::fs::remove_file(&ie).unwrap();
     let (status, _, said) = run(&["info", model], b"");
     assert_eq!((status, said), (1, format!("shofrakin: {}: No such file or directory (os error 2)\n", ie.display())));
+    // a settings file that is refused, by its text or by an option
+    for (name, text, what) in [
+        ("splice.conf", b"--left-context=1\xa0\n" as &[u8], "25: a settings text is not ASCII, or longer than 65,536 bytes"),
+        ("online_cmvn.conf", &[b' '; 65537], "25: a settings text is not ASCII, or longer than 65,536 bytes"),
+        ("online_cmvn.conf", b"--cmn-window=1001", "1: an option is outside its range"),
+    ] {
+        let whole = std::fs::read(dir.join(name)).unwrap();
+        std::fs::write(dir.join(name), text).unwrap();
+        std::fs::write(&ie, &bytes).unwrap();
+        let (status, out, said) = run(&["extract", model, "-", "-"], b"");
+        assert_eq!((status, out), (1, vec![]));
+        assert_eq!(said, format!("shofrakin: {}: refused, {what}\n", dir.join(name).display()));
+        std::fs::write(dir.join(name), whole).unwrap();
+    }
     // features that are not there leave the output alone
     let out = dir.join("out.ark");
     let (status, _, said) = run(&["extract", MODEL, "ark:/no/such/feats.ark", out.to_str().unwrap()], b"");
