@@ -2,10 +2,12 @@
  *
  *     rounds MODEL FEATURES
  *
- * MODEL is a folder with final.dubm, final.ie, final.mat and global_cmvn.stats. FEATURES is text, a frame to a line. Each round is given 20 frames and the
- * path that a decoder would give: five frames of silence, then speech. The first round finds nobody enrolled, which is refused at step 7 with the vector
- * there, and that is enrolled; the later ones ask for it. The last round has a frame cut short. */
+ * MODEL is a folder with final.dubm, final.ie, final.mat and global_cmvn.stats; splice.conf and online_cmvn.conf count where they are there. FEATURES
+ * is text, a frame to a line. Each round is given 20 frames and the path that a decoder would give: five frames of silence, then speech. The first round
+ * finds nobody enrolled, which is refused at step 7 with the vector there, and that is enrolled; the later ones ask for it. The last round has a frame
+ * cut short. */
 #include "shofrakin_live.h"
+#include <errno.h>
 #include <stdio.h>
 #include <stdlib.h>
 
@@ -21,10 +23,12 @@ static void take(const char *what, size_t refusal) {
     if (refusal) fprintf(stderr, "%s: refused, %zu: %s\n", what, refusal, shofrakin_sentence(refusal)), exit(1);
 }
 
-static const uint8_t *read_file(const char *folder, const char *name, size_t *len) {
+/* A settings file may be missing, and has no bytes then. */
+static uint8_t *read_file(const char *folder, const char *name, size_t *len) {
     char path[4096];
     snprintf(path, sizeof path, "%s/%s", folder, name);
     FILE *f = fopen(path, "rb");
+    if (!f && errno == ENOENT && strstr(name, ".conf")) return calloc(1, 1);
     if (!f) perror(path), exit(1);
     uint8_t *bytes = NULL;
     for (size_t n = 1; n > 0; *len += n) {
@@ -63,12 +67,14 @@ int main(int argc, char **argv) {
     files.extractor = read_file(argv[1], "final.ie", &files.extractor_len);
     files.lda = read_file(argv[1], "final.mat", &files.lda_len);
     files.cmvn = read_file(argv[1], "global_cmvn.stats", &files.cmvn_len);
-    shofrakin_options opts = shofrakin_default_options();
-    opts.left_context = opts.right_context = 1;
-    opts.min_energy = 1;
-    size_t bytes = shofrakin_model_memory(opts, files);
-    take("load", shofrakin_model_open(&model, opts, files, malloc(bytes), bytes));
-    shofrakin_room room = {.frames = 2 * LENGTH, .waiting = 4 * LENGTH};
+    size_t splice_len = 0, online_len = 0;
+    uint8_t *splice = read_file(argv[1], "splice.conf", &splice_len), *online = read_file(argv[1], "online_cmvn.conf", &online_len);
+    shofrakin_settings_answer o = shofrakin_settings(splice, splice_len, online, online_len);
+    take("settings", o.refusal);
+    free(splice), free(online);
+    size_t bytes = shofrakin_model_memory(o.opts, files);
+    take("load", shofrakin_model_open(&model, o.opts, files, malloc(bytes), bytes));
+    shofrakin_room room = shofrakin_room_for_utterances(&model, LENGTH);
     bytes = shofrakin_live_memory(&model, room);
     take("stream", shofrakin_live_open(&live, &model, room, malloc(bytes), bytes));
 

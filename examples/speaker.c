@@ -2,10 +2,11 @@
  *
  *     speaker MODEL FEATURES
  *
- * MODEL is a folder with final.dubm, final.ie, final.mat and global_cmvn.stats. FEATURES is text, a frame to a line. Every 10 frames, and
- * at the end, a line: the frame, how many frames and prefix rows are held, then the vector. What is behind the last fetch is forgotten, so
- * that the rooms, for 32 frames, serve an input of any length. */
+ * MODEL is a folder with final.dubm, final.ie, final.mat and global_cmvn.stats; splice.conf and online_cmvn.conf count where they are there. FEATURES
+ * is text, a frame to a line. Every 10 frames, and at the end, a line: the frame, how many frames and prefix rows are held, then the vector. What is
+ * behind the last fetch is forgotten, so that rooms for a few frames serve an input of any length. */
 #include "shofrakin_live.h"
+#include <errno.h>
 #include <stdio.h>
 #include <stdlib.h>
 
@@ -16,10 +17,12 @@ static void take(const char *what, size_t refusal) {
     if (refusal) fprintf(stderr, "%s: refused, %zu: %s\n", what, refusal, shofrakin_sentence(refusal)), exit(1);
 }
 
-static const uint8_t *read_file(const char *folder, const char *name, size_t *len) {
+/* A settings file may be missing, and has no bytes then. */
+static uint8_t *read_file(const char *folder, const char *name, size_t *len) {
     char path[4096];
     snprintf(path, sizeof path, "%s/%s", folder, name);
     FILE *f = fopen(path, "rb");
+    if (!f && errno == ENOENT && strstr(name, ".conf")) return calloc(1, 1);
     if (!f) perror(path), exit(1);
     uint8_t *bytes = NULL;
     for (size_t n = 1; n > 0; *len += n) {
@@ -53,12 +56,15 @@ int main(int argc, char **argv) {
     files.extractor = read_file(argv[1], "final.ie", &files.extractor_len);
     files.lda = read_file(argv[1], "final.mat", &files.lda_len);
     files.cmvn = read_file(argv[1], "global_cmvn.stats", &files.cmvn_len);
-    shofrakin_options opts = shofrakin_default_options();
-    opts.left_context = opts.right_context = 1;
-    opts.min_energy = 1;
-    size_t bytes = shofrakin_model_memory(opts, files);
-    take("load", shofrakin_model_open(&model, opts, files, malloc(bytes), bytes));
-    shofrakin_room room = {.frames = 32};
+    size_t splice_len = 0, online_len = 0;
+    uint8_t *splice = read_file(argv[1], "splice.conf", &splice_len), *online = read_file(argv[1], "online_cmvn.conf", &online_len);
+    shofrakin_settings_answer o = shofrakin_settings(splice, splice_len, online, online_len);
+    take("settings", o.refusal);
+    free(splice), free(online);
+    size_t bytes = shofrakin_model_memory(o.opts, files);
+    take("load", shofrakin_model_open(&model, o.opts, files, malloc(bytes), bytes));
+    /* ten frames from one fetch to the next, and before the first its right context besides */
+    shofrakin_room room = shofrakin_room_for_utterances(&model, 10 + o.opts.right_context);
     bytes = shofrakin_live_memory(&model, room);
     take("stream", shofrakin_live_open(&live, &model, room, malloc(bytes), bytes));
 

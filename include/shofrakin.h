@@ -233,13 +233,16 @@ typedef struct {
 
 /* A fresh stream on a loaded model, in rooms for F frames (Fb numbers) and R prefix rows (Rb numbers, R above 1), lists for the changes
  * that wait, and rooms of b+1, s, s(s+1)/2 and s numbers; scratch is the larger of gd and ss. Longer rooms are taken. Refusals 10, 8.
- * F frames are as many as may be held at once. How long the rooms have to be (proved over every list of calls, crates/program/specs/Habit.antt):
- * - R = F + window: no push is refused 15.
- * - F = L + left + right context: no push is refused 14, where at most L frames are pushed from one start of an utterance to the next. A start is a
- *   forget of a frame above the last ready one (the count of frames pushed will do), where that one was fetched and no change since has named it or a
- *   frame below it. So a host that pushes an utterance, fetches the last ready frame and forgets is never refused for room.
- * - After a forget of f, where all frames below f were fetched and no change below f waits, at most the frames from f on and the left context are
- *   held. */
+ * F frames are as many as may be held at once. How long the rooms have to be, proved over every list of calls, refused ones among them
+ * (crates/program/specs/Habit.antt, docs/PROOFS.md):
+ * - rows-enough: with R = F + window no push is refused 15. The window is the options', or the longest that is set.
+ * - frames-enough: with F = L + left + right context no push is refused 14, where at most L frames are pushed from one start of an utterance to the next.
+ *   A start is a forget of a frame above the last ready one (the count of frames pushed will do), where that one was fetched and no change since has
+ *   named it or a frame below it.
+ * - all-taken: so a host that pushes an utterance, fetches the last ready frame and forgets, again and again, has every frame taken, up to 1,000,000,000.
+ * - held-after-forget: after a forget of f, where all frames below f were fetched and no change below f waits, at most the frames from f on and the left
+ *   context are held.
+ * Neither room can be less: with a frame fewer a push of the example `tight` is refused 14, with a row fewer 15. */
 shofrakin_new_stream_answer shofrakin_new_stream(shofrakin_info info,
     const float *gconsts, size_t gconsts_len, const float *means_invvars_t, size_t means_invvars_t_len,
     const float *inv_vars_t, size_t inv_vars_t_len, const double *sigma_inv_m, size_t sigma_inv_m_len,

@@ -6,11 +6,12 @@
  * record was made with, bools are 0 or 1. Left to the caller: no pointer is null, files and lists are initialised and overlap no
  * block, and a stream, or a table, is used by one thread at a time. A model is only read once it is open, and may be shared.
  *
+ *     shofrakin_options opts = shofrakin_settings(splice, splice_len, online_cmvn, online_cmvn_len).opts;
  *     shofrakin_model m;
  *     size_t n = shofrakin_model_memory(opts, files);
  *     size_t refusal = shofrakin_model_open(&m, opts, files, malloc(n), n);
  *     shofrakin_live s;
- *     shofrakin_room room = {100, 0, 0};
+ *     shofrakin_room room = shofrakin_room_for_utterances(&m, 500);
  *     n = shofrakin_live_memory(&m, room);
  *     refusal = shofrakin_live_open(&s, &m, room, malloc(n), n);
  *     shofrakin_stream_answer a = shofrakin_live_push_frame(&s, frame, m.info.dims.base_dim);
@@ -54,17 +55,19 @@ static inline const char *shofrakin_sentence(size_t refusal) {
     case 23: return "more decoder frames than the silence table has, or a frame number too high";
     case 24: return "the silence lists differ in length, or are too short for the answer";
     case 25: return "a settings text is not ASCII, or longer than 65,536 bytes";
+    case 26: return "the output is shorter than the model's files";
     case 27: return "no vector is enrolled, or more than 32 are";
     case 28: return "a vector's length is not the dimension";
     case 29: return "a number of a vector or the limit is not finite, or the limit is below 0";
     case 30: return "a change names a frame below one that a forget named";
     case 31: return "the window is outside 1 to 1,000";
     case 32: return "the window is above the longest, and older rows are gone";
+    case 33: return "a seed or a size outside its limits, a list too short for what is drawn, or input that can't be read";
     default: return "a number that this header has no sentence for";
     }
 }
 
-/* The original's defaults. */
+/* The original's defaults. A model's own are in its maker's settings files: shofrakin_settings. */
 static inline shofrakin_options shofrakin_default_options(void) {
     shofrakin_options o = {3, 3, 600, 200, 5, 15, 0.025f, 0.1f, 100, 50};
     return o;
@@ -97,161 +100,74 @@ typedef struct {
     float *lda_offset;
 } shofrakin_model;
 
-/* What is left of a file; once something of it is not as it should be, nothing. */
-typedef struct {
-    const uint8_t *at;
-    size_t left;
-    bool good;
-} shofrakin_rest;
+/* The files of a model, as the calls are lent them. */
+#define SHOFRAKIN_FILES_(f) (f).gmm, (f).gmm_len, (f).extractor, (f).extractor_len, (f).lda, (f).lda_len, (f).cmvn, (f).cmvn_len
 
-static inline const uint8_t *shofrakin_rest_skip(shofrakin_rest *r, size_t n) {
-    const uint8_t *p = r->at;
-    if (!r->good || n > r->left) {
-        r->good = false;
-        r->left = 0;
-        return p;
-    }
-    r->at += n;
-    r->left -= n;
-    return p;
-}
-
-static inline shofrakin_rest shofrakin_rest_of(const uint8_t *p, size_t n) {
-    shofrakin_rest r = {p, n, true};
-    const uint8_t *mark = shofrakin_rest_skip(&r, 2);
-    r.good = r.good && mark[0] == 0 && mark[1] == 'B';
-    return r;
-}
-
-/* Whether the next word is this one; it is passed over if so. */
-static inline bool shofrakin_rest_word(shofrakin_rest *r, const char *word) {
-    size_t i = 0, n = strlen(word);
-    while (r->good && i < r->left && (r->at[i] == ' ' || r->at[i] == '\n' || r->at[i] == '\t')) i++;
-    if (!r->good || r->left - i <= n || memcmp(r->at + i, word, n) != 0) return false;
-    if (r->at[i + n] != ' ' && r->at[i + n] != '\n' && r->at[i + n] != '\t') return false;
-    shofrakin_rest_skip(r, i + n + 1);
-    return true;
-}
-
-static inline void shofrakin_rest_expect(shofrakin_rest *r, const char *word) { r->good = shofrakin_rest_word(r, word) && r->good; }
-
-static inline size_t shofrakin_rest_number(shofrakin_rest *r) {
-    const uint8_t *p = shofrakin_rest_skip(r, 5);
-    r->good = r->good && p[0] == 4 && p[4] < 128;
-    return r->good ? (size_t)p[1] | (size_t)p[2] << 8 | (size_t)p[3] << 16 | (size_t)p[4] << 24 : 0;
-}
-
-/* Passes over a vector or a matrix, by its words for floats and doubles; rows are 1 for a vector. */
-static inline void shofrakin_rest_block(shofrakin_rest *r, const char *floats, const char *doubles, size_t *rows, size_t *columns) {
-    size_t width = shofrakin_rest_word(r, floats) ? 4 : 8;
-    if (width == 8) shofrakin_rest_expect(r, doubles);
-    *rows = floats[1] == 'M' ? shofrakin_rest_number(r) : 1;
-    *columns = shofrakin_rest_number(r);
-    r->good = r->good && (*rows == 0 || *columns <= r->left / width / *rows);
-    if (r->good) shofrakin_rest_skip(r, *rows * *columns * width);
-}
-
-/* The dimensions that the files speak of. False where they are not read that far, or they or the contexts are above their limits: a
- * load refuses such files whatever it is lent. Nothing of it is believed: the load reads the files on its own, and sees to its rooms. */
-static inline bool shofrakin_files_dimensions(shofrakin_options o, shofrakin_files f, shofrakin_dimensions *d) {
-    size_t rows, columns, i = 0, words = 0;
-    bool inside = false;
-    shofrakin_rest r = shofrakin_rest_of(f.gmm, f.gmm_len);
-    shofrakin_rest_expect(&r, "<DiagGMM>");
-    if (shofrakin_rest_word(&r, "<GCONSTS>")) shofrakin_rest_block(&r, "FV", "DV", &rows, &columns);
-    shofrakin_rest_expect(&r, "<WEIGHTS>");
-    shofrakin_rest_block(&r, "FV", "DV", &rows, &columns);
-    shofrakin_rest_expect(&r, "<MEANS_INVVARS>");
-    shofrakin_rest_block(&r, "FM", "DM", &d->num_gauss, &d->feat_dim);
-    if (!r.good) return false;
-    r = shofrakin_rest_of(f.extractor, f.extractor_len);
-    shofrakin_rest_expect(&r, "<IvectorExtractor>");
-    shofrakin_rest_expect(&r, "<w>");
-    shofrakin_rest_block(&r, "FM", "DM", &rows, &columns);
-    shofrakin_rest_expect(&r, "<w_vec>");
-    shofrakin_rest_block(&r, "FV", "DV", &rows, &columns);
-    shofrakin_rest_expect(&r, "<M>");
-    d->ext_gauss = shofrakin_rest_number(&r);
-    shofrakin_rest_block(&r, "FM", "DM", &rows, &d->ivector_dim);
-    if (!r.good) return false;
-    r = shofrakin_rest_of(f.lda, f.lda_len);
-    shofrakin_rest_block(&r, "FM", "DM", &rows, &d->lda_cols);
-    if (!r.good) return false;
-    /* the first line of the text with numbers: one for each dimension, and the count */
-    for (; i < f.cmvn_len; i++) {
-        uint8_t c = f.cmvn[i];
-        bool blank = c == ' ' || (c >= 9 && c <= 13) || c == '[' || c == ']';
-        words += !blank && !inside;
-        inside = !blank;
-        if (words && (c == '\n' || c == ']')) break;
-    }
-    if (words < 2) return false;
-    d->base_dim = words - 1;
-    return o.left_context <= 8 && o.right_context <= 8 && d->num_gauss - 1 < 1024 && d->ext_gauss - 1 < 1024 && d->feat_dim - 1 < 64 &&
-        d->ivector_dim - 1 < 128 && d->base_dim - 1 < 64;
-}
-
-/* The lengths of the tables, and of a load's scratch. */
-static inline shofrakin_table_lengths shofrakin_lengths_of_tables(shofrakin_options o, shofrakin_dimensions d) {
-    size_t s = d.ivector_dim;
-    shofrakin_table_lengths n = {d.num_gauss, d.feat_dim * d.num_gauss, d.feat_dim * d.num_gauss, d.ext_gauss * d.feat_dim * s,
-        d.ext_gauss * (s * (s + 1) / 2), d.base_dim * (o.left_context + 1 + o.right_context) * d.feat_dim, d.feat_dim, d.base_dim + 1};
+/* The lengths of the tables that the model in these files needs, and of a load's scratch, or the number that a load refuses the files with: 1 to 7. */
+static inline shofrakin_tables_answer shofrakin_files_tables(shofrakin_options opts, shofrakin_files f) {
+    shofrakin_dimensions_answer d = shofrakin_model_dimensions(opts, SHOFRAKIN_FILES_(f));
+    shofrakin_tables_answer n = shofrakin_tables_needed(opts, d.dims);
+    if (d.refusal) n.refusal = d.refusal;
     return n;
 }
 
-static inline size_t shofrakin_load_scratch(shofrakin_dimensions d) { return d.feat_dim * (d.feat_dim + 1) / 2 + d.feat_dim * d.ivector_dim; }
+static inline size_t shofrakin_tables_bytes(shofrakin_tables_answer a) {
+    shofrakin_table_lengths n = a.tables;
+    return sizeof(double) * (n.sigma_inv_m + n.u + n.global_mean_stats + a.scratch) +
+        sizeof(float) * (n.gconsts + n.means_invvars_t + n.inv_vars_t + n.lda_t + n.lda_offset);
+}
 
 /* How many bytes of memory a model takes; 0 for files that a load refuses. */
 static inline size_t shofrakin_model_memory(shofrakin_options opts, shofrakin_files files) {
-    shofrakin_dimensions d;
-    shofrakin_table_lengths n;
-    if (!shofrakin_files_dimensions(opts, files, &d)) return 0;
-    n = shofrakin_lengths_of_tables(opts, d);
-    return sizeof(double) * (n.sigma_inv_m + n.u + n.global_mean_stats + shofrakin_load_scratch(d)) +
-        sizeof(float) * (n.gconsts + n.means_invvars_t + n.inv_vars_t + n.lda_t + n.lda_offset);
+    shofrakin_tables_answer n = shofrakin_files_tables(opts, files);
+    return n.refusal ? 0 : shofrakin_tables_bytes(n);
 }
 
 /* Loads a model into a block of memory. Its refusal: 1 to 8, or 0. */
 static inline size_t shofrakin_model_open(shofrakin_model *m, shofrakin_options opts, shofrakin_files f, void *memory, size_t bytes) {
-    static const shofrakin_table_lengths none = {0, 0, 0, 0, 0, 0, 0, 0};
+    static const shofrakin_tables_answer none = {0, {0, 0, 0, 0, 0, 0, 0, 0}, 0};
     static double any; /* an address for rooms of no length */
     double *d = &any;
-    size_t scratch = 0, need = shofrakin_model_memory(opts, f);
-    shofrakin_table_lengths n = none;
-    shofrakin_dimensions dims;
+    shofrakin_tables_answer need = shofrakin_files_tables(opts, f);
+    shofrakin_table_lengths n;
     shofrakin_load_answer a;
     /* in a block that is too short, or for files that are refused, no room is lent: a load refuses that itself */
-    if (need > 0 && memory && bytes >= need && shofrakin_files_dimensions(opts, f, &dims)) {
-        n = shofrakin_lengths_of_tables(opts, dims);
-        scratch = shofrakin_load_scratch(dims);
-        memset(memory, 0, need);
-        d = (double *)memory;
-    }
+    if (need.refusal || !memory || bytes < shofrakin_tables_bytes(need)) need = none;
+    else d = (double *)memset(memory, 0, shofrakin_tables_bytes(need));
+    n = need.tables;
     m->sigma_inv_m = d;
     m->u = m->sigma_inv_m + n.sigma_inv_m;
     m->global_mean_stats = m->u + n.u;
     d = m->global_mean_stats + n.global_mean_stats;
-    m->gconsts = (float *)(d + scratch);
+    m->gconsts = (float *)(d + need.scratch);
     m->means_invvars_t = m->gconsts + n.gconsts;
     m->inv_vars_t = m->means_invvars_t + n.means_invvars_t;
     m->lda_t = m->inv_vars_t + n.inv_vars_t;
     m->lda_offset = m->lda_t + n.lda_t;
-    a = shofrakin_load(opts, f.gmm, f.gmm_len, f.extractor, f.extractor_len, f.lda, f.lda_len, f.cmvn, f.cmvn_len,
-        m->gconsts, n.gconsts, m->means_invvars_t, n.means_invvars_t, m->inv_vars_t, n.inv_vars_t, m->sigma_inv_m, n.sigma_inv_m,
-        m->u, n.u, m->lda_t, n.lda_t, m->lda_offset, n.lda_offset, m->global_mean_stats, n.global_mean_stats, d, scratch);
+    a = shofrakin_load(opts, SHOFRAKIN_FILES_(f), m->gconsts, n.gconsts, m->means_invvars_t, n.means_invvars_t, m->inv_vars_t, n.inv_vars_t,
+        m->sigma_inv_m, n.sigma_inv_m, m->u, n.u, m->lda_t, n.lda_t, m->lda_offset, n.lda_offset, m->global_mean_stats, n.global_mean_stats,
+        d, need.scratch);
     m->info = a.info;
     return a.refusal;
 }
 
 /* ---- the stream */
 
-/* How much a stream has room for: frames that may be held at once (a caller that fetches and forgets at each utterance's start needs its
- * longest utterance and both contexts), prefix rows (0: as many as the frames and the window, which are enough), and changes that wait. */
+/* How much a stream has room for: frames that may be held at once, prefix rows (0: as many as the frames and the model's window, as `rows-enough` asks
+ * for; a host that sets a longer window gives the frames and that window), and changes that wait. How long they have to be is told at shofrakin_new_stream. */
 typedef struct {
     size_t frames;
     size_t rows;
     size_t waiting;
 } shofrakin_room;
+
+/* For utterances of at most `longest` frames, each begun by a fetch of the last ready frame and a forget: `longest` frames and both contexts
+ * (`frames-enough`), as many rows as these and the window (`rows-enough`), and 1,024 changes. */
+static inline shofrakin_room shofrakin_room_for_utterances(const shofrakin_model *m, size_t longest) {
+    shofrakin_room room = {longest + m->info.opts.left_context + m->info.opts.right_context, 0, 1024};
+    if (room.frames < longest) room.frames = SIZE_MAX;
+    return room;
+}
 
 /* A stream: its model, its record and its rooms. */
 typedef struct {
@@ -268,20 +184,16 @@ typedef struct {
     float *waiting_weights;
 } shofrakin_live;
 
-static inline shofrakin_room_lengths shofrakin_lengths_of_rooms(const shofrakin_model *m, shofrakin_room room) {
-    shofrakin_dimensions d = m->info.dims;
-    size_t s = d.ivector_dim, gd = d.num_gauss * d.feat_dim, rows = room.rows ? room.rows : room.frames + m->info.opts.cmn_window;
-    shofrakin_room_lengths n = {{room.frames * d.base_dim, rows * d.base_dim, room.waiting, room.waiting},
-        {d.base_dim + 1, s, s * (s + 1) / 2, s, gd > s * s ? gd : s * s}};
-    return n;
+/* The lengths of the rooms, the least that hold as much, or refusal 8 for frames or rows outside their limits. */
+static inline shofrakin_rooms_answer shofrakin_room_lengths_for(const shofrakin_model *m, shofrakin_room room) {
+    return shofrakin_rooms_needed(m->info.dims, room.frames, room.rows ? room.rows : room.frames + m->info.opts.cmn_window, room.waiting);
 }
 
-/* How many bytes of memory a stream takes. No memory is large enough for more than 1,000,000,000 frames, rows or changes. */
+/* How many bytes of memory a stream takes. None is large enough for a room that is refused, or for more than 1,000,000,000 changes: SIZE_MAX. */
 static inline size_t shofrakin_live_memory(const shofrakin_model *m, shofrakin_room room) {
-    const size_t most = 1000000000;
-    shofrakin_room_lengths n;
-    if (room.frames > most || room.rows > most || room.waiting > most) return SIZE_MAX;
-    n = shofrakin_lengths_of_rooms(m, room);
+    shofrakin_rooms_answer a = shofrakin_room_lengths_for(m, room);
+    shofrakin_room_lengths n = a.lengths;
+    if (a.refusal || room.waiting > 1000000000) return SIZE_MAX;
     return sizeof(double) * (n.rings.rows + n.estimate.cmvn_stats + n.estimate.linear + n.estimate.quadratic + n.estimate.current +
                n.estimate.scratch) +
         sizeof(size_t) * n.rings.waiting_frames + sizeof(float) * (n.rings.frames + n.rings.waiting_weights);
@@ -304,10 +216,9 @@ static inline size_t shofrakin_live_open(shofrakin_live *s, const shofrakin_mode
     shofrakin_room_lengths n = none;
     shofrakin_new_stream_answer a;
     size_t need = shofrakin_live_memory(m, room);
-    if (memory && bytes >= need) {
-        n = shofrakin_lengths_of_rooms(m, room);
-        memset(memory, 0, need);
-        d = (double *)memory;
+    if (memory && need < SIZE_MAX && bytes >= need) {
+        n = shofrakin_room_lengths_for(m, room).lengths;
+        d = (double *)memset(memory, 0, need);
     }
     s->model = m;
     s->rows = d;
@@ -333,7 +244,7 @@ static inline shofrakin_stream_answer shofrakin_live_set_input_finished(shofraki
     return shofrakin_set_input_finished(&s->stream, SHOFRAKIN_RINGS_(s, s->stream.lengths));
 }
 
-/* Refusals 16 to 19. */
+/* Refusals 16, 17, 30, 19. */
 static inline shofrakin_stream_answer shofrakin_live_update_frame_weights(
     shofrakin_live *s, const size_t *delta_frames, const float *delta_weights, size_t len) {
     return shofrakin_update_frame_weights(&s->stream, delta_frames, len, delta_weights, len, SHOFRAKIN_RINGS_(s, s->stream.lengths));
@@ -343,10 +254,22 @@ static inline shofrakin_stream_answer shofrakin_live_forget_before(shofrakin_liv
     return shofrakin_forget_before(&s->stream, frame, SHOFRAKIN_RINGS_(s, s->stream.lengths));
 }
 
+/* Refusals 31, 32. */
+static inline shofrakin_stream_answer shofrakin_live_set_cmn_window(shofrakin_live *s, size_t window) {
+    return shofrakin_set_cmn_window(&s->stream, window, SHOFRAKIN_RINGS_(s, s->stream.lengths));
+}
+
 /* The vector's bits, for a memcpy into floats. Refusals 20 to 22. */
 static inline shofrakin_stream_answer shofrakin_live_get_frame(shofrakin_live *s, size_t frame, uint32_t *out, size_t out_len) {
     return shofrakin_get_frame(&s->stream, frame, SHOFRAKIN_TABLES_(s->model), SHOFRAKIN_RINGS_(s, s->stream.lengths),
         SHOFRAKIN_ESTIMATE_(s, s->stream.lengths), out, out_len);
+}
+
+/* A step over a block of sixteen bytes. Refusal 10. */
+static inline shofrakin_step_answer shofrakin_live_registers_step(
+    shofrakin_live *s, uint8_t *block, size_t block_len, const float *frame, size_t frame_len, uint32_t *out, size_t out_len) {
+    return shofrakin_registers_step(&s->stream, block, block_len, frame, frame_len, SHOFRAKIN_TABLES_(s->model),
+        SHOFRAKIN_RINGS_(s, s->stream.lengths), SHOFRAKIN_ESTIMATE_(s, s->stream.lengths), out, out_len);
 }
 
 static inline size_t shofrakin_live_num_frames_ready(const shofrakin_live *s) { return shofrakin_num_frames_ready(&s->stream); }

@@ -222,9 +222,62 @@ static void live(bool exact) {
     free(tables);
 }
 
+/* The rules for the rooms, on P9's model with contexts 1 and 1 and window 2: the example of crates/program/proofs/Tight.antt, three utterances of 2
+ * frames, the second and the third begun by a fetch of the last ready frame and a forget; the calls' refusal numbers in exactly these rooms, with a frame
+ * less, and with a row less, are computed there from the definitions. Then a thousand utterances, of one and of two frames. */
+static void rooms(void) {
+    static const size_t want[3][10] = {{0}, {0, 0, 0, 0, 0, 14, 21, 0, 14, 14}, {0, 0, 0, 0, 0, 0, 0, 0, 0, 15}};
+    static const char calls[] = "ppvdppvdpp";
+    static const size_t at[10] = {0, 0, 0, 2, 0, 0, 2, 4, 0, 0};
+    shofrakin_options opts = shofrakin_settings((const uint8_t *)"--left-context=1\n--right-context=1", 34, (const uint8_t *)"--cmn-window=2", 14).opts;
+    shofrakin_model m;
+    shofrakin_live s;
+    uint32_t out[1];
+    float x = 60;
+    opts.posterior_scale = 0.25f;
+    model(3, 1);
+    shofrakin_files f = {gmm.b, gmm.len, extractor.b, extractor.len, lda.b, lda.len, (const uint8_t *)cmvn_text, sizeof cmvn_text - 1};
+    size_t n = shofrakin_model_memory(opts, f), pushed = 0;
+    unsigned char *tables = block(n, true);
+    is("a model with contexts", shofrakin_model_open(&m, opts, f, tables, n), 0);
+    shofrakin_room room = shofrakin_room_for_utterances(&m, 2);
+    is("frames for utterances of 2", room.frames, 4);
+    is("its rows", shofrakin_room_lengths_for(&m, room).lengths.rings.rows, 6);
+    is("utterances of any length", shofrakin_live_memory(&m, shofrakin_room_for_utterances(&m, SIZE_MAX)) == SIZE_MAX, true);
+    n = shofrakin_live_memory(&m, room);
+    unsigned char *memory = block(n, true);
+    for (size_t less = 0; less < 3; less++) {
+        room.frames = less == 1 ? 3 : 4;
+        room.rows = less == 2 ? 5 : 6;
+        is("a stream in it", shofrakin_live_open(&s, &m, room, memory, n), 0);
+        for (size_t i = 0; i < 10; i++) {
+            size_t got = calls[i] == 'p' ? shofrakin_live_push_frame(&s, &x, 1).refusal
+                : calls[i] == 'v'        ? shofrakin_live_get_frame(&s, at[i], out, 1).refusal
+                                         : shofrakin_live_forget_before(&s, at[i]).refusal;
+            is("a call in it", got, want[less][i]);
+        }
+    }
+    is("a stream by the rules", shofrakin_live_open(&s, &m, shofrakin_room_for_utterances(&m, 2), memory, n), 0);
+    for (size_t u = 0; u < 1000; u++) {
+        for (size_t i = 0; i < 1 + (u % 3 > 0); i++, pushed++) is("an utterance's push", shofrakin_live_push_frame(&s, &x, 1).refusal, 0);
+        if (u > 0) is("its fetch", shofrakin_live_get_frame(&s, shofrakin_live_num_frames_ready(&s) - 1, out, 1).refusal, 0);
+        is("its forget", shofrakin_live_forget_before(&s, pushed).refusal, 0);
+    }
+    is("a window that is shorter", shofrakin_live_set_cmn_window(&s, 1).refusal, 0);
+    is("a window of 0", shofrakin_live_set_cmn_window(&s, 0).refusal, 31);
+    is("a window that is longer", shofrakin_live_set_cmn_window(&s, 3).refusal, 32);
+    uint8_t registers[16] = {1};
+    is("a step", shofrakin_live_registers_step(&s, registers, 16, &x, 1, out, 1).refusal, 0);
+    is("its push", registers[12] == 0 && s.stream.accepted == pushed + 1, true);
+    is("a step over fifteen bytes", shofrakin_live_registers_step(&s, registers, 15, &x, 1, out, 1).refusal, 10);
+    free(memory);
+    free(tables);
+}
+
 int main(void) {
     live(true);
     live(false);
+    rooms();
     shofrakin_options opts = {.left_context = 1, .right_context = 1, .cmn_window = 2, .global_frames = 200, .num_gselect = 5,
         .num_cg_iters = 15, .min_post = 0.025f, .posterior_scale = 0.1f, .max_count = 100, .min_energy = 50};
     model(3, 1.5);
