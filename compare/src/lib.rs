@@ -5,6 +5,7 @@ pub mod gen;
 pub mod lists;
 pub mod loud;
 pub mod machine;
+pub mod memory;
 pub mod model;
 pub mod nearest;
 pub mod original;

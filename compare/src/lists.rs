@@ -164,10 +164,13 @@ pub fn one(seed: u64, what: What, t: &mut Tally) {
                 let o = run.opts.unwrap();
                 (ps, ns, rs) = (None, None, None);
                 // the library: the lent lengths are those of the model where it loads with all room, else short rooms
-                let all = crate::machine::load(&o, &run.bytes[0], &run.bytes[1], &run.bytes[2], &run.bytes[3], &[0; 8]).ok();
+                let all = crate::machine::load(&o, &run.bytes[0], &run.bytes[1], &run.bytes[2], &run.bytes[3], &[0; 8]);
+                if let Err(w) = crate::memory::of_files(&o, &run.bytes, all.as_ref().map_err(|n| *n)) {
+                    t.diff(seed, what, i, w);
+                }
                 let (lens, scratch) = match &all {
-                    Some(m) => (us(&room_lens(&model_needs(&m.dims, &m.opts), d)), rattle::load_scratch(m.dims.feat, m.dims.ivec)),
-                    None => (vec![7; 8], 10_272),
+                    Ok(m) => (us(&room_lens(&model_needs(&m.dims, &m.opts), d)), rattle::load_scratch(m.dims.feat, m.dims.ivec)),
+                    Err(_) => (vec![7; 8], 10_272),
                 };
                 let want = run.model.as_ref().map(|x| &x.0);
                 let (rn, m, wrong) = rattle::load(&o, &run.bytes, &lens, scratch, want);
@@ -243,6 +246,9 @@ pub fn one(seed: u64, what: What, t: &mut Tally) {
                 }
                 if let Some(m) = &rmodel {
                     let dims = run.model.as_ref().unwrap().0.dims;
+                    if let Err(w) = crate::memory::of_rooms(&dims, l[0] / dims.base as u64, l[1] / dims.base as u64, l[2]) {
+                        t.diff(seed, what, i, w);
+                    }
                     let mut lens: Vec<usize> = us(l);
                     lens.extend(us(&room_lens(&stream_needs(&dims), d)));
                     let (rn, s, wrong) = rattle::Stream::fresh(m, lens[..].try_into().unwrap(), &al);

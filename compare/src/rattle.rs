@@ -2,7 +2,7 @@
 //! types of hosts/rust, which see to it that nothing goes wrong: here records are forged and rooms are of other lengths. A room is a little
 //! longer than what is lent of it, so that a call can be lent more than the record was made with, and what lies past the lent part has a value of
 //! its own, which no call may touch.
-use crate::machine::{Alter, Model as Loaded, Options, SAlter};
+use crate::machine::{Alter, Dims, Model as Loaded, Options, SAlter};
 use crate::trigger::{decoded, Utterance};
 use shofrakin::sys as c;
 pub use shofrakin::sys::{
@@ -33,7 +33,7 @@ impl<T: Copy> Room<T> {
     }
 }
 
-fn options(o: &Options) -> IvectorOptions {
+pub fn options(o: &Options) -> IvectorOptions {
     IvectorOptions {
         left_context: o.left as usize,
         right_context: o.right as usize,
@@ -46,6 +46,10 @@ fn options(o: &Options) -> IvectorOptions {
         max_count: o.max_count,
         min_energy: o.min_energy,
     }
+}
+
+pub fn dimensions(d: &Dims) -> Dimensions {
+    Dimensions { num_gauss: d.gmm_gauss, ext_gauss: d.ext_gauss, feat_dim: d.feat, ivector_dim: d.ivec, base_dim: d.base, lda_cols: d.lda_cols }
 }
 
 // ---------------------------------------------------------------- the model
@@ -115,19 +119,7 @@ pub struct Model {
 
 /// The record that a load of the machine's model would leave.
 fn info_of(m: &Loaded, lengths: TableLengths) -> IvectorInfo {
-    IvectorInfo {
-        opts: options(&m.opts),
-        dims: Dimensions {
-            num_gauss: m.dims.gmm_gauss,
-            ext_gauss: m.dims.ext_gauss,
-            feat_dim: m.dims.feat,
-            ivector_dim: m.dims.ivec,
-            base_dim: m.dims.base,
-            lda_cols: m.dims.lda_cols,
-        },
-        prior_offset: m.prior,
-        tables: lengths,
-    }
+    IvectorInfo { opts: options(&m.opts), dims: dimensions(&m.dims), prior_offset: m.prior, tables: lengths }
 }
 
 #[rustfmt::skip]
