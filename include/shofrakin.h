@@ -1,5 +1,5 @@
 /* Shofrakin for C: the calls of the static library that `rt staticlib exports` writes (target/staticlib/libexports.a, x86-64 Linux).
- * What each call answers is proved in Rattle (crates/exports); nothing checks this file against it but compare/c/check.
+ * What each call answers is proved in Rattle (crates/exports); no proof speaks of this file, which compare/c/check runs against the library.
  * shofrakin_live.h, beside it, keeps a model's or a stream's record and rooms together; hosts/rust is the same for Rust.
  *
  * What a caller sees to:
@@ -99,8 +99,8 @@ typedef struct {
 
 /* Loads a model from the bytes of its four files (final.dubm, final.ie, final.mat, global_cmvn.stats) into eight tables. Refusals 1 to
  * 8. With k = b (left + 1 + right), the tables keep g, dg, dg, eds, es(s+1)/2, kd, d and b+1 numbers; longer ones are taken. Scratch is
- * d(d+1)/2 + ds numbers, and free afterwards. A block's numbers may be f32 or f64, as its tag says; an f64 for a table of floats is
- * rounded to the nearest. */
+ * d(d+1)/2 + ds numbers, and free afterwards. shofrakin_model_dimensions and shofrakin_tables_needed answer these lengths. A block's
+ * numbers may be f32 or f64, as its tag says; an f64 for a table of floats is rounded to the nearest. */
 shofrakin_load_answer shofrakin_load(shofrakin_options opts,
     const uint8_t *gmm, size_t gmm_len, const uint8_t *extractor, size_t extractor_len,
     const uint8_t *lda, size_t lda_len, const uint8_t *cmvn, size_t cmvn_len,
@@ -232,7 +232,8 @@ typedef struct {
 } shofrakin_new_stream_answer;
 
 /* A fresh stream on a loaded model, in rooms for F frames (Fb numbers) and R prefix rows (Rb numbers, R above 1), lists for the changes
- * that wait, and rooms of b+1, s, s(s+1)/2 and s numbers; scratch is the larger of gd and ss. Longer rooms are taken. Refusals 10, 8.
+ * that wait, and rooms of b+1, s, s(s+1)/2 and s numbers; scratch is the larger of gd and ss: shofrakin_rooms_needed. Longer rooms are taken.
+ * Refusals 10, 8.
  * F frames are as many as may be held at once. How long the rooms have to be, proved over every list of calls, refused ones among them
  * (crates/program/specs/Habit.antt, docs/PROOFS.md):
  * - rows-enough: with R = F + window no push is refused 15. The window is the options', or the longest that is set.
