@@ -238,7 +238,7 @@ fn what_a_stream_refuses() {
         assert_eq!(number(IvectorStream::new(&info, room)), 8);
         assert_eq!(number(room.memory(&info)), 8);
     }
-    // 3 frames and 603 rows of 4 numbers, 2 changes, and the fetch's rooms: 5, 3, 6, 3, and 2 Gaussians of 3 or 3 by 3
+    // 3 frames and 603 rows of 4 numbers, 2 changes, and the fetch's rooms: 5, 3, 6, 3, and 4 Gaussians of 3
     assert_eq!(Room { frames: 3, rows: None, waiting: 2 }.memory(&info), Ok(4 * (12 + 2) + 8 * (2412 + 2 + 5 + 3 + 6 + 3 + 12)));
     let mut s = IvectorStream::new(&info, Room { frames: 3, rows: None, waiting: 2 }).unwrap();
     let mut out = [0.0; 3];
