@@ -122,11 +122,15 @@ fn info_of(m: &Loaded, lengths: TableLengths) -> IvectorInfo {
     IvectorInfo { opts: options(&m.opts), dims: dimensions(&m.dims), prior_offset: m.prior, tables: lengths }
 }
 
-#[rustfmt::skip]
 fn raw_load(o: &Options, b: &[Vec<u8>; 4], t: &mut Tables, scratch: &mut [f64]) -> LoadAnswer {
+    load_options(options(o), b, t, scratch)
+}
+
+#[rustfmt::skip]
+pub fn load_options(o: IvectorOptions, b: &[Vec<u8>; 4], t: &mut Tables, scratch: &mut [f64]) -> LoadAnswer {
     unsafe {
         c::shofrakin_load(
-            options(o),
+            o,
             b[0].as_ptr(), b[0].len(), b[1].as_ptr(), b[1].len(), b[2].as_ptr(), b[2].len(), b[3].as_ptr(), b[3].len(),
             t.gconsts.all.as_mut_ptr(), t.gconsts.len, t.means_invvars_t.all.as_mut_ptr(), t.means_invvars_t.len,
             t.inv_vars_t.all.as_mut_ptr(), t.inv_vars_t.len, t.sigma_inv_m.all.as_mut_ptr(), t.sigma_inv_m.len,

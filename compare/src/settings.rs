@@ -1,9 +1,12 @@
 //! Request No. 1: the options from the maker's settings texts, on the library, on a reference written from the request, and on the original's own
-//! `conf_int`, `conf_float` and the first half of `open`.
+//! `conf_int`, `conf_float` and the first half of `open`; and the load with two texts beside the load with the options that they give.
 use crate::gen::Rng;
 use crate::orig::ivector as rust;
 use crate::original::HERE;
-use crate::rattle::{self, IvectorOptions};
+use crate::machine::{self, model_needs, DEFAULT};
+use crate::model;
+use crate::rattle::{self, IvectorOptions, Tables};
+use shofrakin::sys as c;
 use std::collections::BTreeMap;
 use std::io::BufRead;
 
@@ -223,7 +226,49 @@ fn text(r: &mut Rng) -> Vec<u8> {
     b
 }
 
+/// The day's model, which has the default contexts, and the lengths of its tables and of a load's scratch.
+struct Files {
+    bytes: [Vec<u8>; 4],
+    lens: Vec<usize>,
+    scratch: usize,
+}
+
+impl Files {
+    fn new() -> Files {
+        let bytes = model::files(&mut Rng::new(1), &DEFAULT, model::SMALL);
+        let m = machine::load(&DEFAULT, &bytes[0], &bytes[1], &bytes[2], &bytes[3], &[0; 8]).expect("the machine loads the model");
+        let lens = model_needs(&m.dims, &m.opts).map(|n| n as usize).to_vec();
+        Files { bytes, lens, scratch: rattle::load_scratch(m.dims.feat, m.dims.ivec) }
+    }
+
+    /// The number of a load with the two texts, and whether it did what the load with the options that they give does: number, record, tables and
+    /// scratch. Where they give none it is 25, and nothing is written.
+    #[rustfmt::skip]
+    fn load(&self, splice: &[u8], cmvn: &[u8]) -> (usize, bool) {
+        let o = unsafe { c::shofrakin_settings(splice.as_ptr(), splice.len(), cmvn.as_ptr(), cmvn.len()) };
+        let ([g, e, l, x], mut t, mut scratch) = (&self.bytes, Tables::new(&self.lens), vec![7.0; self.scratch]);
+        let a = unsafe {
+            c::shofrakin_load_with_settings(
+                splice.as_ptr(), splice.len(), cmvn.as_ptr(), cmvn.len(),
+                g.as_ptr(), g.len(), e.as_ptr(), e.len(), l.as_ptr(), l.len(), x.as_ptr(), x.len(),
+                t.gconsts.all.as_mut_ptr(), t.gconsts.len, t.means_invvars_t.all.as_mut_ptr(), t.means_invvars_t.len,
+                t.inv_vars_t.all.as_mut_ptr(), t.inv_vars_t.len, t.sigma_inv_m.all.as_mut_ptr(), t.sigma_inv_m.len,
+                t.u.all.as_mut_ptr(), t.u.len, t.lda_t.all.as_mut_ptr(), t.lda_t.len,
+                t.lda_offset.all.as_mut_ptr(), t.lda_offset.len, t.global_mean_stats.all.as_mut_ptr(), t.global_mean_stats.len,
+                scratch.as_mut_ptr(), scratch.len(),
+            )
+        };
+        let (mut plain, mut work) = (Tables::new(&self.lens), vec![7.0; self.scratch]);
+        if o.refusal != 0 {
+            return (a.refusal, a.refusal == o.refusal && t == plain && scratch == work);
+        }
+        let b = rattle::load_options(o.opts, &self.bytes, &mut plain, &mut work);
+        (a.refusal, a == b && t == plain && scratch == work)
+    }
+}
+
 struct Tally {
+    files: Files,
     cases: u64,
     differences: u64,
     original: u64,
@@ -236,6 +281,11 @@ fn one(t: &mut Tally, splice: &[u8], cmvn: &[u8]) {
     let want = settings(splice, cmvn);
     let mut bad = got != want.map(|w| w.0);
     let mut note = |k| *t.answers.entry(k).or_insert(0) += 1;
+    let (n, same) = t.files.load(splice, cmvn);
+    bad |= !same || (n == 25) != want.is_err();
+    if n == 0 {
+        note("a model loaded");
+    }
     match want {
         Err(_) => note("refused 25"),
         Ok((f, inside)) => {
@@ -273,7 +323,7 @@ fn told(t: &Tally) -> u64 {
 }
 
 fn tally() -> Tally {
-    Tally { cases: 0, differences: 0, original: 0, answers: BTreeMap::new() }
+    Tally { files: Files::new(), cases: 0, differences: 0, original: 0, answers: BTreeMap::new() }
 }
 
 /// COUNT random pairs from the seed FIRST on.
