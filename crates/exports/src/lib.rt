@@ -412,7 +412,7 @@ pub extern "C" fn shofrakin_new_stream(
 
 // ---- calls on a stream
 
-// `ivector_stream::push_frame`.
+// `ivector_stream::push_frame`, by the functions that are for this call alone.
 #[no_mangle]
 pub extern "C" fn shofrakin_push_frame(
     s: &mut IvectorStream,
@@ -428,7 +428,14 @@ pub extern "C" fn shofrakin_push_frame(
         ringCall (answered r (now (s .exit))) (ringsFrom (now (frames .exit)) (now (rows .exit)) (now («waiting_frames» .entry)) (now («waiting_weights» .entry)))
         ≡ doneOn s₀ z (pushFrame s₀ z (now (frame .entry)))) ⌝ }
 {
-    let c = ivector_stream::push_frame(*s, frame, frames, rows, waiting_frames, waiting_weights);
+    let c = ivector_stream::push_frame_exported(
+        *s,
+        frame,
+        frames,
+        rows,
+        waiting_frames,
+        waiting_weights,
+    );
     s.accepted = c.stream.accepted;
     c.answer
 }

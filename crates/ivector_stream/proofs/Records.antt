@@ -75,8 +75,11 @@ module _ (s : IvectorStream) (z : Rings) where
     pub already : (r ≡ 0 → ⊥) → r ≡ firstOf (recordTests s z ++ us)
     already h = e ∙ sym (first-already (recordTests s z) us (λ k. h (e ∙ k)))
 
+    pub then-all : r ≡ 0 → {n : ℕ} → n ≡ firstOf us → n ≡ firstOf (recordTests s z ++ us)
+    then-all h g = g ∙ sym (first-then (recordTests s z) us tt (sym e ∙ h))
+
     pub then-first : r ≡ 0 → (k : ℕ) → FirstAt k us → numberAt k us ≡ firstOf (recordTests s z ++ us)
-    then-first h k f = first-is k us f ∙ sym (first-then (recordTests s z) us tt (sym e ∙ h))
+    then-first h k f = then-all h (first-is k us f)
 
     pub then-none : r ≡ 0 → NoneFirst us → 0 ≡ firstOf (recordTests s z ++ us)
-    then-none h f = first-none us f ∙ sym (first-then (recordTests s z) us tt (sym e ∙ h))
+    then-none h f = then-all h (first-none us f)

@@ -12,6 +12,7 @@ use lib.Ieee.Scale.{finite}
 use borrow.Author.Tests.{not-false, eqb-true, eqb-false, eq-eqb, ne-eqb, lt-ltb, le-ltb, ltb-false}
 use Rattle.loops.specs.Lists.{anyOf}
 use Rattle.loops.specs.Refusal.{firstOf}
+use Rattle.loops.specs.Ring.{rowsIn}
 use Rattle.loops.proofs.Choose.{and-first, and-second, and-both, or-first, or-second, or-none, or-fails}
 use Rattle.loops.proofs.Refusal.{NoneFirst, FirstAt, numberAt, none-first}
 use Rattle.definition.specs.declared.IvectorInfo.{IvectorInfo}
@@ -20,12 +21,12 @@ use Rattle.definition.specs.declared.RoomLengths.{RoomLengths}
 use Rattle.definition.specs.declared.TableLengths.{TableLengths}
 use Rattle.definition.specs.Options.{within}
 use Rattle.definition.specs.Model.{tablesFit}
-use Rattle.definition.specs.Machine.{waitingRoom, maxChanges, pushTests, changeTests, windowTests}
+use Rattle.definition.specs.Machine.{framesHeld, rowsHeld, waitingRoom, maxChanges, pushTests, changeTests, windowTests}
 use Rattle.definition.specs.Stream.{recordSound, sameTables, roomsFit, newRefusal}
 use Rattle.definition.proofs.Ranges.{DimRanges, dim-ranges, record-sound, Fitting, fitting}
 use Rattle.program.specs.Rooms.{Rings}
 use Rattle.program.specs.Calls.{recordTests, pushFrame, updateFrameWeights, setCmnWindow}
-use Rattle.ivector_stream.proofs.Records.{Passed, tests-passed, other-few, already, then-first, then-none}
+use Rattle.ivector_stream.proofs.Records.{Passed, tests-passed, few, other-few, already, then-all, then-first, then-none}
 
 -- the first k tests fail, and P
 abbrev pub Past : ℕ → List (Bool × ℕ) → Type 0 → Type 0
@@ -59,6 +60,9 @@ new-taken i t z e g =
 -- ---- push
 
 module _ (s : IvectorStream) (z : Rings) (x : List Float) where
+  abbrev base : ℕ
+  base = s .info .dims .«base_dim»
+
   abbrev pub push-tests : List (Bool × ℕ)
   push-tests = pushTests (s .info .dims) (s .lengths .rings) (s .longest) (s .accepted) (s .mark) x
 
@@ -93,6 +97,22 @@ module _ (s : IvectorStream) (z : Rings) (x : List Float) where
     pub push-none : r ≡ 0 → NoneFirst push-tests → 0 ≡ pushFrame s z x .refusal
     unfolding pushFrame
     push-none = then-none s z push-tests e
+
+    pub push-then : r ≡ 0 → {n : ℕ} → n ≡ firstOf push-tests → n ≡ pushFrame s z x .refusal
+    unfolding pushFrame
+    push-then = then-all s z push-tests e
+
+  -- what the tests ask of the record, and the stores of a push that is taken
+  pub tests-fit : Passed s z → (0 < base) × (base ≤ 64) × (s .accepted ≤ 1000000000) × (s .mark ≤ 1000000000)
+      × (framesHeld (s .accepted) (s .mark) ≤ rowsIn (s .lengths .rings .frames) base) × (rowsHeld (s .longest) (s .accepted) (s .mark) ≤ rowsIn (s .lengths .rings .rows) base)
+  unfolding framesHeld rowsHeld
+  tests-fit p = (p .dims-are .some-base, p .dims-are .base-is, few s z p .0, few s z p .1, p .whole-is .frames-fit, p .whole-is .rows-fit)
+
+  pub store-fits : PushTaken → (0 < length x) × (length x ≤ 64) × (s .accepted ≤ 1000000000) × (0 < rowsIn (length (z .frames)) (length x))
+      × (2 ≤ rowsIn (length (z .rows)) (length x)) × (anyOf (λ v. not (finite v)) x ≡ false)
+  store-fits k =
+      let p = k .passed in
+      (rw (k .wide) (p .dims-are .some-base), rw (k .wide) (p .dims-are .base-is), few s z p .0, rw (k .wide) (p .frame-room), rw (k .wide) (p .row-room), k .all-finite)
 
 -- ---- change
 

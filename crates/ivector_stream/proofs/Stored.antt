@@ -1,5 +1,5 @@
 -- Rooms that the calls write: a frame and a prefix row in their rings.
-use mathlib.Core.Path.{_≡_, sym, ap, _∙_}
+use mathlib.Core.Path.{_≡_, refl, sym, ap, _∙_}
 use mathlib.Core.Bool.{true, false, not, true≢false}
 use mathlib.Core.List.{List, foldl}
 use mathlib.Core.Logic.{_⊎_, ⊎-elim}
@@ -21,8 +21,11 @@ use Rattle.definition.specs.declared.IvectorStream.{IvectorStream}
 use Rattle.definition.specs.Machine.{forgotten}
 use Rattle.definition.specs.Stream.{rising}
 use Rattle.limits.proofs.Ordered.{min-first}
-use Rattle.program.specs.Rooms.{ringAt}
-use Rattle.program.specs.Calls.{pushedFrames, pushedRows, forgetMark}
+use Rattle.definition.specs.declared.StreamCall.{StreamCall}
+use Rattle.program.specs.Rooms.{Rings, ringsFrom, ringAt}
+use Rattle.program.specs.Calls.{withAccepted, callOf, ringCall, doneOn, pushFrame, pushedFrames, pushedRows, forgetMark}
+use Rattle.ivector_stream.proofs.Refusals.{push-taken}
+use Rattle.ivector_stream.proofs.Replies.{done, rings-are}
 use Rattle.definition.proofs.Floor.{lowest-under}
 
 -- a frame copied in
@@ -67,19 +70,30 @@ place-turned n w t p q e f = f ∙ ap (λ (z : ℕ). if leb (w + w) (n - z) then
 pub place-after : (n w t : ℕ) {a b k : ℕ} → 2 ≤ rowsIn n w → k ≡ w → a ≡ place n w t → b ≡ place n w (t + 1) → (a + k ≤ b) ⊎ (b + k ≤ a)
 place-after n w t r d e f = rw (d, e, f) (rows-apart n w t (t + 1) (omega arith) (omega arith))
 
-module _ (s : IvectorStream) (x : List Float) where
-  pub pushed-frames : (frames : List Float) {a : ℕ} {out : List Float} → a ≡ place (length frames) (s .info .dims .«base_dim») (s .accepted) → out ≡ put a x frames → out ≡ pushedFrames s frames x
-  unfolding pushedFrames
-  pushed-frames frames e h = h ∙ ap (λ (k : ℕ). put k x frames) e
+-- the two stores, by places as code comes to them
+pub frame-stored : (frames x : List Float) (t : ℕ) {a : ℕ} {out : List Float} → a ≡ place (length frames) (length x) t → out ≡ put a x frames → out ≡ put (place (length frames) (length x) t) x frames
+frame-stored frames x t e h = h ∙ ap (λ (k : ℕ). put k x frames) e
 
-  pub pushed-rows : (rows : List Float) {a b : ℕ} {out : List Float} → length x ≡ s .info .dims .«base_dim»
-      → a ≡ place (length rows) (s .info .dims .«base_dim») (s .accepted) → b ≡ place (length rows) (s .info .dims .«base_dim») (s .accepted + 1)
-      → out ≡ put b (build (length x) (λ d. at rows (a + d) +₆₄ at x d)) rows → out ≡ pushedRows s rows x
-  unfolding pushedRows ringAt
-  pushed-rows rows {a} {b} d e f h =
-      let dim : ℕ = s .info .dims .«base_dim» in
-      let sums : ℕ → ℕ → Float = λ k d. at rows (k + d) +₆₄ at x d in
-      h ∙ ap (λ (k : ℕ). put b (build k (sums a)) rows) d ∙ ap (λ (k : ℕ). put b (build dim (sums k)) rows) e ∙ ap (λ (k : ℕ). put k (build dim (sums (place (length rows) dim (s .accepted)))) rows) f
+abbrev row-of : (rows x : List Float) → ℕ → List Float
+row-of rows x t = build (length x) (λ d. ringAt (length x) rows t d +₆₄ at x d)
+
+pub row-stored : (rows x : List Float) (t : ℕ) {a b : ℕ} {out : List Float} → a ≡ place (length rows) (length x) t → b ≡ place (length rows) (length x) (t + 1)
+    → out ≡ put b (build (length x) (λ d. at rows (a + d) +₆₄ at x d)) rows → out ≡ put (place (length rows) (length x) (t + 1)) (row-of rows x t) rows
+unfolding ringAt
+row-stored rows x t {b = b} e f h =
+    h ∙ ap (λ (k : ℕ). put b (build (length x) (λ d. at rows (k + d) +₆₄ at x d)) rows) e ∙ ap (λ (k : ℕ). put k (row-of rows x t) rows) f
+
+-- a push that is taken, from what is stored and returned
+module _ (s : IvectorStream) (z : Rings) (x : List Float) {n : ℕ} (e : n ≡ pushFrame s z x .refusal) (h : n ≡ 0) where
+  pub push-done : {frames rows : List Float} {c : StreamCall} → frames ≡ put (place (length (z .frames)) (length x) (s .accepted)) x (z .frames)
+      → rows ≡ put (place (length (z .rows)) (length x) (s .accepted + 1)) (row-of (z .rows) x (s .accepted)) (z .rows) → c ≡ callOf 0 (withAccepted s (s .accepted + 1)) 0 0
+      → ringCall c (ringsFrom frames rows (z .waiting-frames) (z .waiting-weights)) ≡ doneOn s z (pushFrame s z x)
+  unfolding pushFrame pushedFrames pushedRows
+  push-done f r g =
+      let wide = push-taken s z x e h .wide in
+      let frames-are = f ∙ ap (λ (k : ℕ). put (place (length (z .frames)) k (s .accepted)) x (z .frames)) wide in
+      let rows-are = r ∙ ap (λ (k : ℕ). put (place (length (z .rows)) k (s .accepted + 1)) (build k (λ d. ringAt k (z .rows) (s .accepted) d +₆₄ at x d)) (z .rows)) wide in
+      done s z (pushFrame s z x) e h g (rings-are frames-are rows-are refl refl)
 
 -- ---- the lowest of a number and of n frames in order
 

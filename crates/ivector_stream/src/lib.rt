@@ -1,5 +1,6 @@
 // `IvectorStream`: a stream's record, and the calls on it but for the fetch. The rooms are lent to each call: frames and prefix
 // rows in two rings, the waiting weight changes in two lists. The model's tables are lent where they are read.
+use definition::Dimensions;
 use definition::EstimateLengths;
 use definition::IvectorInfo;
 use definition::IvectorStream;
@@ -12,10 +13,11 @@ use definition::TableLengths;
 ghost use mathlib.Core.Path.{_≡_};
 ghost use mathlib.Core.Bool.{true, false, not, _||_};
 ghost use mathlib.Core.Logic.{_⊎_};
-ghost use mathlib.Core.List.{foldl};
+ghost use mathlib.Core.List.{List, foldl};
 ghost use Prim.Native.Nat.{_+_, _-_, _<_, _≤_, min};
 ghost use lib.ListN.{length, take};
 ghost use lib.Dec.{leb, ltb};
+ghost use lib.Ieee.{Float};
 ghost use lib.Ieee.Scale.{finite};
 ghost use Rattle.loops.specs.Lists.{if_then_else_, build, anyOf, over};
 ghost use Rattle.loops.specs.Refusal.{firstOf, taken};
@@ -25,9 +27,9 @@ ghost use Rattle.definition.specs.Kaldi.{triangle};
 ghost use Rattle.definition.specs.Model.{Tables, tablesFrom, tableLengthsOf};
 ghost use Rattle.definition.specs.Statistics.{newStats};
 ghost use Rattle.definition.specs.Solve.{priorVector};
-ghost use Rattle.definition.specs.Machine.{framesReady, longestFrom};
+ghost use Rattle.definition.specs.Machine.{framesHeld, rowsHeld, framesReady, longestFrom, pushTests};
 ghost use Rattle.definition.specs.Stream.{rising, newRefusal, sameRings};
-ghost use Rattle.program.specs.Rooms.{Rings, ringsFrom, ringLengthsOf, estimateFrom, Rooms, roomsFrom, roomLengthsOf};
+ghost use Rattle.program.specs.Rooms.{Rings, ringsFrom, ringLengthsOf, ringAt, estimateFrom, Rooms, roomsFrom, roomLengthsOf};
 ghost use Rattle.program.specs.Calls.{callOf, newAnswer, freshRooms, ringCall, doneOn, recordTests, pushFrame, setInputFinished, updateFrameWeights, forgetBefore, setCmnWindow};
 
 // ---- answers
@@ -257,21 +259,35 @@ fn any_not_finite(x: &[f32]) -> bool
     bad
 }
 
-// `plain_refusal` with the record's test that is compiled into a push.
-fn plain_refusal_at_push(
-    s: IvectorStream,
-    frames: &[f32],
-    rows: &[f64],
-    waiting_frames: &[usize],
-    waiting_weights: &[f32],
+// Refusals 11 to 15 of a push, or 0. The record is not passed, so that it is not copied.
+fn push_tests(
+    d: Dimensions,
+    own: RingLengths,
+    longest: usize,
+    accepted: usize,
+    mark: usize,
+    frame: &[f32],
 ) -> usize
-    ensures { λ r. ⌜ r ≡ firstOf (recordTests s (ringsFrom (now (frames .entry)) (now (rows .entry)) (now («waiting_frames» .entry)) (now («waiting_weights» .entry)))) ⌝ }
+    requires { ⌜ (0 < d .«base_dim») × (d .«base_dim» ≤ 64) × (accepted ≤ 1000000000) × (mark ≤ 1000000000)
+        × (framesHeld accepted mark ≤ rowsIn (own .frames) (d .«base_dim»)) × (rowsHeld longest accepted mark ≤ rowsIn (own .rows) (d .«base_dim»)) ⌝ }
+    ensures { λ r. ⌜ r ≡ firstOf (pushTests d own longest accepted mark (now (frame .entry))) ⌝ }
 {
-    if other_rings(s, frames, rows, waiting_frames, waiting_weights) {
-        return 10;
+    if frame.len() != d.base_dim {
+        return 11;
     }
-    if limits::is_broken_at_push(s, waiting_frames) {
-        return 10;
+    if any_not_finite(frame) {
+        return 12;
+    }
+    if accepted == 1000000000 {
+        return 13;
+    }
+    let frames_held = limits::frames_held(accepted, mark);
+    if own.frames < (frames_held + 1) * d.base_dim {
+        return 14;
+    }
+    let rows_held = limits::rows_held(longest, accepted, mark);
+    if own.rows < (rows_held + 1) * d.base_dim {
+        return 15;
     }
     0
 }
@@ -286,7 +302,7 @@ fn push_refusal(
 ) -> usize
     ensures { λ r. ⌜ r ≡ pushFrame s (ringsFrom (now (frames .entry)) (now (rows .entry)) (now («waiting_frames» .entry)) (now («waiting_weights» .entry))) (now (frame .entry)) .refusal ⌝ }
 {
-    let refusal = plain_refusal_at_push(s, frames, rows, waiting_frames, waiting_weights);
+    let refusal = plain_refusal(s, frames, rows, waiting_frames, waiting_weights);
     if refusal != 0 {
         return refusal;
     }
@@ -294,24 +310,7 @@ fn push_refusal(
     let d = i.dims;
     let z = s.lengths;
     let own = z.rings;
-    if frame.len() != d.base_dim {
-        return 11;
-    }
-    if any_not_finite(frame) {
-        return 12;
-    }
-    if s.accepted == 1000000000 {
-        return 13;
-    }
-    let frames_held = limits::frames_held(s.accepted, s.mark);
-    if own.frames < (frames_held + 1) * d.base_dim {
-        return 14;
-    }
-    let rows_held = limits::rows_held(s.longest, s.accepted, s.mark);
-    if own.rows < (rows_held + 1) * d.base_dim {
-        return 15;
-    }
-    0
+    push_tests(d, own, s.longest, s.accepted, s.mark, frame)
 }
 
 // Where row t of a ring begins. Until a row is written over that is t rows on, which needs no division.
@@ -359,6 +358,23 @@ fn add_frame(rows: &mut [f64], last: usize, next: usize, frame: &[f32])
     }
 }
 
+// A frame stored at its place, and its sums as the next prefix row.
+fn store_frame(frames: &mut [f32], rows: &mut [f64], accepted: usize, frame: &[f32])
+    requires { ⌜ (0 < length (now frame)) × (length (now frame) ≤ 64) × (accepted ≤ 1000000000) × (0 < rowsIn (length (now frames)) (length (now frame)))
+        × (2 ≤ rowsIn (length (now rows)) (length (now frame))) × (anyOf (λ v. not (finite v)) (now frame) ≡ false) ⌝ }
+    ensures { λ _. ⌜ (
+        let x : List Float = now (frame .entry) in
+        (now (frames .exit) ≡ put (place (length (now (frames .entry))) (length x) accepted) x (now (frames .entry)))
+        × (now (rows .exit) ≡ put (place (length (now (rows .entry))) (length x) (accepted + 1)) (build (length x) (λ d. ringAt (length x) (now (rows .entry)) accepted d +₆₄ at x d)) (now (rows .entry)))) ⌝ }
+{
+    let dim = frame.len();
+    let a = ring_place(frames.len(), dim, accepted);
+    put_frame(frames, a, frame);
+    let last = ring_place(rows.len(), dim, accepted);
+    let next = row_after(rows.len(), dim, last);
+    add_frame(rows, last, next, frame);
+}
+
 pub fn push_frame(
     mut s: IvectorStream,
     frame: &[f32],
@@ -376,13 +392,72 @@ pub fn push_frame(
     if refusal != 0 {
         return reply(refusal, s, 0, 0);
     }
+    store_frame(frames, rows, s.accepted, frame);
+    s.accepted += 1;
+    reply(0, s, 0, 0)
+}
+
+// ---- the exported push
+
+// The same push, by functions that no other call of the library uses: so it is compiled into the exported one, and the record is not copied for it.
+// `plain_refusal` with the record's test that is compiled into the exported push.
+fn plain_refusal_at_push(
+    s: IvectorStream,
+    frames: &[f32],
+    rows: &[f64],
+    waiting_frames: &[usize],
+    waiting_weights: &[f32],
+) -> usize
+    ensures { λ r. ⌜ r ≡ firstOf (recordTests s (ringsFrom (now (frames .entry)) (now (rows .entry)) (now («waiting_frames» .entry)) (now («waiting_weights» .entry)))) ⌝ }
+{
+    if other_rings(s, frames, rows, waiting_frames, waiting_weights) {
+        return 10;
+    }
+    if limits::is_broken_at_push(s, waiting_frames) {
+        return 10;
+    }
+    0
+}
+
+fn push_refusal_exported(
+    s: IvectorStream,
+    frame: &[f32],
+    frames: &[f32],
+    rows: &[f64],
+    waiting_frames: &[usize],
+    waiting_weights: &[f32],
+) -> usize
+    ensures { λ r. ⌜ r ≡ pushFrame s (ringsFrom (now (frames .entry)) (now (rows .entry)) (now («waiting_frames» .entry)) (now («waiting_weights» .entry))) (now (frame .entry)) .refusal ⌝ }
+{
+    let refusal = plain_refusal_at_push(s, frames, rows, waiting_frames, waiting_weights);
+    if refusal != 0 {
+        return refusal;
+    }
     let i = s.info;
     let d = i.dims;
-    let a = ring_place(frames.len(), d.base_dim, s.accepted);
-    put_frame(frames, a, frame);
-    let last = ring_place(rows.len(), d.base_dim, s.accepted);
-    let next = row_after(rows.len(), d.base_dim, last);
-    add_frame(rows, last, next, frame);
+    let z = s.lengths;
+    let own = z.rings;
+    push_tests(d, own, s.longest, s.accepted, s.mark, frame)
+}
+
+pub fn push_frame_exported(
+    mut s: IvectorStream,
+    frame: &[f32],
+    frames: &mut [f32],
+    rows: &mut [f64],
+    waiting_frames: &[usize],
+    waiting_weights: &[f32],
+) -> StreamCall
+    ensures { λ r. ⌜ (
+        let z : Rings = ringsFrom (now (frames .entry)) (now (rows .entry)) (now («waiting_frames» .entry)) (now («waiting_weights» .entry)) in
+        ringCall r (ringsFrom (now (frames .exit)) (now (rows .exit)) (now («waiting_frames» .entry)) (now («waiting_weights» .entry)))
+        ≡ doneOn s z (pushFrame s z (now (frame .entry)))) ⌝ }
+{
+    let refusal = push_refusal_exported(s, frame, frames, rows, waiting_frames, waiting_weights);
+    if refusal != 0 {
+        return reply(refusal, s, 0, 0);
+    }
+    store_frame(frames, rows, s.accepted, frame);
     s.accepted += 1;
     reply(0, s, 0, 0)
 }

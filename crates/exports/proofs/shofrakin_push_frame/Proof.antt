@@ -26,10 +26,10 @@ use Rattle.program.specs.Rooms.{Rings, ringsFrom}
 use Rattle.program.specs.Calls.{streamFrom, RingStep, RingCall, ringCall, doneOn, pushFrame}
 use Rattle.definition.specs.declared.IvectorStream.{IvectorStream}
 use Rattle.definition.specs.declared.StreamCall.{StreamCall}
-use Rattle.ivector_stream.proofs.push_frame as plain-call
-use Rattle.ivector_stream.proofs.push_frame.Symbol as plain-call-def
-use Rattle.ivector_stream.proofs.push_frame.Symbol.{name as #plain-call}
-use Rattle.ivector_stream.proofs.push_frame.Met as plain-call-thm
+use Rattle.ivector_stream.proofs.push_frame_exported as plain-call
+use Rattle.ivector_stream.proofs.push_frame_exported.Symbol as plain-call-def
+use Rattle.ivector_stream.proofs.push_frame_exported.Symbol.{name as #plain-call}
+use Rattle.ivector_stream.proofs.push_frame_exported.Met as plain-call-thm
 use Rattle.exports.proofs.Left.{_&_, others}
 use Rattle.exports.proofs.Lent.{well, cell, asks, ends, Spelts, a-mut-slice, a-slice, spelt-out, Walk, concludes}
 use Rattle.exports.proofs.Walk.{arg, again}
@@ -90,5 +90,5 @@ pub shofrakin-push-frame-spec : {M : Type 1} → stated.statement M
 unfolding code.routine
 shofrakin-push-frame-spec 𝓤 H 𝓜 𝓖 𝓡 =
     concludes 𝓤 H 𝓜 𝓖 𝓡 stream answer (others (this.signature .params)) (this.ended .kept .1) (spelt 𝓤 H (𝓖 .A) (givenOf 𝓤 H 𝓜 𝓖)) (this.clauses 𝓤 H (𝓖 .A) (𝓜 .mem) (𝓡 .run)) code.function
-    plain-call.ended (plain-call.clauses 𝓤 H (𝓖 .A) (𝓜 .mem) (𝓡 .run)) code.env #this #plain-call plain-call-def.routine code.calls-ivector-stream·push-frame (plain-call-thm.met 𝓤 H 𝓜 𝓖 𝓡)
+    plain-call.ended (plain-call.clauses 𝓤 H (𝓖 .A) (𝓜 .mem) (𝓡 .run)) code.env #this #plain-call plain-call-def.routine code.calls-ivector-stream·push-frame-exported (plain-call-thm.met 𝓤 H 𝓜 𝓖 𝓡)
     (code.unfolded 𝓤 H 𝓜 𝓡) (λ κs a bs t. t) (walk 𝓤 H (𝓖 .A) (givenOf 𝓤 H 𝓜 𝓖) (𝓜 .mem) (𝓡 .run))
