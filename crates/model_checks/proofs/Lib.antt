@@ -1,0 +1,3 @@
+-- Laws of the files' lengths and of the refusals' order.
+pub mod Lengths
+pub mod Order

@@ -1,0 +1,2 @@
+-- Laws of bytes written one after the other.
+pub mod Writes

@@ -1,0 +1,61 @@
+-- `put_f32s` meets its contract: the first i numbers are written (`Numbered`, over the width, in Writes.antt).
+use borrow.Author.Needs.{needs}
+use mathlib.Core.Path.{_≡_, refl}
+use Prim.Native.Nat.{_-_}
+use native.Mathlib.Omega.{arith}
+use lib.ListN.{length}
+use lib.Ieee.{binary32}
+use Rattle.loops.proofs.Tests.{each-at}
+use Rattle.model_writer.proofs.Writes.{Numbered, numbered-none, numbered-room, numbered-turn, numbered-end}
+use Rattle.model_writer.proofs.put_f32s.Statement.{statement}
+use Rattle.model_writer.proofs.put_f32s.Tie as tie
+
+abbrev Inv-loop : tie.InvT-loop
+Inv-loop out₀ at xs n next₀ i₀ out next i =
+    (n ≡ length xs) × Numbered binary32 xs out₀ at out next i
+
+abbrev μ-loop : tie.MeasureT-loop
+μ-loop out₀ at xs n next₀ i₀ out next i = n - i
+
+loop-holds : tie.Need-loop-holds Inv-loop μ-loop
+loop-holds c = (refl, numbered-none binary32 ((c .before .before .args) .xs .now) ((c .before .before .args) .out .now) ((c .before .before .args) .at))
+
+mul-put-f32 : tie.Need-mul-put-f32 Inv-loop μ-loop
+mul-put-f32 c = search needs
+
+shared-slice-read-put-f32 : tie.Need-shared-slice-read-put-f32 Inv-loop μ-loop
+shared-slice-read-put-f32 c = search needs
+
+put-f32-requires : tie.Need-put-f32-requires Inv-loop μ-loop
+put-f32-requires c κs = (numbered-room binary32 ((c .before .before .before .before .before .before .args) .xs .now) ((c .before .before .before .before .before .before .args) .out .now) ((c .before .before .before .before .before .before .args) .at) ((c .before .before .before .loop) .inv .1) ((c .before .before .before .before .before .before .pre) .0) ((c .before .before .loop-test) .taken), each-at _ _ ((c .before .before .before .before .before .before .args) .xs .now) ((c .before .before .before .loop) .i) ((c .before .before .before .before .before .before .pre) .1) ((c .before .before .loop-test) .taken))
+
+add-i : tie.Need-add-i Inv-loop μ-loop
+add-i c = search needs
+
+loop-less : tie.Need-loop-less Inv-loop μ-loop
+loop-less c = search needs
+
+loop-again : tie.Need-loop-again Inv-loop μ-loop
+loop-again c = ((c .before .before .before .before .before .before .loop) .inv .0, numbered-turn binary32 ((c .before .before .before .before .before .before .before .before .before .args) .xs .now) ((c .before .before .before .before .before .before .before .before .before .args) .out .now) ((c .before .before .before .before .before .before .before .before .before .args) .at) ((c .before .before .before .before .before .before .loop) .inv .1) (omega (arith, (c .before .before .before .before .before .before .before .before .before .pre) .0)) ((c .before .before .before .before .before .loop-test) .taken) ((c .before .before .put-f32) .ensures))
+
+same-length : tie.Need-same-length Inv-loop μ-loop
+same-length c = (c .before .loop) .inv .1 .wrote-so .long
+
+returns : tie.Need-returns Inv-loop μ-loop
+returns c = numbered-end binary32 ((c .before .before .before .before .args) .xs .now) ((c .before .before .before .before .args) .out .now) ((c .before .before .before .before .args) .at) ((c .before .loop) .inv .1) ((c .loop-test) .left)
+
+pub put-f32s-spec : {M : Type 1} → statement M
+put-f32s-spec =
+    tie.close
+    (tie.spec
+    Inv-loop
+    μ-loop
+    loop-holds
+    mul-put-f32
+    shared-slice-read-put-f32
+    put-f32-requires
+    add-i
+    loop-less
+    loop-again
+    same-length
+    returns)
