@@ -1,2 +1,3 @@
 -- Laws of bytes written one after the other.
 pub mod Writes
+pub mod Files

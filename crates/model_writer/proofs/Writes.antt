@@ -16,7 +16,7 @@ use native.Mathlib.Decide.{decLe}
 use Rattle.loops.specs.Ring.{put}
 use Rattle.loops.proofs.Fill.{length-put, over-put, put-front}
 use Rattle.loops.proofs.Flat.{flat-none, flat-more, flat-snoc}
-use Rattle.loops.proofs.Parts.{take-next}
+use Rattle.loops.proofs.Parts.{take-next, lent-is}
 use Rattle.loops.proofs.Tests.{each-at}
 use Rattle.loops.proofs.Cells.{row-in}
 use Rattle.loops.proofs.Refusal.{taken-new, taken-old}
@@ -55,7 +55,11 @@ wrote-then {room} {mid} {out} {at} {q} {r} {xs} {ys} h a b =
       long = b .long ∙ a .long;
     }
 
--- room for the whole is room for what comes after its first part
+-- room for the whole is room for its first part
+pub room-first : (room : List ℕ) (at : ℕ) (xs ys : List ℕ) → at + length (xs ++ ys) ≤ length room → at + length xs ≤ length room
+room-first room at xs ys h = omega (arith, length-append xs ys)
+
+-- and for what comes after it
 pub room-rest : {room mid : List ℕ} {at q : ℕ} (xs ys : List ℕ) → at + length (xs ++ ys) ≤ length room → Wrote xs room at mid q → q + length ys ≤ length mid
 room-rest xs ys h a = omega (arith, length-append xs ys, a .next-is, a .long)
 
@@ -176,6 +180,25 @@ module _ (n : ℕ) (xs : List Float) (e i : ℕ) (full : Full (e * n) xs) (l : i
   pub part-finite : allOf finite (part n i xs) ≡ true
   part-finite = fit-part finite n i xs (full .finite-all)
 
+-- block i is F of part i, which the code lends as a slice
+module _ (n e : ℕ) (F : List Float → List ℕ) (xs : List Float) (room : List ℕ) (at : ℕ) where
+  abbrev lent : ℕ → List Float
+  lent i = take (i * n + n - i * n) (drop (i * n) xs)
+
+  as-part : (i : ℕ) → lent i ≡ part n i xs
+  as-part i = lent-is (i * n) n (i * n + n) xs refl
+
+  abbrev B : ℕ → List ℕ
+  B i = F (part n i xs)
+
+  module _ {out : List ℕ} {next i : ℕ} (o : Blocks e B room at out next i) (l : i < e) (h : at + length (flat e B) ≤ length room) where
+    pub lent-may : Full (e * n) xs → (next + length (F (lent i)) ≤ length out) × (allOf finite (lent i) ≡ true)
+    lent-may full =
+        (subst (λ (y : List Float). next + length (F y) ≤ length out) (sym (as-part i)) (blocks-room e B room at o h l), ap (allOf finite) (as-part i) ∙ part-finite n xs e i full l)
+
+    pub lent-turn : {out′ : List ℕ} {next′ : ℕ} → Wrote (F (lent i)) out next out′ next′ → Blocks e B room at out′ next′ (i + 1)
+    lent-turn w = blocks-turn e B room at o (omega arith) l (wrote-as (ap F (as-part i)) w)
+
 -- how many numbers there are at most
 pub m-cells : (e d s : ℕ) → d ≤ 64 → s ≤ 128 → e ≤ 1024 → e * (d * s) ≤ 8388608
 m-cells e d s a b c = let h : d * s ≤ 8192 = mul-le-mul {n₂ = 64} {m₂ = 128} a b in mul-le-mul {n₂ = 1024} {m₂ = 8192} c h
@@ -225,14 +248,28 @@ module _ (f : Format) (o : IvectorOptions) (t : List ℕ) (p : Params) (room : L
     pub offset-finite : finite (p .prior-offset) ≡ true
     offset-finite = each-at finite nan (p .prior-offset ∷ []) 0 (all-finite binary64 f false (p .prior-offset ∷ []) (fine .offset .good)) (omega arith)
 
-    module _ {mid two out : List ℕ} {a b c : ℕ} (w1 : Wrote G room 0 mid a) (w2 : Wrote X mid a two b) (w3 : Wrote L two b out c) where
+    -- what each file's function asks
+    pub gmm-may : (0 + length G ≤ length room) × (allOf finite (p .weights) ≡ true) × (allOf finite (p .means-invvars) ≡ true) × (allOf finite (p .inv-vars) ≡ true)
+    gmm-may = (room-first room 0 G (X ++ L) room-all, finite-of (fine .weights) .finite-all, finite-of (fine .means) .finite-all, finite-of (fine .vars) .finite-all)
+
+    module _ {mid : List ℕ} {a : ℕ} (w1 : Wrote G room 0 mid a) where
       pub rest-room : a + length (X ++ L) ≤ length mid
       rest-room = room-rest G (X ++ L) room-all w1
 
+      pub extractor-may : (a + length X ≤ length mid) × Full (z .«ext_gauss» * (z .«feat_dim» * z .«ivector_dim»)) (p .m)
+          × Full (z .«ext_gauss» * triangle (z .«feat_dim»)) (p .sigma-inv) × (finite (p .prior-offset) ≡ true)
+          × (z .«feat_dim» ≤ 64) × (z .«ivector_dim» ≤ 128) × (z .«ext_gauss» ≤ 1024)
+      extractor-may =
+          (room-first mid a X L rest-room, finite-of (fine .m), finite-of (fine .sigma), offset-finite, fine .feat .high, fine .ivector .high, fine .ext .high)
+
+      pub lda-may : {two : List ℕ} {b : ℕ} → Wrote X mid a two b → (b + length L ≤ length two) × (allOf finite (p .lda) ≡ true)
+      lda-may w2 = (room-rest X L rest-room w2, finite-of (fine .lda) .finite-all)
+
+    module _ {mid two out : List ℕ} {a b c : ℕ} (w1 : Wrote G room 0 mid a) (w2 : Wrote X mid a two b) (w3 : Wrote L two b out c) where
       pub files-are : (W.Files a (b - a) (c - b) ≡ written f o t p (length room)) × (out ≡ writtenOut f o t p room)
       unfolding written writtenOut
       files-are =
-          let all = chain G (X ++ L) room-all w1 (chain X L rest-room w2 w3) in
+          let all = chain G (X ++ L) room-all w1 (chain X L (rest-room w1) w2 w3) in
           let ga : a ≡ length (gmmBytes f p) = omega (arith, w1 .next-is, ap length (gmm-is p f)) in
           let xb : b - a ≡ length (extractorBytes f p) = omega (arith, w2 .next-is, ap length (extractor-is p f)) in
           let lc : c - b ≡ length (ldaBytes f p) = omega (arith, w3 .next-is, ap length (lda-is p f)) in (

@@ -1,14 +1,8 @@
--- `put_gmm_f32` meets its contract: four pieces, one after the other (`chain` in Writes.antt).
+-- `put_gmm_f32` meets its contract: four pieces, one after the other (`gmm-whole` in Files.antt).
 use borrow.Author.Needs.{needs}
 use mathlib.Core.Path.{_∙_}
-use mathlib.Core.List.{_++_}
-use Prim.Native.Nat.{_+_, _-_, _<_}
-use native.Mathlib.Omega.{arith}
-use lib.ListN.{length-append}
 use lib.Ieee.{binary32}
-use Rattle.model_bytes.specs.Written.{tokenBytes, lineBytes, tableBytes}
-use Rattle.model_bytes.specs.Pieces.{weightsHead, meansHead, varsHead}
-use Rattle.model_writer.proofs.Writes.{room-rest, chain}
+use Rattle.model_writer.proofs.Files.{gmm-weights, gmm-means, gmm-vars, gmm-end, gmm-whole}
 use Rattle.model_writer.proofs.put_gmm_f32.Statement.{statement}
 use Rattle.model_writer.proofs.put_gmm_f32.Tie as tie
 
@@ -16,31 +10,56 @@ slice-aggregate-put-line-f32 : tie.Need-slice-aggregate-put-line-f32
 slice-aggregate-put-line-f32 c = search needs
 
 put-line-f32-requires : tie.Need-put-line-f32-requires
-put-line-f32-requires c κs = (omega (arith, ((c .before .before .before .before .before .before .pre) .0), length-append (lineBytes binary32 (weightsHead binary32) ((c .before .before .before .before .before .before .args) .g) ((c .before .before .before .before .before .before .args) .weights .now)) ((tableBytes binary32 (meansHead binary32) ((c .before .before .before .before .before .before .args) .g) ((c .before .before .before .before .before .before .args) .d) ((c .before .before .before .before .before .before .args) .means-invvars .now)) ++ ((tableBytes binary32 (varsHead binary32) ((c .before .before .before .before .before .before .args) .g) ((c .before .before .before .before .before .before .args) .d) ((c .before .before .before .before .before .before .args) .inv-vars .now)) ++ (tokenBytes "</DiagGMM>")))), (c .before .before .before .before .before .before .pre) .1)
+put-line-f32-requires c κs =
+    let start = c .before .before .before .before .before .before in
+    (gmm-weights binary32 (start .args .g) (start .args .d) (start .args .weights .now) (start .args .means-invvars .now) (start .args .inv-vars .now) (start .args .out .now) (start .args .at) (start .pre .0), start .pre .1)
 
 slice-aggregate-put-table-f32 : tie.Need-slice-aggregate-put-table-f32
 slice-aggregate-put-table-f32 c = search needs
 
 put-table-f32-requires : tie.Need-put-table-f32-requires
-put-table-f32-requires c κs = (omega (arith, (room-rest (lineBytes binary32 (weightsHead binary32) ((c .before .before .before .before .before .before .before .before .before .before .before .args) .g) ((c .before .before .before .before .before .before .before .before .before .before .before .args) .weights .now)) ((tableBytes binary32 (meansHead binary32) ((c .before .before .before .before .before .before .before .before .before .before .before .args) .g) ((c .before .before .before .before .before .before .before .before .before .before .before .args) .d) ((c .before .before .before .before .before .before .before .before .before .before .before .args) .means-invvars .now)) ++ ((tableBytes binary32 (varsHead binary32) ((c .before .before .before .before .before .before .before .before .before .before .before .args) .g) ((c .before .before .before .before .before .before .before .before .before .before .before .args) .d) ((c .before .before .before .before .before .before .before .before .before .before .before .args) .inv-vars .now)) ++ (tokenBytes "</DiagGMM>"))) ((c .before .before .before .before .before .before .before .before .before .before .before .pre) .0) ((c .before .before .before .before .put-line-f32) .ensures)), length-append (tableBytes binary32 (meansHead binary32) ((c .before .before .before .before .before .before .before .before .before .before .before .args) .g) ((c .before .before .before .before .before .before .before .before .before .before .before .args) .d) ((c .before .before .before .before .before .before .before .before .before .before .before .args) .means-invvars .now)) ((tableBytes binary32 (varsHead binary32) ((c .before .before .before .before .before .before .before .before .before .before .before .args) .g) ((c .before .before .before .before .before .before .before .before .before .before .before .args) .d) ((c .before .before .before .before .before .before .before .before .before .before .before .args) .inv-vars .now)) ++ (tokenBytes "</DiagGMM>"))), (c .before .before .before .before .before .before .before .before .before .before .before .pre) .2)
+put-table-f32-requires c κs =
+    let at-put-line-f32 = c .before .before .before .before in
+    let start = at-put-line-f32 .before .before .before .before .before .before .before in
+    (gmm-means binary32 (start .args .g) (start .args .d) (start .args .weights .now) (start .args .means-invvars .now) (start .args .inv-vars .now) (start .args .out .now) (start .args .at) (start .pre .0) (at-put-line-f32 .put-line-f32 .ensures), start .pre .2)
 
 slice-aggregate-put-table-f32-2 : tie.Need-slice-aggregate-put-table-f32-2
 slice-aggregate-put-table-f32-2 c = search needs
 
 put-table-f32-requires-2 : tie.Need-put-table-f32-requires-2
-put-table-f32-requires-2 c κs = (omega (arith, (room-rest (tableBytes binary32 (meansHead binary32) ((c .before .before .before .before .before .before .before .before .before .before .before .before .before .before .before .before .args) .g) ((c .before .before .before .before .before .before .before .before .before .before .before .before .before .before .before .before .args) .d) ((c .before .before .before .before .before .before .before .before .before .before .before .before .before .before .before .before .args) .means-invvars .now)) ((tableBytes binary32 (varsHead binary32) ((c .before .before .before .before .before .before .before .before .before .before .before .before .before .before .before .before .args) .g) ((c .before .before .before .before .before .before .before .before .before .before .before .before .before .before .before .before .args) .d) ((c .before .before .before .before .before .before .before .before .before .before .before .before .before .before .before .before .args) .inv-vars .now)) ++ (tokenBytes "</DiagGMM>")) (room-rest (lineBytes binary32 (weightsHead binary32) ((c .before .before .before .before .before .before .before .before .before .before .before .before .before .before .before .before .args) .g) ((c .before .before .before .before .before .before .before .before .before .before .before .before .before .before .before .before .args) .weights .now)) ((tableBytes binary32 (meansHead binary32) ((c .before .before .before .before .before .before .before .before .before .before .before .before .before .before .before .before .args) .g) ((c .before .before .before .before .before .before .before .before .before .before .before .before .before .before .before .before .args) .d) ((c .before .before .before .before .before .before .before .before .before .before .before .before .before .before .before .before .args) .means-invvars .now)) ++ ((tableBytes binary32 (varsHead binary32) ((c .before .before .before .before .before .before .before .before .before .before .before .before .before .before .before .before .args) .g) ((c .before .before .before .before .before .before .before .before .before .before .before .before .before .before .before .before .args) .d) ((c .before .before .before .before .before .before .before .before .before .before .before .before .before .before .before .before .args) .inv-vars .now)) ++ (tokenBytes "</DiagGMM>"))) ((c .before .before .before .before .before .before .before .before .before .before .before .before .before .before .before .before .pre) .0) ((c .before .before .before .before .before .before .before .before .before .put-line-f32) .ensures)) ((c .before .before .before .before .put-table-f32) .ensures)), length-append (tableBytes binary32 (varsHead binary32) ((c .before .before .before .before .before .before .before .before .before .before .before .before .before .before .before .before .args) .g) ((c .before .before .before .before .before .before .before .before .before .before .before .before .before .before .before .before .args) .d) ((c .before .before .before .before .before .before .before .before .before .before .before .before .before .before .before .before .args) .inv-vars .now)) (tokenBytes "</DiagGMM>")), (c .before .before .before .before .before .before .before .before .before .before .before .before .before .before .before .before .pre) .3)
+put-table-f32-requires-2 c κs =
+    let at-put-table-f32 = c .before .before .before .before in
+    let at-put-line-f32 = at-put-table-f32 .before .before .before .before .before in
+    let start = at-put-line-f32 .before .before .before .before .before .before .before in
+    (gmm-vars binary32 (start .args .g) (start .args .d) (start .args .weights .now) (start .args .means-invvars .now) (start .args .inv-vars .now) (start .args .out .now) (start .args .at) (start .pre .0) (at-put-line-f32 .put-line-f32 .ensures) (at-put-table-f32 .put-table-f32 .ensures), start .pre .3)
 
 slice-aggregate-put-bytes : tie.Need-slice-aggregate-put-bytes
 slice-aggregate-put-bytes c = search needs
 
 put-bytes-requires : tie.Need-put-bytes-requires
-put-bytes-requires c κs = room-rest (tableBytes binary32 (varsHead binary32) ((c .before .before .before .before .before .before .before .before .before .before .before .before .before .before .before .before .before .before .before .before .before .args) .g) ((c .before .before .before .before .before .before .before .before .before .before .before .before .before .before .before .before .before .before .before .before .before .args) .d) ((c .before .before .before .before .before .before .before .before .before .before .before .before .before .before .before .before .before .before .before .before .before .args) .inv-vars .now)) (tokenBytes "</DiagGMM>") (room-rest (tableBytes binary32 (meansHead binary32) ((c .before .before .before .before .before .before .before .before .before .before .before .before .before .before .before .before .before .before .before .before .before .args) .g) ((c .before .before .before .before .before .before .before .before .before .before .before .before .before .before .before .before .before .before .before .before .before .args) .d) ((c .before .before .before .before .before .before .before .before .before .before .before .before .before .before .before .before .before .before .before .before .before .args) .means-invvars .now)) ((tableBytes binary32 (varsHead binary32) ((c .before .before .before .before .before .before .before .before .before .before .before .before .before .before .before .before .before .before .before .before .before .args) .g) ((c .before .before .before .before .before .before .before .before .before .before .before .before .before .before .before .before .before .before .before .before .before .args) .d) ((c .before .before .before .before .before .before .before .before .before .before .before .before .before .before .before .before .before .before .before .before .before .args) .inv-vars .now)) ++ (tokenBytes "</DiagGMM>")) (room-rest (lineBytes binary32 (weightsHead binary32) ((c .before .before .before .before .before .before .before .before .before .before .before .before .before .before .before .before .before .before .before .before .before .args) .g) ((c .before .before .before .before .before .before .before .before .before .before .before .before .before .before .before .before .before .before .before .before .before .args) .weights .now)) ((tableBytes binary32 (meansHead binary32) ((c .before .before .before .before .before .before .before .before .before .before .before .before .before .before .before .before .before .before .before .before .before .args) .g) ((c .before .before .before .before .before .before .before .before .before .before .before .before .before .before .before .before .before .before .before .before .before .args) .d) ((c .before .before .before .before .before .before .before .before .before .before .before .before .before .before .before .before .before .before .before .before .before .args) .means-invvars .now)) ++ ((tableBytes binary32 (varsHead binary32) ((c .before .before .before .before .before .before .before .before .before .before .before .before .before .before .before .before .before .before .before .before .before .args) .g) ((c .before .before .before .before .before .before .before .before .before .before .before .before .before .before .before .before .before .before .before .before .before .args) .d) ((c .before .before .before .before .before .before .before .before .before .before .before .before .before .before .before .before .before .before .before .before .before .args) .inv-vars .now)) ++ (tokenBytes "</DiagGMM>"))) ((c .before .before .before .before .before .before .before .before .before .before .before .before .before .before .before .before .before .before .before .before .before .pre) .0) ((c .before .before .before .before .before .before .before .before .before .before .before .before .before .before .put-line-f32) .ensures)) ((c .before .before .before .before .before .before .before .before .before .put-table-f32) .ensures)) ((c .before .before .before .before .put-table-f322) .ensures)
+put-bytes-requires c κs =
+    let at-put-table-f322 = c .before .before .before .before in
+    let at-put-table-f32 = at-put-table-f322 .before .before .before .before .before in
+    let at-put-line-f32 = at-put-table-f32 .before .before .before .before .before in
+    let start = at-put-line-f32 .before .before .before .before .before .before .before in
+    gmm-end binary32 (start .args .g) (start .args .d) (start .args .weights .now) (start .args .means-invvars .now) (start .args .inv-vars .now) (start .args .out .now) (start .args .at) (start .pre .0) (at-put-line-f32 .put-line-f32 .ensures) (at-put-table-f32 .put-table-f32 .ensures) (at-put-table-f322 .put-table-f322 .ensures)
 
 same-length : tie.Need-same-length
-same-length c = (c .before .before .put-bytes) .ensures .long ∙ (c .before .before .before .before .before .before .before .put-table-f322) .ensures .long ∙ (c .before .before .before .before .before .before .before .before .before .before .before .before .put-table-f32) .ensures .long ∙ (c .before .before .before .before .before .before .before .before .before .before .before .before .before .before .before .before .before .put-line-f32) .ensures .long
+same-length c =
+    let at-put-bytes = c .before .before in
+    let at-put-table-f322 = at-put-bytes .before .before .before .before .before in
+    let at-put-table-f32 = at-put-table-f322 .before .before .before .before .before in
+    let at-put-line-f32 = at-put-table-f32 .before .before .before .before .before in
+    at-put-bytes .put-bytes .ensures .long ∙ at-put-table-f322 .put-table-f322 .ensures .long ∙ at-put-table-f32 .put-table-f32 .ensures .long ∙ at-put-line-f32 .put-line-f32 .ensures .long
 
 returns : tie.Need-returns
-returns c = chain (lineBytes binary32 (weightsHead binary32) ((c .before .before .before .before .before .before .before .before .before .before .before .before .before .before .before .before .before .before .before .before .before .before .before .before .args) .g) ((c .before .before .before .before .before .before .before .before .before .before .before .before .before .before .before .before .before .before .before .before .before .before .before .before .args) .weights .now)) ((tableBytes binary32 (meansHead binary32) ((c .before .before .before .before .before .before .before .before .before .before .before .before .before .before .before .before .before .before .before .before .before .before .before .before .args) .g) ((c .before .before .before .before .before .before .before .before .before .before .before .before .before .before .before .before .before .before .before .before .before .before .before .before .args) .d) ((c .before .before .before .before .before .before .before .before .before .before .before .before .before .before .before .before .before .before .before .before .before .before .before .before .args) .means-invvars .now)) ++ ((tableBytes binary32 (varsHead binary32) ((c .before .before .before .before .before .before .before .before .before .before .before .before .before .before .before .before .before .before .before .before .before .before .before .before .args) .g) ((c .before .before .before .before .before .before .before .before .before .before .before .before .before .before .before .before .before .before .before .before .before .before .before .before .args) .d) ((c .before .before .before .before .before .before .before .before .before .before .before .before .before .before .before .before .before .before .before .before .before .before .before .before .args) .inv-vars .now)) ++ (tokenBytes "</DiagGMM>"))) ((c .before .before .before .before .before .before .before .before .before .before .before .before .before .before .before .before .before .before .before .before .before .before .before .before .pre) .0) ((c .before .before .before .before .before .before .before .before .before .before .before .before .before .before .before .before .before .put-line-f32) .ensures) (chain (tableBytes binary32 (meansHead binary32) ((c .before .before .before .before .before .before .before .before .before .before .before .before .before .before .before .before .before .before .before .before .before .before .before .before .args) .g) ((c .before .before .before .before .before .before .before .before .before .before .before .before .before .before .before .before .before .before .before .before .before .before .before .before .args) .d) ((c .before .before .before .before .before .before .before .before .before .before .before .before .before .before .before .before .before .before .before .before .before .before .before .before .args) .means-invvars .now)) ((tableBytes binary32 (varsHead binary32) ((c .before .before .before .before .before .before .before .before .before .before .before .before .before .before .before .before .before .before .before .before .before .before .before .before .args) .g) ((c .before .before .before .before .before .before .before .before .before .before .before .before .before .before .before .before .before .before .before .before .before .before .before .before .args) .d) ((c .before .before .before .before .before .before .before .before .before .before .before .before .before .before .before .before .before .before .before .before .before .before .before .before .args) .inv-vars .now)) ++ (tokenBytes "</DiagGMM>")) (room-rest (lineBytes binary32 (weightsHead binary32) ((c .before .before .before .before .before .before .before .before .before .before .before .before .before .before .before .before .before .before .before .before .before .before .before .before .args) .g) ((c .before .before .before .before .before .before .before .before .before .before .before .before .before .before .before .before .before .before .before .before .before .before .before .before .args) .weights .now)) ((tableBytes binary32 (meansHead binary32) ((c .before .before .before .before .before .before .before .before .before .before .before .before .before .before .before .before .before .before .before .before .before .before .before .before .args) .g) ((c .before .before .before .before .before .before .before .before .before .before .before .before .before .before .before .before .before .before .before .before .before .before .before .before .args) .d) ((c .before .before .before .before .before .before .before .before .before .before .before .before .before .before .before .before .before .before .before .before .before .before .before .before .args) .means-invvars .now)) ++ ((tableBytes binary32 (varsHead binary32) ((c .before .before .before .before .before .before .before .before .before .before .before .before .before .before .before .before .before .before .before .before .before .before .before .before .args) .g) ((c .before .before .before .before .before .before .before .before .before .before .before .before .before .before .before .before .before .before .before .before .before .before .before .before .args) .d) ((c .before .before .before .before .before .before .before .before .before .before .before .before .before .before .before .before .before .before .before .before .before .before .before .before .args) .inv-vars .now)) ++ (tokenBytes "</DiagGMM>"))) ((c .before .before .before .before .before .before .before .before .before .before .before .before .before .before .before .before .before .before .before .before .before .before .before .before .pre) .0) ((c .before .before .before .before .before .before .before .before .before .before .before .before .before .before .before .before .before .put-line-f32) .ensures)) ((c .before .before .before .before .before .before .before .before .before .before .before .before .put-table-f32) .ensures) (chain (tableBytes binary32 (varsHead binary32) ((c .before .before .before .before .before .before .before .before .before .before .before .before .before .before .before .before .before .before .before .before .before .before .before .before .args) .g) ((c .before .before .before .before .before .before .before .before .before .before .before .before .before .before .before .before .before .before .before .before .before .before .before .before .args) .d) ((c .before .before .before .before .before .before .before .before .before .before .before .before .before .before .before .before .before .before .before .before .before .before .before .before .args) .inv-vars .now)) (tokenBytes "</DiagGMM>") (room-rest (tableBytes binary32 (meansHead binary32) ((c .before .before .before .before .before .before .before .before .before .before .before .before .before .before .before .before .before .before .before .before .before .before .before .before .args) .g) ((c .before .before .before .before .before .before .before .before .before .before .before .before .before .before .before .before .before .before .before .before .before .before .before .before .args) .d) ((c .before .before .before .before .before .before .before .before .before .before .before .before .before .before .before .before .before .before .before .before .before .before .before .before .args) .means-invvars .now)) ((tableBytes binary32 (varsHead binary32) ((c .before .before .before .before .before .before .before .before .before .before .before .before .before .before .before .before .before .before .before .before .before .before .before .before .args) .g) ((c .before .before .before .before .before .before .before .before .before .before .before .before .before .before .before .before .before .before .before .before .before .before .before .before .args) .d) ((c .before .before .before .before .before .before .before .before .before .before .before .before .before .before .before .before .before .before .before .before .before .before .before .before .args) .inv-vars .now)) ++ (tokenBytes "</DiagGMM>")) (room-rest (lineBytes binary32 (weightsHead binary32) ((c .before .before .before .before .before .before .before .before .before .before .before .before .before .before .before .before .before .before .before .before .before .before .before .before .args) .g) ((c .before .before .before .before .before .before .before .before .before .before .before .before .before .before .before .before .before .before .before .before .before .before .before .before .args) .weights .now)) ((tableBytes binary32 (meansHead binary32) ((c .before .before .before .before .before .before .before .before .before .before .before .before .before .before .before .before .before .before .before .before .before .before .before .before .args) .g) ((c .before .before .before .before .before .before .before .before .before .before .before .before .before .before .before .before .before .before .before .before .before .before .before .before .args) .d) ((c .before .before .before .before .before .before .before .before .before .before .before .before .before .before .before .before .before .before .before .before .before .before .before .before .args) .means-invvars .now)) ++ ((tableBytes binary32 (varsHead binary32) ((c .before .before .before .before .before .before .before .before .before .before .before .before .before .before .before .before .before .before .before .before .before .before .before .before .args) .g) ((c .before .before .before .before .before .before .before .before .before .before .before .before .before .before .before .before .before .before .before .before .before .before .before .before .args) .d) ((c .before .before .before .before .before .before .before .before .before .before .before .before .before .before .before .before .before .before .before .before .before .before .before .before .args) .inv-vars .now)) ++ (tokenBytes "</DiagGMM>"))) ((c .before .before .before .before .before .before .before .before .before .before .before .before .before .before .before .before .before .before .before .before .before .before .before .before .pre) .0) ((c .before .before .before .before .before .before .before .before .before .before .before .before .before .before .before .before .before .put-line-f32) .ensures)) ((c .before .before .before .before .before .before .before .before .before .before .before .before .put-table-f32) .ensures)) ((c .before .before .before .before .before .before .before .put-table-f322) .ensures) ((c .before .before .put-bytes) .ensures)))
+returns c =
+    let at-put-bytes = c .before .before in
+    let at-put-table-f322 = at-put-bytes .before .before .before .before .before in
+    let at-put-table-f32 = at-put-table-f322 .before .before .before .before .before in
+    let at-put-line-f32 = at-put-table-f32 .before .before .before .before .before in
+    let start = at-put-line-f32 .before .before .before .before .before .before .before in
+    gmm-whole binary32 (start .args .g) (start .args .d) (start .args .weights .now) (start .args .means-invvars .now) (start .args .inv-vars .now) (start .args .out .now) (start .args .at) (start .pre .0) (at-put-line-f32 .put-line-f32 .ensures) (at-put-table-f32 .put-table-f32 .ensures) (at-put-table-f322 .put-table-f322 .ensures) (at-put-bytes .put-bytes .ensures)
 
 pub put-gmm-f32-spec : {M : Type 1} → statement M
 put-gmm-f32-spec =

@@ -1,29 +1,42 @@
--- `put_line_f32` meets its contract: three pieces, one after the other (`chain` in Writes.antt).
+-- `put_line_f32` meets its contract: three pieces, one after the other (`line-whole` in Files.antt).
 use mathlib.Core.Path.{_∙_}
-use mathlib.Core.List.{_++_}
-use Prim.Native.Nat.{_+_, _-_}
-use native.Mathlib.Omega.{arith}
-use lib.ListN.{length-append}
 use lib.Ieee.{binary32}
-use Rattle.model_bytes.specs.Written.{numbersBytes, sizeBytes}
-use Rattle.model_writer.proofs.Writes.{room-rest, chain}
+use Rattle.model_writer.proofs.Files.{line-head, line-size, line-numbers, line-whole}
 use Rattle.model_writer.proofs.put_line_f32.Statement.{statement}
 use Rattle.model_writer.proofs.put_line_f32.Tie as tie
 
 put-bytes-requires : tie.Need-put-bytes-requires
-put-bytes-requires c κs = omega (arith, ((c .before .before .before .before .pre) .0), length-append ((c .before .before .before .before .args) .head .now) ((sizeBytes ((c .before .before .before .before .args) .n)) ++ (numbersBytes binary32 ((c .before .before .before .before .args) .xs .now))))
+put-bytes-requires c κs =
+    let start = c .before .before .before .before in
+    line-head binary32 (start .args .head .now) (start .args .n) (start .args .xs .now) (start .args .out .now) (start .args .at) (start .pre .0)
 
 put-size-requires : tie.Need-put-size-requires
-put-size-requires c κs = omega (arith, (room-rest ((c .before .before .before .before .before .before .before .before .args) .head .now) ((sizeBytes ((c .before .before .before .before .before .before .before .before .args) .n)) ++ (numbersBytes binary32 ((c .before .before .before .before .before .before .before .before .args) .xs .now))) ((c .before .before .before .before .before .before .before .before .pre) .0) ((c .before .before .before .put-bytes) .ensures)), length-append (sizeBytes ((c .before .before .before .before .before .before .before .before .args) .n)) (numbersBytes binary32 ((c .before .before .before .before .before .before .before .before .args) .xs .now)))
+put-size-requires c κs =
+    let at-put-bytes = c .before .before .before in
+    let start = at-put-bytes .before .before .before .before .before in
+    line-size binary32 (start .args .head .now) (start .args .n) (start .args .xs .now) (start .args .out .now) (start .args .at) (start .pre .0) (at-put-bytes .put-bytes .ensures)
 
 put-f32s-requires : tie.Need-put-f32s-requires
-put-f32s-requires c κs = (room-rest (sizeBytes ((c .before .before .before .before .before .before .before .before .before .before .before .before .args) .n)) (numbersBytes binary32 ((c .before .before .before .before .before .before .before .before .before .before .before .before .args) .xs .now)) (room-rest ((c .before .before .before .before .before .before .before .before .before .before .before .before .args) .head .now) ((sizeBytes ((c .before .before .before .before .before .before .before .before .before .before .before .before .args) .n)) ++ (numbersBytes binary32 ((c .before .before .before .before .before .before .before .before .before .before .before .before .args) .xs .now))) ((c .before .before .before .before .before .before .before .before .before .before .before .before .pre) .0) ((c .before .before .before .before .before .before .before .put-bytes) .ensures)) ((c .before .before .before .put-size) .ensures), (c .before .before .before .before .before .before .before .before .before .before .before .before .pre) .1)
+put-f32s-requires c κs =
+    let at-put-size = c .before .before .before in
+    let at-put-bytes = at-put-size .before .before .before .before in
+    let start = at-put-bytes .before .before .before .before .before in
+    (line-numbers binary32 (start .args .head .now) (start .args .n) (start .args .xs .now) (start .args .out .now) (start .args .at) (start .pre .0) (at-put-bytes .put-bytes .ensures) (at-put-size .put-size .ensures), start .pre .1)
 
 same-length : tie.Need-same-length
-same-length c = (c .before .before .put-f32s) .ensures .long ∙ (c .before .before .before .before .before .before .put-size) .ensures .long ∙ (c .before .before .before .before .before .before .before .before .before .before .put-bytes) .ensures .long
+same-length c =
+    let at-put-f32s = c .before .before in
+    let at-put-size = at-put-f32s .before .before .before .before in
+    let at-put-bytes = at-put-size .before .before .before .before in
+    at-put-f32s .put-f32s .ensures .long ∙ at-put-size .put-size .ensures .long ∙ at-put-bytes .put-bytes .ensures .long
 
 returns : tie.Need-returns
-returns c = chain ((c .before .before .before .before .before .before .before .before .before .before .before .before .before .before .before .args) .head .now) ((sizeBytes ((c .before .before .before .before .before .before .before .before .before .before .before .before .before .before .before .args) .n)) ++ (numbersBytes binary32 ((c .before .before .before .before .before .before .before .before .before .before .before .before .before .before .before .args) .xs .now))) ((c .before .before .before .before .before .before .before .before .before .before .before .before .before .before .before .pre) .0) ((c .before .before .before .before .before .before .before .before .before .before .put-bytes) .ensures) (chain (sizeBytes ((c .before .before .before .before .before .before .before .before .before .before .before .before .before .before .before .args) .n)) (numbersBytes binary32 ((c .before .before .before .before .before .before .before .before .before .before .before .before .before .before .before .args) .xs .now)) (room-rest ((c .before .before .before .before .before .before .before .before .before .before .before .before .before .before .before .args) .head .now) ((sizeBytes ((c .before .before .before .before .before .before .before .before .before .before .before .before .before .before .before .args) .n)) ++ (numbersBytes binary32 ((c .before .before .before .before .before .before .before .before .before .before .before .before .before .before .before .args) .xs .now))) ((c .before .before .before .before .before .before .before .before .before .before .before .before .before .before .before .pre) .0) ((c .before .before .before .before .before .before .before .before .before .before .put-bytes) .ensures)) ((c .before .before .before .before .before .before .put-size) .ensures) ((c .before .before .put-f32s) .ensures))
+returns c =
+    let at-put-f32s = c .before .before in
+    let at-put-size = at-put-f32s .before .before .before .before in
+    let at-put-bytes = at-put-size .before .before .before .before in
+    let start = at-put-bytes .before .before .before .before .before in
+    line-whole binary32 (start .args .head .now) (start .args .n) (start .args .xs .now) (start .args .out .now) (start .args .at) (start .pre .0) (at-put-bytes .put-bytes .ensures) (at-put-size .put-size .ensures) (at-put-f32s .put-f32s .ensures)
 
 pub put-line-f32-spec : {M : Type 1} → statement M
 put-line-f32-spec =

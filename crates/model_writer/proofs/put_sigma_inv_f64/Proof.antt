@@ -1,22 +1,19 @@
--- `put_sigma_inv_f64` meets its contract: the first i blocks are written (`Blocks` in Writes.antt); each takes its part of the list.
+-- `put_sigma_inv_f64` meets its contract: the first i blocks are written (`Blocks` in Writes.antt); each is of the part that is lent (`lent-may`, `lent-turn`).
 use borrow.Author.Needs.{needs}
-use mathlib.Core.Path.{_≡_, refl, sym, ap, _∙_, subst}
-use mathlib.Core.List.{List}
-use Prim.Native.Nat.{_+_, _-_, _*_, _≤_}
+use mathlib.Core.Path.{_≡_, refl}
+use Prim.Native.Nat.{_+_, _-_, _≤_}
 use native.Mathlib.Nat.{mul-le-mul}
 use native.Mathlib.Omega.{arith}
-use lib.ListN.{length}
-use lib.Ieee.{Float, binary64}
-use Rattle.loops.proofs.Parts.{lent-is}
+use lib.Ieee.{binary64}
 use Rattle.definition.specs.Kaldi.{triangle}
 use Rattle.model_bytes.specs.Written.{lineBytes, part}
-use Rattle.model_writer.proofs.Writes.{wrote-as, sigma-cells, Blocks, blocks-none, blocks-room, blocks-turn, blocks-end, part-in, part-finite}
+use Rattle.model_writer.proofs.Writes.{sigma-cells, Blocks, blocks-none, blocks-end, part-in, lent-may, lent-turn}
 use Rattle.model_writer.proofs.put_sigma_inv_f64.Statement.{statement}
 use Rattle.model_writer.proofs.put_sigma_inv_f64.Tie as tie
 
 abbrev Inv-loop : tie.InvT-loop
 Inv-loop out₀ at head e d xs n next₀ i₀ out next i =
-    (n ≡ triangle (d)) × Blocks e (λ i. lineBytes binary64 head d (part (triangle d) i xs)) out₀ at out next i
+    (n ≡ triangle d) × Blocks e (λ i. lineBytes binary64 head d (part (triangle d) i xs)) out₀ at out next i
 
 abbrev μ-loop : tie.MeasureT-loop
 μ-loop out₀ at head e d xs n next₀ i₀ out next i = e - i
@@ -25,19 +22,33 @@ add-n : tie.Need-add-n Inv-loop μ-loop
 add-n c = search needs
 
 mul-n : tie.Need-mul-n Inv-loop μ-loop
-mul-n c = let k : (c .before .before .before .args) .d + 1 ≤ 65 = omega (arith, (c .before .before .before .pre) .2) in let h = mul-le-mul {n₂ = 64} {m₂ = 65} ((c .before .before .before .pre) .2) k in omega (arith, h)
+mul-n c =
+    let start = c .before .before .before in
+    let k : start .args .d + 1 ≤ 65 = omega (arith, start .pre .2) in let h = mul-le-mul {n₂ = 64} {m₂ = 65} (start .pre .2) k in omega (arith, h)
 
 loop-holds : tie.Need-loop-holds Inv-loop μ-loop
-loop-holds c = (refl, blocks-none ((c .before .before .before .args) .e) (λ i. lineBytes binary64 ((c .before .before .before .args) .head .now) ((c .before .before .before .args) .d) (part (triangle ((c .before .before .before .args) .d)) i ((c .before .before .before .args) .xs .now))) ((c .before .before .before .args) .out .now) ((c .before .before .before .args) .at))
+loop-holds c =
+    let start = c .before .before .before in
+    (refl, blocks-none (start .args .e) (λ i. lineBytes binary64 (start .args .head .now) (start .args .d) (part (triangle (start .args .d)) i (start .args .xs .now))) (start .args .out .now) (start .args .at))
 
 mul-from : tie.Need-mul-from Inv-loop μ-loop
-mul-from c = omega (arith, (part-in (triangle ((c .before .before .before .before .before .args) .d)) ((c .before .before .before .before .before .args) .xs .now) ((c .before .before .before .before .before .args) .e) ((c .before .loop) .i) ((c .before .before .before .before .before .pre) .1) ((c .loop-test) .taken)))
+mul-from c =
+    let at-loop = c .before in
+    let start = at-loop .before .before .before .before in
+    omega (arith, (part-in (triangle (start .args .d)) (start .args .xs .now) (start .args .e) (at-loop .loop .i) (start .pre .1) (c .loop-test .taken)))
 
 add-to : tie.Need-add-to Inv-loop μ-loop
-add-to c = omega (arith, (part-in (triangle ((c .before .before .before .before .before .args) .d)) ((c .before .before .before .before .before .args) .xs .now) ((c .before .before .before .before .before .args) .e) ((c .before .loop) .i) ((c .before .before .before .before .before .pre) .1) ((c .loop-test) .taken)))
+add-to c =
+    let at-loop = c .before in
+    let start = at-loop .before .before .before .before in
+    omega (arith, (part-in (triangle (start .args .d)) (start .args .xs .now) (start .args .e) (at-loop .loop .i) (start .pre .1) (c .loop-test .taken)))
 
 mul-put-line-f64 : tie.Need-mul-put-line-f64 Inv-loop μ-loop
-mul-put-line-f64 c = omega (arith, (part-in (triangle ((c .before .before .before .before .before .before .args) .d)) ((c .before .before .before .before .before .before .args) .xs .now) ((c .before .before .before .before .before .before .args) .e) ((c .before .before .loop) .i) ((c .before .before .before .before .before .before .pre) .1) ((c .before .loop-test) .taken)), sigma-cells ((c .before .before .before .before .before .before .args) .e) ((c .before .before .before .before .before .before .args) .d) ((c .before .before .before .before .before .before .pre) .2) ((c .before .before .before .before .before .before .pre) .3), (c .before .before .before .before .before .before .pre) .1 .many)
+mul-put-line-f64 c =
+    let at-loop-test = c .before in
+    let at-loop = at-loop-test .before in
+    let start = at-loop .before .before .before .before in
+    omega (arith, (part-in (triangle (start .args .d)) (start .args .xs .now) (start .args .e) (at-loop .loop .i) (start .pre .1) (at-loop-test .loop-test .taken)), sigma-cells (start .args .e) (start .args .d) (start .pre .2) (start .pre .3), start .pre .1 .many)
 
 sub-put-line-f64 : tie.Need-sub-put-line-f64 Inv-loop μ-loop
 sub-put-line-f64 c = search needs
@@ -46,10 +57,18 @@ part-put-line-f64-start : tie.Need-part-put-line-f64-start Inv-loop μ-loop
 part-put-line-f64-start c = omega arith
 
 part-put-line-f64-end : tie.Need-part-put-line-f64-end Inv-loop μ-loop
-part-put-line-f64-end c = omega (arith, (part-in (triangle ((c .before .before .before .before .before .before .args) .d)) ((c .before .before .before .before .before .before .args) .xs .now) ((c .before .before .before .before .before .before .args) .e) ((c .before .before .loop) .i) ((c .before .before .before .before .before .before .pre) .1) ((c .before .loop-test) .taken)))
+part-put-line-f64-end c =
+    let at-loop-test = c .before in
+    let at-loop = at-loop-test .before in
+    let start = at-loop .before .before .before .before in
+    omega (arith, (part-in (triangle (start .args .d)) (start .args .xs .now) (start .args .e) (at-loop .loop .i) (start .pre .1) (at-loop-test .loop-test .taken)))
 
 put-line-f64-requires : tie.Need-put-line-f64-requires Inv-loop μ-loop
-put-line-f64-requires c κs = let same = (lent-is ((c .before .before .before .loop) .i * (triangle ((c .before .before .before .before .before .before .before .args) .d))) (triangle ((c .before .before .before .before .before .before .before .args) .d)) ((c .before .before .before .loop) .i * (triangle ((c .before .before .before .before .before .before .before .args) .d)) + (triangle ((c .before .before .before .before .before .before .before .args) .d))) ((c .before .before .before .before .before .before .before .args) .xs .now) refl) in (subst (λ (l : List Float). (c .before .before .before .loop) .next + length (lineBytes binary64 ((c .before .before .before .before .before .before .before .args) .head .now) ((c .before .before .before .before .before .before .before .args) .d) l) ≤ length ((c .before .before .before .loop) .out)) (sym same) (blocks-room ((c .before .before .before .before .before .before .before .args) .e) (λ i. lineBytes binary64 ((c .before .before .before .before .before .before .before .args) .head .now) ((c .before .before .before .before .before .before .before .args) .d) (part (triangle ((c .before .before .before .before .before .before .before .args) .d)) i ((c .before .before .before .before .before .before .before .args) .xs .now))) ((c .before .before .before .before .before .before .before .args) .out .now) ((c .before .before .before .before .before .before .before .args) .at) ((c .before .before .before .loop) .inv .1) ((c .before .before .before .before .before .before .before .pre) .0) ((c .before .before .loop-test) .taken)), ap (Rattle.loops.specs.Lists.allOf lib.Ieee.Scale.finite) same ∙ part-finite (triangle ((c .before .before .before .before .before .before .before .args) .d)) ((c .before .before .before .before .before .before .before .args) .xs .now) ((c .before .before .before .before .before .before .before .args) .e) ((c .before .before .before .loop) .i) ((c .before .before .before .before .before .before .before .pre) .1) ((c .before .before .loop-test) .taken))
+put-line-f64-requires c κs =
+    let at-loop-test = c .before .before in
+    let at-loop = at-loop-test .before in
+    let start = at-loop .before .before .before .before in
+    lent-may (triangle (start .args .d)) (start .args .e) (lineBytes binary64 (start .args .head .now) (start .args .d)) (start .args .xs .now) (start .args .out .now) (start .args .at) (at-loop .loop .inv .1) (at-loop-test .loop-test .taken) (start .pre .0) (start .pre .1)
 
 add-i : tie.Need-add-i Inv-loop μ-loop
 add-i c = search needs
@@ -58,13 +77,23 @@ loop-less : tie.Need-loop-less Inv-loop μ-loop
 loop-less c = search needs
 
 loop-again : tie.Need-loop-again Inv-loop μ-loop
-loop-again c = ((c .before .before .before .before .before .before .loop) .inv .0, blocks-turn ((c .before .before .before .before .before .before .before .before .before .before .args) .e) (λ i. lineBytes binary64 ((c .before .before .before .before .before .before .before .before .before .before .args) .head .now) ((c .before .before .before .before .before .before .before .before .before .before .args) .d) (part (triangle ((c .before .before .before .before .before .before .before .before .before .before .args) .d)) i ((c .before .before .before .before .before .before .before .before .before .before .args) .xs .now))) ((c .before .before .before .before .before .before .before .before .before .before .args) .out .now) ((c .before .before .before .before .before .before .before .before .before .before .args) .at) ((c .before .before .before .before .before .before .loop) .inv .1) (omega (arith, (c .before .before .before .before .before .before .before .before .before .before .pre) .0)) ((c .before .before .before .before .before .loop-test) .taken) (wrote-as (ap (λ (l : List Float). lineBytes binary64 ((c .before .before .before .before .before .before .before .before .before .before .args) .head .now) ((c .before .before .before .before .before .before .before .before .before .before .args) .d) l) (lent-is ((c .before .before .before .before .before .before .loop) .i * (triangle ((c .before .before .before .before .before .before .before .before .before .before .args) .d))) (triangle ((c .before .before .before .before .before .before .before .before .before .before .args) .d)) ((c .before .before .before .before .before .before .loop) .i * (triangle ((c .before .before .before .before .before .before .before .before .before .before .args) .d)) + (triangle ((c .before .before .before .before .before .before .before .before .before .before .args) .d))) ((c .before .before .before .before .before .before .before .before .before .before .args) .xs .now) refl)) ((c .before .before .put-line-f64) .ensures)))
+loop-again c =
+    let at-put-line-f64 = c .before .before in
+    let at-loop-test = at-put-line-f64 .before .before .before in
+    let at-loop = at-loop-test .before in
+    let start = at-loop .before .before .before .before in
+    (at-loop .loop .inv .0, lent-turn (triangle (start .args .d)) (start .args .e) (lineBytes binary64 (start .args .head .now) (start .args .d)) (start .args .xs .now) (start .args .out .now) (start .args .at) (at-loop .loop .inv .1) (at-loop-test .loop-test .taken) (start .pre .0) (at-put-line-f64 .put-line-f64 .ensures))
 
 same-length : tie.Need-same-length Inv-loop μ-loop
-same-length c = (c .before .loop) .inv .1 .wrote-so .long
+same-length c =
+    let at-loop = c .before in
+    at-loop .loop .inv .1 .wrote-so .long
 
 returns : tie.Need-returns Inv-loop μ-loop
-returns c = blocks-end ((c .before .before .before .before .before .args) .e) (λ i. lineBytes binary64 ((c .before .before .before .before .before .args) .head .now) ((c .before .before .before .before .before .args) .d) (part (triangle ((c .before .before .before .before .before .args) .d)) i ((c .before .before .before .before .before .args) .xs .now))) ((c .before .before .before .before .before .args) .out .now) ((c .before .before .before .before .before .args) .at) ((c .before .loop) .inv .1) ((c .loop-test) .left)
+returns c =
+    let at-loop = c .before in
+    let start = at-loop .before .before .before .before in
+    blocks-end (start .args .e) (λ i. lineBytes binary64 (start .args .head .now) (start .args .d) (part (triangle (start .args .d)) i (start .args .xs .now))) (start .args .out .now) (start .args .at) (at-loop .loop .inv .1) (c .loop-test .left)
 
 pub put-sigma-inv-f64-spec : {M : Type 1} → statement M
 put-sigma-inv-f64-spec =
