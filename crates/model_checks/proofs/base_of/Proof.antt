@@ -18,13 +18,23 @@ enum-known-len : tie.Need-enum-known-len
 enum-known-len c = search needs
 
 sub-result : tie.Need-sub-result
-sub-result c = let r = subst (cmvnIn ((c .before .before .before .before .before .args) .text .now)) ((c .before .len) .given .1) ((c .before .before .before .check-cmvn) .ensures .1) in omega (arith, r .low)
+sub-result c =
+    let at-len = c .before in
+    let at-check-cmvn = at-len .before .before in
+    let start = at-check-cmvn .before .before in
+    let r = subst (cmvnIn (start .args .text .now)) (at-len .len .given .1) (at-check-cmvn .check-cmvn .ensures .1) in
+    omega (arith, r .low)
 
 returns : tie.Need-returns
 returns c = base-none (told (cmvnOf ((c .before .before .before .before .args) .text .now)) ((c .before .before .check-cmvn) .ensures .0) ((c .enum-told) .given .1))
 
 returns-2 : tie.Need-returns-2
-returns-2 c = let r = subst (cmvnIn ((c .before .before .before .before .before .args) .text .now)) ((c .before .len) .given .1) ((c .before .before .before .check-cmvn) .ensures .1) in base-read _ _ _ (told (cmvnOf ((c .before .before .before .before .before .args) .text .now)) ((c .before .before .before .check-cmvn) .ensures .0) ((c .before .len) .given .1)) (r .many) (r .low) (r .high)
+returns-2 c =
+    let at-len = c .before in
+    let at-check-cmvn = at-len .before .before in
+    let start = at-check-cmvn .before .before in
+    let r = subst (cmvnIn (start .args .text .now)) (at-len .len .given .1) (at-check-cmvn .check-cmvn .ensures .1) in
+    base-read _ _ _ (told (cmvnOf (start .args .text .now)) (at-check-cmvn .check-cmvn .ensures .0) (at-len .len .given .1)) (r .many) (r .low) (r .high)
 
 pub base-of-spec : {M : Type 1} → statement M
 base-of-spec =

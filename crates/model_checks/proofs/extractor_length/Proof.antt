@@ -9,28 +9,49 @@ add-result : tie.Need-add-result
 add-result c = search needs
 
 mul-result : tie.Need-mul-result
-mul-result c = omega (arith, m-low ((c .before .args) .width) ((c .before .args) .z) ((c .before .pre) .0) ((c .before .pre) .1), square-low ((c .before .args) .width) ((c .before .args) .z) ((c .before .pre) .0) ((c .before .pre) .1), block-low ((c .before .args) .width) ((c .before .args) .z) ((c .before .pre) .0) ((c .before .pre) .1), blocks-low ((c .before .args) .width) ((c .before .args) .z) ((c .before .pre) .0) ((c .before .pre) .1))
+mul-result c =
+    let start = c .before in
+    let a = start .args in
+    omega (arith, m-low (a .width) (a .z) (start .pre .0) (start .pre .1), square-low (a .width) (a .z) (start .pre .0) (start .pre .1), block-low (a .width) (a .z) (start .pre .0) (start .pre .1), blocks-low (a .width) (a .z) (start .pre .0) (start .pre .1))
 
 add-result-2 : tie.Need-add-result-2
 add-result-2 c = search needs
 
 mul-result-2 : tie.Need-mul-result-2
-mul-result-2 c = omega (arith, m-low ((c .before .args) .width) ((c .before .args) .z) ((c .before .pre) .0) ((c .before .pre) .1), square-low ((c .before .args) .width) ((c .before .args) .z) ((c .before .pre) .0) ((c .before .pre) .1), block-low ((c .before .args) .width) ((c .before .args) .z) ((c .before .pre) .0) ((c .before .pre) .1), blocks-low ((c .before .args) .width) ((c .before .args) .z) ((c .before .pre) .0) ((c .before .pre) .1))
+mul-result-2 c =
+    let start = c .before in
+    let a = start .args in
+    omega (arith, m-low (a .width) (a .z) (start .pre .0) (start .pre .1), square-low (a .width) (a .z) (start .pre .0) (start .pre .1), block-low (a .width) (a .z) (start .pre .0) (start .pre .1), blocks-low (a .width) (a .z) (start .pre .0) (start .pre .1))
 
 add-result-3 : tie.Need-add-result-3
-add-result-3 c = omega (arith, m-low ((c .before .args) .width) ((c .before .args) .z) ((c .before .pre) .0) ((c .before .pre) .1), square-low ((c .before .args) .width) ((c .before .args) .z) ((c .before .pre) .0) ((c .before .pre) .1), block-low ((c .before .args) .width) ((c .before .args) .z) ((c .before .pre) .0) ((c .before .pre) .1), blocks-low ((c .before .args) .width) ((c .before .args) .z) ((c .before .pre) .0) ((c .before .pre) .1))
+add-result-3 c =
+    let start = c .before in
+    let a = start .args in
+    omega (arith, m-low (a .width) (a .z) (start .pre .0) (start .pre .1), square-low (a .width) (a .z) (start .pre .0) (start .pre .1), block-low (a .width) (a .z) (start .pre .0) (start .pre .1), blocks-low (a .width) (a .z) (start .pre .0) (start .pre .1))
 
 mul-result-3 : tie.Need-mul-result-3
-mul-result-3 c = omega (arith, m-low ((c .before .args) .width) ((c .before .args) .z) ((c .before .pre) .0) ((c .before .pre) .1), square-low ((c .before .args) .width) ((c .before .args) .z) ((c .before .pre) .0) ((c .before .pre) .1), block-low ((c .before .args) .width) ((c .before .args) .z) ((c .before .pre) .0) ((c .before .pre) .1), blocks-low ((c .before .args) .width) ((c .before .args) .z) ((c .before .pre) .0) ((c .before .pre) .1))
+mul-result-3 c =
+    let start = c .before in
+    let a = start .args in
+    omega (arith, m-low (a .width) (a .z) (start .pre .0) (start .pre .1), square-low (a .width) (a .z) (start .pre .0) (start .pre .1), block-low (a .width) (a .z) (start .pre .0) (start .pre .1), blocks-low (a .width) (a .z) (start .pre .0) (start .pre .1))
 
 add-result-4 : tie.Need-add-result-4
-add-result-4 c = omega (arith, m-low ((c .before .args) .width) ((c .before .args) .z) ((c .before .pre) .0) ((c .before .pre) .1), square-low ((c .before .args) .width) ((c .before .args) .z) ((c .before .pre) .0) ((c .before .pre) .1), block-low ((c .before .args) .width) ((c .before .args) .z) ((c .before .pre) .0) ((c .before .pre) .1), blocks-low ((c .before .args) .width) ((c .before .args) .z) ((c .before .pre) .0) ((c .before .pre) .1))
+add-result-4 c =
+    let start = c .before in
+    let a = start .args in
+    omega (arith, m-low (a .width) (a .z) (start .pre .0) (start .pre .1), square-low (a .width) (a .z) (start .pre .0) (start .pre .1), block-low (a .width) (a .z) (start .pre .0) (start .pre .1), blocks-low (a .width) (a .z) (start .pre .0) (start .pre .1))
 
 mul-result-4 : tie.Need-mul-result-4
-mul-result-4 c = omega (arith, m-low ((c .before .before .args) .width) ((c .before .before .args) .z) ((c .before .before .pre) .0) ((c .before .before .pre) .1), square-low ((c .before .before .args) .width) ((c .before .before .args) .z) ((c .before .before .pre) .0) ((c .before .before .pre) .1), block-low ((c .before .before .args) .width) ((c .before .before .args) .z) ((c .before .before .pre) .0) ((c .before .before .pre) .1), blocks-low ((c .before .before .args) .width) ((c .before .before .args) .z) ((c .before .before .pre) .0) ((c .before .before .pre) .1))
+mul-result-4 c =
+    let start = c .before .before in
+    let a = start .args in
+    omega (arith, m-low (a .width) (a .z) (start .pre .0) (start .pre .1), square-low (a .width) (a .z) (start .pre .0) (start .pre .1), block-low (a .width) (a .z) (start .pre .0) (start .pre .1), blocks-low (a .width) (a .z) (start .pre .0) (start .pre .1))
 
 add-result-5 : tie.Need-add-result-5
-add-result-5 c = omega (arith, m-low ((c .before .before .args) .width) ((c .before .before .args) .z) ((c .before .before .pre) .0) ((c .before .before .pre) .1), square-low ((c .before .before .args) .width) ((c .before .before .args) .z) ((c .before .before .pre) .0) ((c .before .before .pre) .1), block-low ((c .before .before .args) .width) ((c .before .before .args) .z) ((c .before .before .pre) .0) ((c .before .before .pre) .1), blocks-low ((c .before .before .args) .width) ((c .before .before .args) .z) ((c .before .before .pre) .0) ((c .before .before .pre) .1))
+add-result-5 c =
+    let start = c .before .before in
+    let a = start .args in
+    omega (arith, m-low (a .width) (a .z) (start .pre .0) (start .pre .1), square-low (a .width) (a .z) (start .pre .0) (start .pre .1), block-low (a .width) (a .z) (start .pre .0) (start .pre .1), blocks-low (a .width) (a .z) (start .pre .0) (start .pre .1))
 
 returns : tie.Need-returns
 returns c = search needs

@@ -9,22 +9,55 @@ outside-requires : tie.Need-outside-requires
 outside-requires c κs = search needs
 
 returns : tie.Need-returns
-returns c = ext-gauss ((c .before .before .args) .z) ((c .before .before .args) .m) ((c .before .before .args) .sigma-inv) ((c .before .before .args) .prior-offset) (sym ((c .before .outside) .ensures) ∙ (c .if1) .taken)
+returns c =
+    let at-outside = c .before in
+    let start = at-outside .before in
+    let a = start .args in
+    ext-gauss (a .z) (a .m) (a .sigma-inv) (a .prior-offset) (sym (at-outside .outside .ensures) ∙ c .if1 .taken)
 
 outside-requires-2 : tie.Need-outside-requires-2
 outside-requires-2 c κs = search needs
 
 returns-2 : tie.Need-returns-2
-returns-2 c = ext-ivector ((c .before .before .before .before .args) .z) ((c .before .before .before .before .args) .m) ((c .before .before .before .before .args) .sigma-inv) ((c .before .before .before .before .args) .prior-offset) (sym ((c .before .before .before .outside) .ensures) ∙ (c .before .before .if1) .left) (sym ((c .before .outside2) .ensures) ∙ (c .if2) .taken)
+returns-2 c =
+    let at-outside2 = c .before in
+    let at-if1 = at-outside2 .before in
+    let at-outside = at-if1 .before in
+    let start = at-outside .before in
+    let a = start .args in
+    ext-ivector (a .z) (a .m) (a .sigma-inv) (a .prior-offset) (sym (at-outside .outside .ensures) ∙ at-if1 .if1 .left) (sym (at-outside2 .outside2 .ensures) ∙ c .if2 .taken)
 
 returns-3 : tie.Need-returns-3
-returns-3 c = ext-m ((c .before .before .before .before .before .args) .z) ((c .before .before .before .before .before .args) .m) ((c .before .before .before .before .before .args) .sigma-inv) ((c .before .before .before .before .before .args) .prior-offset) (sym ((c .before .before .before .before .outside) .ensures) ∙ (c .before .before .before .if1) .left) (sym ((c .before .before .outside2) .ensures) ∙ (c .before .if2) .left) ((c .if3) .taken)
+returns-3 c =
+    let at-if2 = c .before in
+    let at-outside2 = at-if2 .before in
+    let at-if1 = at-outside2 .before in
+    let at-outside = at-if1 .before in
+    let start = at-outside .before in
+    let a = start .args in
+    ext-m (a .z) (a .m) (a .sigma-inv) (a .prior-offset) (sym (at-outside .outside .ensures) ∙ at-if1 .if1 .left) (sym (at-outside2 .outside2 .ensures) ∙ at-if2 .if2 .left) (c .if3 .taken)
 
 returns-4 : tie.Need-returns-4
-returns-4 c = ext-sigma ((c .before .before .before .before .before .before .args) .z) ((c .before .before .before .before .before .before .args) .m) ((c .before .before .before .before .before .before .args) .sigma-inv) ((c .before .before .before .before .before .before .args) .prior-offset) (sym ((c .before .before .before .before .before .outside) .ensures) ∙ (c .before .before .before .before .if1) .left) (sym ((c .before .before .before .outside2) .ensures) ∙ (c .before .before .if2) .left) ((c .before .if3) .left) ((c .if4) .taken)
+returns-4 c =
+    let at-if3 = c .before in
+    let at-if2 = at-if3 .before in
+    let at-outside2 = at-if2 .before in
+    let at-if1 = at-outside2 .before in
+    let at-outside = at-if1 .before in
+    let start = at-outside .before in
+    let a = start .args in
+    ext-sigma (a .z) (a .m) (a .sigma-inv) (a .prior-offset) (sym (at-outside .outside .ensures) ∙ at-if1 .if1 .left) (sym (at-outside2 .outside2 .ensures) ∙ at-if2 .if2 .left) (at-if3 .if3 .left) (c .if4 .taken)
 
 returns-5 : tie.Need-returns-5
-returns-5 c = ext-offset ((c .before .before .before .before .before .before .args) .z) ((c .before .before .before .before .before .before .args) .m) ((c .before .before .before .before .before .before .args) .sigma-inv) ((c .before .before .before .before .before .before .args) .prior-offset) (sym ((c .before .before .before .before .before .outside) .ensures) ∙ (c .before .before .before .before .if1) .left) (sym ((c .before .before .before .outside2) .ensures) ∙ (c .before .before .if2) .left) ((c .before .if3) .left) ((c .if4) .left)
+returns-5 c =
+    let at-if3 = c .before in
+    let at-if2 = at-if3 .before in
+    let at-outside2 = at-if2 .before in
+    let at-if1 = at-outside2 .before in
+    let at-outside = at-if1 .before in
+    let start = at-outside .before in
+    let a = start .args in
+    ext-offset (a .z) (a .m) (a .sigma-inv) (a .prior-offset) (sym (at-outside .outside .ensures) ∙ at-if1 .if1 .left) (sym (at-outside2 .outside2 .ensures) ∙ at-if2 .if2 .left) (at-if3 .if3 .left) (c .if4 .left)
 
 pub extractor-order-spec : {M : Type 1} → statement M
 extractor-order-spec =

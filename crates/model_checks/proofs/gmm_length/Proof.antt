@@ -12,13 +12,22 @@ mul-result-2 : tie.Need-mul-result-2
 mul-result-2 c = omega (arith, cells-low ((c .before .args) .width) ((c .before .args) .z) ((c .before .pre) .0) ((c .before .pre) .1), gmm-low ((c .before .args) .width) ((c .before .args) .z) ((c .before .pre) .0) ((c .before .pre) .1))
 
 add-result : tie.Need-add-result
-add-result c = omega (arith, cells-low ((c .before .before .args) .width) ((c .before .before .args) .z) ((c .before .before .pre) .0) ((c .before .before .pre) .1), gmm-low ((c .before .before .args) .width) ((c .before .before .args) .z) ((c .before .before .pre) .0) ((c .before .before .pre) .1))
+add-result c =
+    let start = c .before .before in
+    let a = start .args in
+    omega (arith, cells-low (a .width) (a .z) (start .pre .0) (start .pre .1), gmm-low (a .width) (a .z) (start .pre .0) (start .pre .1))
 
 mul-result-3 : tie.Need-mul-result-3
-mul-result-3 c = omega (arith, cells-low ((c .before .before .args) .width) ((c .before .before .args) .z) ((c .before .before .pre) .0) ((c .before .before .pre) .1), gmm-low ((c .before .before .args) .width) ((c .before .before .args) .z) ((c .before .before .pre) .0) ((c .before .before .pre) .1))
+mul-result-3 c =
+    let start = c .before .before in
+    let a = start .args in
+    omega (arith, cells-low (a .width) (a .z) (start .pre .0) (start .pre .1), gmm-low (a .width) (a .z) (start .pre .0) (start .pre .1))
 
 add-result-2 : tie.Need-add-result-2
-add-result-2 c = omega (arith, cells-low ((c .before .before .args) .width) ((c .before .before .args) .z) ((c .before .before .pre) .0) ((c .before .before .pre) .1), gmm-low ((c .before .before .args) .width) ((c .before .before .args) .z) ((c .before .before .pre) .0) ((c .before .before .pre) .1))
+add-result-2 c =
+    let start = c .before .before in
+    let a = start .args in
+    omega (arith, cells-low (a .width) (a .z) (start .pre .0) (start .pre .1), gmm-low (a .width) (a .z) (start .pre .0) (start .pre .1))
 
 returns : tie.Need-returns
 returns c = search needs

@@ -34,7 +34,13 @@ kept-f32-requires : tie.Need-kept-f32-requires Inv-loop μ-loop
 kept-f32-requires c κs = search needs
 
 returns-2 : tie.Need-returns-2 Inv-loop μ-loop
-returns-2 c = list-bad binary32 binary32 ((c .before .before .before .before .before .before .before .args) .positive) ((c .before .before .before .before .before .before .before .args) .n) ((c .before .before .before .before .before .before .before .args) .xs .now) ((c .before .before .before .before .loop) .inv .1) ((c .before .before .before .before .loop) .i) ((c .before .before .before .loop-test) .taken) ((c .before .kept-f32) .ensures) ((c .if2) .taken)
+returns-2 c =
+    let at-kept-f32 = c .before in
+    let at-loop-test = at-kept-f32 .before .before in
+    let at-loop = at-loop-test .before in
+    let start = at-loop .before .before .before in
+    let a = start .args in
+    list-bad binary32 binary32 (a .positive) (a .n) (a .xs .now) (at-loop .loop .inv .1) (at-loop .loop .i) (at-loop-test .loop-test .taken) (at-kept-f32 .kept-f32 .ensures) (c .if2 .taken)
 
 add-i : tie.Need-add-i Inv-loop μ-loop
 add-i c = search needs
@@ -43,10 +49,20 @@ loop-less : tie.Need-loop-less Inv-loop μ-loop
 loop-less c = search needs
 
 loop-again : tie.Need-loop-again Inv-loop μ-loop
-loop-again c = (omega arith, (c .before .before .before .before .loop) .inv .1, list-turn binary32 binary32 ((c .before .before .before .before .before .before .before .args) .positive) ((c .before .before .before .before .before .before .before .args) .n) ((c .before .before .before .before .before .before .before .args) .xs .now) ((c .before .before .before .before .loop) .inv .1) ((c .before .before .before .before .loop) .i) ((c .before .before .before .loop-test) .taken) ((c .before .kept-f32) .ensures) ((c .if2) .left) ((c .before .before .before .before .loop) .inv .2))
+loop-again c =
+    let at-kept-f32 = c .before in
+    let at-loop-test = at-kept-f32 .before .before in
+    let at-loop = at-loop-test .before in
+    let start = at-loop .before .before .before in
+    let a = start .args in
+    (omega arith, at-loop .loop .inv .1, list-turn binary32 binary32 (a .positive) (a .n) (a .xs .now) (at-loop .loop .inv .1) (at-loop .loop .i) (at-loop-test .loop-test .taken) (at-kept-f32 .kept-f32 .ensures) (c .if2 .left) (at-loop .loop .inv .2))
 
 returns-3 : tie.Need-returns-3 Inv-loop μ-loop
-returns-3 c = list-end binary32 binary32 ((c .before .before .before .before .args) .positive) ((c .before .before .before .before .args) .n) ((c .before .before .before .before .args) .xs .now) ((c .before .loop) .inv .1) ((c .before .loop) .i) ((c .loop-test) .left) ((c .before .loop) .inv .2)
+returns-3 c =
+    let at-loop = c .before in
+    let start = at-loop .before .before .before in
+    let a = start .args in
+    list-end binary32 binary32 (a .positive) (a .n) (a .xs .now) (at-loop .loop .inv .1) (at-loop .loop .i) (c .loop-test .left) (at-loop .loop .inv .2)
 
 pub list-refusal-f32-spec : {M : Type 1} → statement M
 list-refusal-f32-spec =

@@ -35,7 +35,13 @@ kept-f64-requires : tie.Need-kept-f64-requires Inv-loop μ-loop
 kept-f64-requires c κs = search needs
 
 returns-2 : tie.Need-returns-2 Inv-loop μ-loop
-returns-2 c = list-bad binary64 (tableWidth ((c .before .before .before .before .before .before .before .args) .narrow)) ((c .before .before .before .before .before .before .before .args) .positive) ((c .before .before .before .before .before .before .before .args) .n) ((c .before .before .before .before .before .before .before .args) .xs .now) ((c .before .before .before .before .loop) .inv .1) ((c .before .before .before .before .loop) .i) ((c .before .before .before .loop-test) .taken) ((c .before .kept-f64) .ensures) ((c .if2) .taken)
+returns-2 c =
+    let at-kept-f64 = c .before in
+    let at-loop-test = at-kept-f64 .before .before in
+    let at-loop = at-loop-test .before in
+    let start = at-loop .before .before .before in
+    let a = start .args in
+    list-bad binary64 (tableWidth (a .narrow)) (a .positive) (a .n) (a .xs .now) (at-loop .loop .inv .1) (at-loop .loop .i) (at-loop-test .loop-test .taken) (at-kept-f64 .kept-f64 .ensures) (c .if2 .taken)
 
 add-i : tie.Need-add-i Inv-loop μ-loop
 add-i c = search needs
@@ -44,10 +50,20 @@ loop-less : tie.Need-loop-less Inv-loop μ-loop
 loop-less c = search needs
 
 loop-again : tie.Need-loop-again Inv-loop μ-loop
-loop-again c = (omega arith, (c .before .before .before .before .loop) .inv .1, list-turn binary64 (tableWidth ((c .before .before .before .before .before .before .before .args) .narrow)) ((c .before .before .before .before .before .before .before .args) .positive) ((c .before .before .before .before .before .before .before .args) .n) ((c .before .before .before .before .before .before .before .args) .xs .now) ((c .before .before .before .before .loop) .inv .1) ((c .before .before .before .before .loop) .i) ((c .before .before .before .loop-test) .taken) ((c .before .kept-f64) .ensures) ((c .if2) .left) ((c .before .before .before .before .loop) .inv .2))
+loop-again c =
+    let at-kept-f64 = c .before in
+    let at-loop-test = at-kept-f64 .before .before in
+    let at-loop = at-loop-test .before in
+    let start = at-loop .before .before .before in
+    let a = start .args in
+    (omega arith, at-loop .loop .inv .1, list-turn binary64 (tableWidth (a .narrow)) (a .positive) (a .n) (a .xs .now) (at-loop .loop .inv .1) (at-loop .loop .i) (at-loop-test .loop-test .taken) (at-kept-f64 .kept-f64 .ensures) (c .if2 .left) (at-loop .loop .inv .2))
 
 returns-3 : tie.Need-returns-3 Inv-loop μ-loop
-returns-3 c = list-end binary64 (tableWidth ((c .before .before .before .before .args) .narrow)) ((c .before .before .before .before .args) .positive) ((c .before .before .before .before .args) .n) ((c .before .before .before .before .args) .xs .now) ((c .before .loop) .inv .1) ((c .before .loop) .i) ((c .loop-test) .left) ((c .before .loop) .inv .2)
+returns-3 c =
+    let at-loop = c .before in
+    let start = at-loop .before .before .before in
+    let a = start .args in
+    list-end binary64 (tableWidth (a .narrow)) (a .positive) (a .n) (a .xs .now) (at-loop .loop .inv .1) (at-loop .loop .i) (c .loop-test .left) (at-loop .loop .inv .2)
 
 pub list-refusal-f64-spec : {M : Type 1} → statement M
 list-refusal-f64-spec =

@@ -54,7 +54,34 @@ ordered-requires : tie.Need-ordered-requires
 ordered-requires c κs = omega arith
 
 returns : tie.Need-returns
-returns c = (c .ordered) .ensures ∙ ordered-is binary64 ((c .before .before .before .before .before .before .before .before .before .before .before .before .before .before .before .before .before .before .before .before .before .args) .o) ((c .before .before .before .before .before .before .before .before .before .before .before .before .before .before .before .before .before .before .before .before .before .args) .text .now) (paramsFrom ((c .before .before .before .before .before .before .before .before .before .before .before .before .before .before .before .before .before .before .before .before .before .args) .z) ((c .before .before .before .before .before .before .before .before .before .before .before .before .before .before .before .before .before .before .before .before .before .args) .weights .now) ((c .before .before .before .before .before .before .before .before .before .before .before .before .before .before .before .before .before .before .before .before .before .args) .means-invvars .now) ((c .before .before .before .before .before .before .before .before .before .before .before .before .before .before .before .before .before .before .before .before .before .args) .inv-vars .now) ((c .before .before .before .before .before .before .before .before .before .before .before .before .before .before .before .before .before .before .before .before .before .args) .m .now) ((c .before .before .before .before .before .before .before .before .before .before .before .before .before .before .before .before .before .before .before .before .before .args) .sigma-inv .now) ((c .before .before .before .before .before .before .before .before .before .before .before .before .before .before .before .before .before .before .before .before .before .args) .prior-offset) ((c .before .before .before .before .before .before .before .before .before .before .before .before .before .before .before .before .before .before .before .before .before .args) .lda .now)) ((c .before .before .before .before .before .before .before .before .before .before .before .before .before .before .before .before .before .before .before .before .before .args) .room) (record { weights-is = (c .before .before .before .before .before .before .before .list-refusal-f64) .ensures; means-is = λ g d. (c .before .before .before .before .before .before .list-refusal-f642) .ensures ∙ ap (λ (n : ℕ). firstOf (listTests binary64 binary32 false n ((c .before .before .before .before .before .before .before .before .before .before .before .before .before .before .before .before .before .before .before .before .before .args) .means-invvars .now))) ((c .before .before .before .before .before .before .before .before .before .before .before .before .before .times) .ensures (omega (arith, g)) (omega (arith, d))); vars-is = λ g d. (c .before .before .before .before .before .list-refusal-f643) .ensures ∙ ap (λ (n : ℕ). firstOf (listTests binary64 binary32 true n ((c .before .before .before .before .before .before .before .before .before .before .before .before .before .before .before .before .before .before .before .before .before .args) .inv-vars .now))) ((c .before .before .before .before .before .before .before .before .before .before .before .before .before .times) .ensures (omega (arith, g)) (omega (arith, d))); m-is = λ e d s. (c .before .before .before .before .list-refusal-f644) .ensures ∙ ap (λ (n : ℕ). firstOf (listTests binary64 binary64 false n ((c .before .before .before .before .before .before .before .before .before .before .before .before .before .before .before .before .before .before .before .before .before .args) .m .now))) (product-of ((c .before .before .before .before .before .before .before .before .before .before .before .before .before .before .before .before .before .before .before .before .before .args) .z .«ext_gauss») ((c .before .before .before .before .before .before .before .before .before .before .before .before .before .before .before .before .before .before .before .before .before .args) .z .«feat_dim») ((c .before .before .before .before .before .before .before .before .before .before .before .before .before .before .before .before .before .before .before .before .before .args) .z .«ivector_dim») e d s ((c .before .before .before .before .before .before .before .before .before .before .before .before .times2) .ensures (omega (arith, d)) (omega (arith, s))) ((c .before .before .before .before .before .before .before .before .before .before .before .times3) .ensures)); sigma-is = λ e d. (c .before .before .before .list-refusal-f645) .ensures ∙ ap (λ (n : ℕ). firstOf (listTests binary64 binary64 false n ((c .before .before .before .before .before .before .before .before .before .before .before .before .before .before .before .before .before .before .before .before .before .args) .sigma-inv .now))) (half-of ((c .before .before .before .before .before .before .before .before .before .before .before .before .before .before .before .before .before .before .before .before .before .args) .z .«ext_gauss») ((c .before .before .before .before .before .before .before .before .before .before .before .before .before .before .before .before .before .before .before .before .before .args) .z .«feat_dim») e d ((c .before .before .before .before .before .before .before .before .before .before .triangle-of) .ensures (omega (arith, d))) ((c .before .before .before .before .before .before .before .before .before .times4) .ensures)); offset-is = (c .before .before .offset-refusal-f64) .ensures; lda-is = λ d k. (c .before .list-refusal-f646) .ensures ∙ ap (λ (n : ℕ). firstOf (listTests binary64 binary32 false n ((c .before .before .before .before .before .before .before .before .before .before .before .before .before .before .before .before .before .before .before .before .before .args) .lda .now))) ((c .before .before .before .before .before .before .before .before .times5) .ensures (omega (arith, d)) (omega (arith, k))) })
+returns c =
+    let at-list-refusal-f646 = c .before in
+    let at-offset-refusal-f64 = at-list-refusal-f646 .before in
+    let at-list-refusal-f645 = at-offset-refusal-f64 .before in
+    let at-list-refusal-f644 = at-list-refusal-f645 .before in
+    let at-list-refusal-f643 = at-list-refusal-f644 .before in
+    let at-list-refusal-f642 = at-list-refusal-f643 .before in
+    let at-list-refusal-f64 = at-list-refusal-f642 .before in
+    let at-times5 = at-list-refusal-f64 .before in
+    let at-times4 = at-times5 .before in
+    let at-triangle-of = at-times4 .before in
+    let at-times3 = at-triangle-of .before in
+    let at-times2 = at-times3 .before in
+    let at-times = at-times2 .before in
+    let start = at-times .before .before .before .before .before .before .before .before in
+    let a = start .args in
+    c .ordered .ensures ∙ ordered-is binary64 (a .o) (a .text .now) (paramsFrom (a .z) (a .weights .now) (a .means-invvars .now) (a .inv-vars .now) (a .m .now) (a .sigma-inv .now) (a .prior-offset) (a .lda .now)) (a .room)
+    (record {
+      weights-is = at-list-refusal-f64 .list-refusal-f64 .ensures;
+      means-is = λ g d. at-list-refusal-f642 .list-refusal-f642 .ensures ∙ ap (λ (n : ℕ). firstOf (listTests binary64 binary32 false n (a .means-invvars .now))) (at-times .times .ensures (omega (arith, g)) (omega (arith, d)));
+      vars-is = λ g d. at-list-refusal-f643 .list-refusal-f643 .ensures ∙ ap (λ (n : ℕ). firstOf (listTests binary64 binary32 true n (a .inv-vars .now))) (at-times .times .ensures (omega (arith, g)) (omega (arith, d)));
+      m-is = λ e d s. at-list-refusal-f644 .list-refusal-f644 .ensures ∙ ap (λ (n : ℕ). firstOf (listTests binary64 binary64 false n (a .m .now)))
+          (product-of (a .z .«ext_gauss») (a .z .«feat_dim») (a .z .«ivector_dim») e d s (at-times2 .times2 .ensures (omega (arith, d)) (omega (arith, s))) (at-times3 .times3 .ensures));
+      sigma-is = λ e d. at-list-refusal-f645 .list-refusal-f645 .ensures ∙ ap (λ (n : ℕ). firstOf (listTests binary64 binary64 false n (a .sigma-inv .now)))
+          (half-of (a .z .«ext_gauss») (a .z .«feat_dim») e d (at-triangle-of .triangle-of .ensures (omega (arith, d))) (at-times4 .times4 .ensures));
+      offset-is = at-offset-refusal-f64 .offset-refusal-f64 .ensures;
+      lda-is = λ d k. at-list-refusal-f646 .list-refusal-f646 .ensures ∙ ap (λ (n : ℕ). firstOf (listTests binary64 binary32 false n (a .lda .now))) (at-times5 .times5 .ensures (omega (arith, d)) (omega (arith, k)));
+    })
 
 pub refusal-f64-spec : {M : Type 1} → statement M
 refusal-f64-spec =

@@ -31,7 +31,8 @@ put-table-f32-requires-2 c κs =
     let at-put-table-f32 = c .before .before .before .before in
     let at-put-line-f32 = at-put-table-f32 .before .before .before .before .before in
     let start = at-put-line-f32 .before .before .before .before .before .before .before in
-    (gmm-vars binary32 (start .args .g) (start .args .d) (start .args .weights .now) (start .args .means-invvars .now) (start .args .inv-vars .now) (start .args .out .now) (start .args .at) (start .pre .0) (at-put-line-f32 .put-line-f32 .ensures) (at-put-table-f32 .put-table-f32 .ensures), start .pre .3)
+    let a = start .args in
+    (gmm-vars binary32 (a .g) (a .d) (a .weights .now) (a .means-invvars .now) (a .inv-vars .now) (a .out .now) (a .at) (start .pre .0) (at-put-line-f32 .put-line-f32 .ensures) (at-put-table-f32 .put-table-f32 .ensures), start .pre .3)
 
 slice-aggregate-put-bytes : tie.Need-slice-aggregate-put-bytes
 slice-aggregate-put-bytes c = search needs
@@ -42,7 +43,9 @@ put-bytes-requires c κs =
     let at-put-table-f32 = at-put-table-f322 .before .before .before .before .before in
     let at-put-line-f32 = at-put-table-f32 .before .before .before .before .before in
     let start = at-put-line-f32 .before .before .before .before .before .before .before in
-    gmm-end binary32 (start .args .g) (start .args .d) (start .args .weights .now) (start .args .means-invvars .now) (start .args .inv-vars .now) (start .args .out .now) (start .args .at) (start .pre .0) (at-put-line-f32 .put-line-f32 .ensures) (at-put-table-f32 .put-table-f32 .ensures) (at-put-table-f322 .put-table-f322 .ensures)
+    let a = start .args in
+    gmm-end binary32 (a .g) (a .d) (a .weights .now) (a .means-invvars .now) (a .inv-vars .now) (a .out .now) (a .at) (start .pre .0) (at-put-line-f32 .put-line-f32 .ensures) (at-put-table-f32 .put-table-f32 .ensures)
+    (at-put-table-f322 .put-table-f322 .ensures)
 
 same-length : tie.Need-same-length
 same-length c =
@@ -59,7 +62,9 @@ returns c =
     let at-put-table-f32 = at-put-table-f322 .before .before .before .before .before in
     let at-put-line-f32 = at-put-table-f32 .before .before .before .before .before in
     let start = at-put-line-f32 .before .before .before .before .before .before .before in
-    gmm-whole binary32 (start .args .g) (start .args .d) (start .args .weights .now) (start .args .means-invvars .now) (start .args .inv-vars .now) (start .args .out .now) (start .args .at) (start .pre .0) (at-put-line-f32 .put-line-f32 .ensures) (at-put-table-f32 .put-table-f32 .ensures) (at-put-table-f322 .put-table-f322 .ensures) (at-put-bytes .put-bytes .ensures)
+    let a = start .args in
+    gmm-whole binary32 (a .g) (a .d) (a .weights .now) (a .means-invvars .now) (a .inv-vars .now) (a .out .now) (a .at) (start .pre .0) (at-put-line-f32 .put-line-f32 .ensures) (at-put-table-f32 .put-table-f32 .ensures)
+    (at-put-table-f322 .put-table-f322 .ensures) (at-put-bytes .put-bytes .ensures)
 
 pub put-gmm-f32-spec : {M : Type 1} → statement M
 put-gmm-f32-spec =

@@ -31,7 +31,8 @@ put-table-f64-requires-2 c κs =
     let at-put-table-f64 = c .before .before .before .before in
     let at-put-line-f64 = at-put-table-f64 .before .before .before .before .before in
     let start = at-put-line-f64 .before .before .before .before .before .before .before in
-    (gmm-vars binary64 (start .args .g) (start .args .d) (start .args .weights .now) (start .args .means-invvars .now) (start .args .inv-vars .now) (start .args .out .now) (start .args .at) (start .pre .0) (at-put-line-f64 .put-line-f64 .ensures) (at-put-table-f64 .put-table-f64 .ensures), start .pre .3)
+    let a = start .args in
+    (gmm-vars binary64 (a .g) (a .d) (a .weights .now) (a .means-invvars .now) (a .inv-vars .now) (a .out .now) (a .at) (start .pre .0) (at-put-line-f64 .put-line-f64 .ensures) (at-put-table-f64 .put-table-f64 .ensures), start .pre .3)
 
 slice-aggregate-put-bytes : tie.Need-slice-aggregate-put-bytes
 slice-aggregate-put-bytes c = search needs
@@ -42,7 +43,9 @@ put-bytes-requires c κs =
     let at-put-table-f64 = at-put-table-f642 .before .before .before .before .before in
     let at-put-line-f64 = at-put-table-f64 .before .before .before .before .before in
     let start = at-put-line-f64 .before .before .before .before .before .before .before in
-    gmm-end binary64 (start .args .g) (start .args .d) (start .args .weights .now) (start .args .means-invvars .now) (start .args .inv-vars .now) (start .args .out .now) (start .args .at) (start .pre .0) (at-put-line-f64 .put-line-f64 .ensures) (at-put-table-f64 .put-table-f64 .ensures) (at-put-table-f642 .put-table-f642 .ensures)
+    let a = start .args in
+    gmm-end binary64 (a .g) (a .d) (a .weights .now) (a .means-invvars .now) (a .inv-vars .now) (a .out .now) (a .at) (start .pre .0) (at-put-line-f64 .put-line-f64 .ensures) (at-put-table-f64 .put-table-f64 .ensures)
+    (at-put-table-f642 .put-table-f642 .ensures)
 
 same-length : tie.Need-same-length
 same-length c =
@@ -59,7 +62,9 @@ returns c =
     let at-put-table-f64 = at-put-table-f642 .before .before .before .before .before in
     let at-put-line-f64 = at-put-table-f64 .before .before .before .before .before in
     let start = at-put-line-f64 .before .before .before .before .before .before .before in
-    gmm-whole binary64 (start .args .g) (start .args .d) (start .args .weights .now) (start .args .means-invvars .now) (start .args .inv-vars .now) (start .args .out .now) (start .args .at) (start .pre .0) (at-put-line-f64 .put-line-f64 .ensures) (at-put-table-f64 .put-table-f64 .ensures) (at-put-table-f642 .put-table-f642 .ensures) (at-put-bytes .put-bytes .ensures)
+    let a = start .args in
+    gmm-whole binary64 (a .g) (a .d) (a .weights .now) (a .means-invvars .now) (a .inv-vars .now) (a .out .now) (a .at) (start .pre .0) (at-put-line-f64 .put-line-f64 .ensures) (at-put-table-f64 .put-table-f64 .ensures)
+    (at-put-table-f642 .put-table-f642 .ensures) (at-put-bytes .put-bytes .ensures)
 
 pub put-gmm-f64-spec : {M : Type 1} → statement M
 put-gmm-f64-spec =

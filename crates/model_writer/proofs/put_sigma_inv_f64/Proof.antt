@@ -82,7 +82,8 @@ loop-again c =
     let at-loop-test = at-put-line-f64 .before .before .before in
     let at-loop = at-loop-test .before in
     let start = at-loop .before .before .before .before in
-    (at-loop .loop .inv .0, lent-turn (triangle (start .args .d)) (start .args .e) (lineBytes binary64 (start .args .head .now) (start .args .d)) (start .args .xs .now) (start .args .out .now) (start .args .at) (at-loop .loop .inv .1) (at-loop-test .loop-test .taken) (start .pre .0) (at-put-line-f64 .put-line-f64 .ensures))
+    let a = start .args in
+    (at-loop .loop .inv .0, lent-turn (triangle (a .d)) (a .e) (lineBytes binary64 (a .head .now) (a .d)) (a .xs .now) (a .out .now) (a .at) (at-loop .loop .inv .1) (at-loop-test .loop-test .taken) (start .pre .0) (at-put-line-f64 .put-line-f64 .ensures))
 
 same-length : tie.Need-same-length Inv-loop μ-loop
 same-length c =

@@ -27,7 +27,14 @@ same-length : tie.Need-same-length
 same-length c = (c .before .before .put-bytes) .ensures .long
 
 returns : tie.Need-returns
-returns c = wrote-as (low-four ((c .before .before .before .before .before .before .before .before .before .before .args) .n) ((c .before .before .before .before .before .before .before .before .low) .ensures) ((c .before .before .before .before .before .before .before .low2) .ensures) ((c .before .before .before .before .before .before .low3) .ensures) ((c .before .before .before .before .before .low4) .ensures)) ((c .before .before .put-bytes) .ensures)
+returns c =
+    let at-put-bytes = c .before .before in
+    let at-low4 = at-put-bytes .before .before .before in
+    let at-low3 = at-low4 .before in
+    let at-low2 = at-low3 .before in
+    let at-low = at-low2 .before in
+    let start = at-low .before .before in
+    wrote-as (low-four (start .args .n) (at-low .low .ensures) (at-low2 .low2 .ensures) (at-low3 .low3 .ensures) (at-low4 .low4 .ensures)) (at-put-bytes .put-bytes .ensures)
 
 pub put-u32-spec : {M : Type 1} → statement M
 put-u32-spec =

@@ -39,7 +39,19 @@ same-length : tie.Need-same-length
 same-length c = (c .before .before .put-bytes) .ensures .long
 
 returns : tie.Need-returns
-returns c = wrote-as (low-eight ((c .before .before .before .before .before .before .before .before .before .before .before .before .before .before .args) .n) ((c .before .before .before .before .before .before .before .before .before .before .before .before .low) .ensures) ((c .before .before .before .before .before .before .before .before .before .before .before .low2) .ensures) ((c .before .before .before .before .before .before .before .before .before .before .low3) .ensures) ((c .before .before .before .before .before .before .before .before .before .low4) .ensures) ((c .before .before .before .before .before .before .before .before .low5) .ensures) ((c .before .before .before .before .before .before .before .low6) .ensures) ((c .before .before .before .before .before .before .low7) .ensures) ((c .before .before .before .before .before .low8) .ensures)) ((c .before .before .put-bytes) .ensures)
+returns c =
+    let at-put-bytes = c .before .before in
+    let at-low8 = at-put-bytes .before .before .before in
+    let at-low7 = at-low8 .before in
+    let at-low6 = at-low7 .before in
+    let at-low5 = at-low6 .before in
+    let at-low4 = at-low5 .before in
+    let at-low3 = at-low4 .before in
+    let at-low2 = at-low3 .before in
+    let at-low = at-low2 .before in
+    let start = at-low .before .before in
+    wrote-as (low-eight (start .args .n) (at-low .low .ensures) (at-low2 .low2 .ensures) (at-low3 .low3 .ensures) (at-low4 .low4 .ensures) (at-low5 .low5 .ensures) (at-low6 .low6 .ensures) (at-low7 .low7 .ensures) (at-low8 .low8 .ensures))
+    (at-put-bytes .put-bytes .ensures)
 
 pub put-u64-spec : {M : Type 1} → statement M
 put-u64-spec =

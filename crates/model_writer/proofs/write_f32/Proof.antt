@@ -15,14 +15,18 @@ returns : tie.Need-returns
 returns c =
     let at-refusal-f32 = c .before in
     let start = at-refusal-f32 .before .before .before .before .before .before .before .before .before in
-    let p = (paramsFrom (start .args .sizes) (start .args .weights .now) (start .args .means-invvars .now) (start .args .inv-vars .now) (start .args .m .now) (start .args .sigma-inv .now) (start .args .prior-offset) (start .args .lda .now)) in refused-is binary32 (start .args .opts) (start .args .cmvn .now) p (start .args .out .now) (at-refusal-f32 .refusal-f32 .ensures) (c .if1 .taken)
+    let a = start .args in
+    let p = paramsFrom (a .sizes) (a .weights .now) (a .means-invvars .now) (a .inv-vars .now) (a .m .now) (a .sigma-inv .now) (a .prior-offset) (a .lda .now) in
+    refused-is binary32 (a .opts) (a .cmvn .now) p (a .out .now) (at-refusal-f32 .refusal-f32 .ensures) (c .if1 .taken)
 
 put-gmm-f32-requires : tie.Need-put-gmm-f32-requires
 put-gmm-f32-requires c κs =
     let at-if1 = c .before in
     let at-refusal-f32 = at-if1 .before in
     let start = at-refusal-f32 .before .before .before .before .before .before .before .before .before in
-    let p = (paramsFrom (start .args .sizes) (start .args .weights .now) (start .args .means-invvars .now) (start .args .inv-vars .now) (start .args .m .now) (start .args .sigma-inv .now) (start .args .prior-offset) (start .args .lda .now)) in gmm-may binary32 (start .args .opts) (start .args .cmvn .now) p (start .args .out .now) (at-refusal-f32 .refusal-f32 .ensures) (at-if1 .if1 .left)
+    let a = start .args in
+    let p = paramsFrom (a .sizes) (a .weights .now) (a .means-invvars .now) (a .inv-vars .now) (a .m .now) (a .sigma-inv .now) (a .prior-offset) (a .lda .now) in
+    gmm-may binary32 (a .opts) (a .cmvn .now) p (a .out .now) (at-refusal-f32 .refusal-f32 .ensures) (at-if1 .if1 .left)
 
 put-extractor-f32-requires : tie.Need-put-extractor-f32-requires
 put-extractor-f32-requires c κs =
@@ -30,7 +34,9 @@ put-extractor-f32-requires c κs =
     let at-if1 = at-put-gmm-f32 .before .before in
     let at-refusal-f32 = at-if1 .before in
     let start = at-refusal-f32 .before .before .before .before .before .before .before .before .before in
-    let p = (paramsFrom (start .args .sizes) (start .args .weights .now) (start .args .means-invvars .now) (start .args .inv-vars .now) (start .args .m .now) (start .args .sigma-inv .now) (start .args .prior-offset) (start .args .lda .now)) in extractor-may binary32 (start .args .opts) (start .args .cmvn .now) p (start .args .out .now) (at-refusal-f32 .refusal-f32 .ensures) (at-if1 .if1 .left) (at-put-gmm-f32 .put-gmm-f32 .ensures)
+    let a = start .args in
+    let p = paramsFrom (a .sizes) (a .weights .now) (a .means-invvars .now) (a .inv-vars .now) (a .m .now) (a .sigma-inv .now) (a .prior-offset) (a .lda .now) in
+    extractor-may binary32 (a .opts) (a .cmvn .now) p (a .out .now) (at-refusal-f32 .refusal-f32 .ensures) (at-if1 .if1 .left) (at-put-gmm-f32 .put-gmm-f32 .ensures)
 
 slice-aggregate-put-table-f32 : tie.Need-slice-aggregate-put-table-f32
 slice-aggregate-put-table-f32 c = search needs
@@ -42,7 +48,9 @@ put-table-f32-requires c κs =
     let at-if1 = at-put-gmm-f32 .before .before in
     let at-refusal-f32 = at-if1 .before in
     let start = at-refusal-f32 .before .before .before .before .before .before .before .before .before in
-    let p = (paramsFrom (start .args .sizes) (start .args .weights .now) (start .args .means-invvars .now) (start .args .inv-vars .now) (start .args .m .now) (start .args .sigma-inv .now) (start .args .prior-offset) (start .args .lda .now)) in lda-may binary32 (start .args .opts) (start .args .cmvn .now) p (start .args .out .now) (at-refusal-f32 .refusal-f32 .ensures) (at-if1 .if1 .left) (at-put-gmm-f32 .put-gmm-f32 .ensures) (at-put-extractor-f32 .put-extractor-f32 .ensures)
+    let a = start .args in
+    let p = paramsFrom (a .sizes) (a .weights .now) (a .means-invvars .now) (a .inv-vars .now) (a .m .now) (a .sigma-inv .now) (a .prior-offset) (a .lda .now) in
+    lda-may binary32 (a .opts) (a .cmvn .now) p (a .out .now) (at-refusal-f32 .refusal-f32 .ensures) (at-if1 .if1 .left) (at-put-gmm-f32 .put-gmm-f32 .ensures) (at-put-extractor-f32 .put-extractor-f32 .ensures)
 
 sub-t18 : tie.Need-sub-t18
 sub-t18 c =
@@ -69,7 +77,9 @@ returns-2 c =
     let at-if1 = at-put-gmm-f32 .before .before in
     let at-refusal-f32 = at-if1 .before in
     let start = at-refusal-f32 .before .before .before .before .before .before .before .before .before in
-    let p = (paramsFrom (start .args .sizes) (start .args .weights .now) (start .args .means-invvars .now) (start .args .inv-vars .now) (start .args .m .now) (start .args .sigma-inv .now) (start .args .prior-offset) (start .args .lda .now)) in files-are binary32 (start .args .opts) (start .args .cmvn .now) p (start .args .out .now) (at-refusal-f32 .refusal-f32 .ensures) (at-if1 .if1 .left) (at-put-gmm-f32 .put-gmm-f32 .ensures) (at-put-extractor-f32 .put-extractor-f32 .ensures) (at-put-table-f32 .put-table-f32 .ensures)
+    let a = start .args in
+    let p = paramsFrom (a .sizes) (a .weights .now) (a .means-invvars .now) (a .inv-vars .now) (a .m .now) (a .sigma-inv .now) (a .prior-offset) (a .lda .now) in
+    files-are binary32 (a .opts) (a .cmvn .now) p (a .out .now) (at-refusal-f32 .refusal-f32 .ensures) (at-if1 .if1 .left) (at-put-gmm-f32 .put-gmm-f32 .ensures) (at-put-extractor-f32 .put-extractor-f32 .ensures) (at-put-table-f32 .put-table-f32 .ensures)
 
 pub write-f32-spec : {M : Type 1} → statement M
 write-f32-spec =

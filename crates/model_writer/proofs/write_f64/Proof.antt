@@ -15,14 +15,18 @@ returns : tie.Need-returns
 returns c =
     let at-refusal-f64 = c .before in
     let start = at-refusal-f64 .before .before .before .before .before .before .before .before .before in
-    let p = (paramsFrom (start .args .sizes) (start .args .weights .now) (start .args .means-invvars .now) (start .args .inv-vars .now) (start .args .m .now) (start .args .sigma-inv .now) (start .args .prior-offset) (start .args .lda .now)) in refused-is binary64 (start .args .opts) (start .args .cmvn .now) p (start .args .out .now) (at-refusal-f64 .refusal-f64 .ensures) (c .if1 .taken)
+    let a = start .args in
+    let p = paramsFrom (a .sizes) (a .weights .now) (a .means-invvars .now) (a .inv-vars .now) (a .m .now) (a .sigma-inv .now) (a .prior-offset) (a .lda .now) in
+    refused-is binary64 (a .opts) (a .cmvn .now) p (a .out .now) (at-refusal-f64 .refusal-f64 .ensures) (c .if1 .taken)
 
 put-gmm-f64-requires : tie.Need-put-gmm-f64-requires
 put-gmm-f64-requires c κs =
     let at-if1 = c .before in
     let at-refusal-f64 = at-if1 .before in
     let start = at-refusal-f64 .before .before .before .before .before .before .before .before .before in
-    let p = (paramsFrom (start .args .sizes) (start .args .weights .now) (start .args .means-invvars .now) (start .args .inv-vars .now) (start .args .m .now) (start .args .sigma-inv .now) (start .args .prior-offset) (start .args .lda .now)) in gmm-may binary64 (start .args .opts) (start .args .cmvn .now) p (start .args .out .now) (at-refusal-f64 .refusal-f64 .ensures) (at-if1 .if1 .left)
+    let a = start .args in
+    let p = paramsFrom (a .sizes) (a .weights .now) (a .means-invvars .now) (a .inv-vars .now) (a .m .now) (a .sigma-inv .now) (a .prior-offset) (a .lda .now) in
+    gmm-may binary64 (a .opts) (a .cmvn .now) p (a .out .now) (at-refusal-f64 .refusal-f64 .ensures) (at-if1 .if1 .left)
 
 put-extractor-f64-requires : tie.Need-put-extractor-f64-requires
 put-extractor-f64-requires c κs =
@@ -30,7 +34,9 @@ put-extractor-f64-requires c κs =
     let at-if1 = at-put-gmm-f64 .before .before in
     let at-refusal-f64 = at-if1 .before in
     let start = at-refusal-f64 .before .before .before .before .before .before .before .before .before in
-    let p = (paramsFrom (start .args .sizes) (start .args .weights .now) (start .args .means-invvars .now) (start .args .inv-vars .now) (start .args .m .now) (start .args .sigma-inv .now) (start .args .prior-offset) (start .args .lda .now)) in extractor-may binary64 (start .args .opts) (start .args .cmvn .now) p (start .args .out .now) (at-refusal-f64 .refusal-f64 .ensures) (at-if1 .if1 .left) (at-put-gmm-f64 .put-gmm-f64 .ensures)
+    let a = start .args in
+    let p = paramsFrom (a .sizes) (a .weights .now) (a .means-invvars .now) (a .inv-vars .now) (a .m .now) (a .sigma-inv .now) (a .prior-offset) (a .lda .now) in
+    extractor-may binary64 (a .opts) (a .cmvn .now) p (a .out .now) (at-refusal-f64 .refusal-f64 .ensures) (at-if1 .if1 .left) (at-put-gmm-f64 .put-gmm-f64 .ensures)
 
 slice-aggregate-put-table-f64 : tie.Need-slice-aggregate-put-table-f64
 slice-aggregate-put-table-f64 c = search needs
@@ -42,7 +48,9 @@ put-table-f64-requires c κs =
     let at-if1 = at-put-gmm-f64 .before .before in
     let at-refusal-f64 = at-if1 .before in
     let start = at-refusal-f64 .before .before .before .before .before .before .before .before .before in
-    let p = (paramsFrom (start .args .sizes) (start .args .weights .now) (start .args .means-invvars .now) (start .args .inv-vars .now) (start .args .m .now) (start .args .sigma-inv .now) (start .args .prior-offset) (start .args .lda .now)) in lda-may binary64 (start .args .opts) (start .args .cmvn .now) p (start .args .out .now) (at-refusal-f64 .refusal-f64 .ensures) (at-if1 .if1 .left) (at-put-gmm-f64 .put-gmm-f64 .ensures) (at-put-extractor-f64 .put-extractor-f64 .ensures)
+    let a = start .args in
+    let p = paramsFrom (a .sizes) (a .weights .now) (a .means-invvars .now) (a .inv-vars .now) (a .m .now) (a .sigma-inv .now) (a .prior-offset) (a .lda .now) in
+    lda-may binary64 (a .opts) (a .cmvn .now) p (a .out .now) (at-refusal-f64 .refusal-f64 .ensures) (at-if1 .if1 .left) (at-put-gmm-f64 .put-gmm-f64 .ensures) (at-put-extractor-f64 .put-extractor-f64 .ensures)
 
 sub-t18 : tie.Need-sub-t18
 sub-t18 c =
@@ -69,7 +77,9 @@ returns-2 c =
     let at-if1 = at-put-gmm-f64 .before .before in
     let at-refusal-f64 = at-if1 .before in
     let start = at-refusal-f64 .before .before .before .before .before .before .before .before .before in
-    let p = (paramsFrom (start .args .sizes) (start .args .weights .now) (start .args .means-invvars .now) (start .args .inv-vars .now) (start .args .m .now) (start .args .sigma-inv .now) (start .args .prior-offset) (start .args .lda .now)) in files-are binary64 (start .args .opts) (start .args .cmvn .now) p (start .args .out .now) (at-refusal-f64 .refusal-f64 .ensures) (at-if1 .if1 .left) (at-put-gmm-f64 .put-gmm-f64 .ensures) (at-put-extractor-f64 .put-extractor-f64 .ensures) (at-put-table-f64 .put-table-f64 .ensures)
+    let a = start .args in
+    let p = paramsFrom (a .sizes) (a .weights .now) (a .means-invvars .now) (a .inv-vars .now) (a .m .now) (a .sigma-inv .now) (a .prior-offset) (a .lda .now) in
+    files-are binary64 (a .opts) (a .cmvn .now) p (a .out .now) (at-refusal-f64 .refusal-f64 .ensures) (at-if1 .if1 .left) (at-put-gmm-f64 .put-gmm-f64 .ensures) (at-put-extractor-f64 .put-extractor-f64 .ensures) (at-put-table-f64 .put-table-f64 .ensures)
 
 pub write-f64-spec : {M : Type 1} → statement M
 write-f64-spec =
