@@ -14,7 +14,7 @@
  * The calls ask nothing else: whatever numbers they get, they return; the questions answer any record. They keep no state, allocate
  * nothing, and may run in several threads on different records and rooms.
  *
- * Answers: `refusal` is 0 for a call that is taken, else a number from 1 to 25, or 27 to 32. A refused call writes nowhere.
+ * Answers: `refusal` is 0 for a call that is taken, else a number from 1 to 32. A refused call writes nowhere.
  *   1 an option is outside its range               13 push: 1,000,000,000 frames are in
  *   2 bytes end before an item does                14 push: the frame room is full
  *   3 the mark, a token or a size byte is wrong    15 push: the row room is full
@@ -28,9 +28,9 @@
  *  11 push: length is not the base dimension       23 silence: more frames than the table has, or a frame number too high
  *  12 push: a number is not finite                 24 silence: lists of different length, or too short for the answer
  *  25 a settings text not ASCII, or too long       29 voice: a number not finite, or a limit below 0
- *  27 voice: no enrolled vector, or more than 32   30 change: a frame below one that a forget named
- *  28 voice: a length is not the dimension's       31 window: outside 1..1,000
- *                                                  32 window: above the longest, and older rows are gone
+ *  26 write: the output is shorter than the files  30 change: a frame below one that a forget named
+ *  27 voice: no enrolled vector, or more than 32   31 window: outside 1..1,000
+ *  28 voice: a length is not the dimension's       32 window: above the longest, and older rows are gone
  */
 #ifndef SHOFRAKIN_H
 #define SHOFRAKIN_H
@@ -454,6 +454,43 @@ shofrakin_round_answer shofrakin_round(shofrakin_stream s, shofrakin_silence sil
     bool *known, size_t known_len, bool *is_silence, size_t is_silence_len, float *current_weight, size_t current_weight_len,
     size_t *delta_frames, size_t delta_frames_len, float *delta_weights, size_t delta_weights_len,
     uint32_t *out, size_t out_len, size_t voices, const uint32_t *enrolled, size_t enrolled_len, float limit);
+
+/* ---- a model written back */
+
+/* A model's sizes: Gaussians of the GMM and of the extractor, feature and i-vector dimension, columns of the LDA. */
+typedef struct {
+    size_t num_gauss;
+    size_t ext_gauss;
+    size_t feat_dim;
+    size_t ivector_dim;
+    size_t lda_cols;
+} shofrakin_model_sizes;
+
+/* The lengths of the three files in bytes. Beside a refusal they are 0. */
+typedef struct {
+    size_t refusal;
+    size_t gmm;
+    size_t extractor;
+    size_t lda;
+} shofrakin_written_answer;
+
+/* Writes the GMM's, the extractor's and the LDA's file one after the other to the front of `out`, in Kaldi's bytes, all numbers as float; a load
+ * takes each of the three parts. Lists, row after row: weights (num_gauss), means times inverse variances and inverse variances (num_gauss rows of
+ * feat_dim), m (ext_gauss times feat_dim rows of ivector_dim), sigma_inv (ext_gauss lower triangles of feat_dim rows), lda (feat_dim rows of lda_cols).
+ * The options and the CMVN text are not written; a load's tests need them. At w bytes a number the files have 112 + w g (1 + 2 d),
+ * 111 + w + e (21 + w (d s + d (d + 1) / 2)) and 15 + w d c bytes: at most 85,784,310 together.
+ * Refusals as a load of the written files would have them, 1 and 4 to 7, a list of the wrong length 5 before its numbers; 26, the last: `out` is shorter
+ * than the three files. A refusal writes nothing, and places past the end keep their values. Numbers for tables of float are judged as such. */
+shofrakin_written_answer shofrakin_write_f32(shofrakin_options opts, shofrakin_model_sizes sizes, const uint8_t *cmvn, size_t cmvn_len,
+    const float *weights, size_t weights_len, const float *means_invvars, size_t means_invvars_len, const float *inv_vars, size_t inv_vars_len,
+    const float *m, size_t m_len, const float *sigma_inv, size_t sigma_inv_len, float prior_offset, const float *lda, size_t lda_len,
+    uint8_t *out, size_t out_len);
+
+/* The same with all numbers as double. A load narrows those that its tables keep as float. */
+shofrakin_written_answer shofrakin_write_f64(shofrakin_options opts, shofrakin_model_sizes sizes, const uint8_t *cmvn, size_t cmvn_len,
+    const double *weights, size_t weights_len, const double *means_invvars, size_t means_invvars_len, const double *inv_vars, size_t inv_vars_len,
+    const double *m, size_t m_len, const double *sigma_inv, size_t sigma_inv_len, double prior_offset, const double *lda, size_t lda_len,
+    uint8_t *out, size_t out_len);
 
 #ifdef __cplusplus
 }

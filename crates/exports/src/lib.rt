@@ -21,6 +21,8 @@ use definition::TableLengths;
 use memory::DimensionsAnswer;
 use memory::RoomsAnswer;
 use memory::TablesAnswer;
+use model_bytes::ModelSizes;
+use model_bytes::WrittenAnswer;
 use nearest_voice::VoiceAnswer;
 use settings::Settings;
 use trigger::RoundAnswer;
@@ -29,6 +31,7 @@ ghost use mathlib.Core.Bool.{false};
 ghost use mathlib.Core.List.{[]};
 ghost use Prim.Native.Nat.{ℕ};
 ghost use lib.ListN.{length};
+ghost use lib.Ieee.{binary32, binary64};
 ghost use Rattle.loops.specs.Refusal.{taken};
 ghost use Rattle.definition.specs.Model.{Tables, tablesFrom, tableLengthsOf, load as loadOf, loadedOf, loadedTables};
 ghost use Rattle.definition.specs.Machine.{framesReady};
@@ -36,6 +39,7 @@ ghost use Rattle.definition.specs.Stream.{newRefusal};
 ghost use Rattle.definition.specs.Silence.{TableRooms, tableRooms, newTable, active, computeCurrentTraceback, getDeltaWeights, tableCall, tableDone};
 ghost use Rattle.program.specs.Rooms.{Rings, ringsFrom, estimateFrom, Rooms, roomsFrom, roomLengthsOf};
 ghost use Rattle.program.specs.Calls.{newAnswer, freshRooms, ringCall, doneOn, pushFrame, setInputFinished, updateFrameWeights, forgetBefore, setCmnWindow, Step, fetchCall, fetchedOn, getFrame};
+ghost use Rattle.model_bytes.specs.Written.{Params, paramsFrom, written, writtenOut, writtenAnswer};
 ghost use Rattle.nearest_voice.specs.Voice.{nearestVoice, voiceAnswer};
 ghost use Rattle.program.specs.Session.{program};
 ghost use Rattle.registers.specs.Board.{Board, board, blockRefusal, boardStep, FetchTaken};
@@ -940,4 +944,78 @@ pub extern "C" fn shofrakin_round(
         limit,
     );
     trigger::round_answer(c)
+}
+
+// ---- a model written back
+
+// `model_writer::write_f32`, its answer as a record.
+#[no_mangle]
+pub extern "C" fn shofrakin_write_f32(
+    opts: IvectorOptions,
+    sizes: ModelSizes,
+    cmvn: &[u8],
+    weights: &[f32],
+    means_invvars: &[f32],
+    inv_vars: &[f32],
+    m: &[f32],
+    sigma_inv: &[f32],
+    prior_offset: f32,
+    lda: &[f32],
+    out: &mut [u8],
+) -> WrittenAnswer
+    ensures { λ r. ⌜ (
+        let p : Params = paramsFrom sizes (now (weights .entry)) (now («means_invvars» .entry)) (now («inv_vars» .entry)) (now (m .entry)) (now («sigma_inv» .entry)) «prior_offset» (now (lda .entry)) in
+        (r ≡ writtenAnswer (written binary32 opts (now (cmvn .entry)) p (length (now (out .entry)))))
+        × (now (out .exit) ≡ writtenOut binary32 opts (now (cmvn .entry)) p (now (out .entry)))) ⌝ }
+{
+    let a = model_writer::write_f32(
+        opts,
+        sizes,
+        cmvn,
+        weights,
+        means_invvars,
+        inv_vars,
+        m,
+        sigma_inv,
+        prior_offset,
+        lda,
+        out,
+    );
+    model_writer::written_answer(a)
+}
+
+// `model_writer::write_f64`, its answer as a record.
+#[no_mangle]
+pub extern "C" fn shofrakin_write_f64(
+    opts: IvectorOptions,
+    sizes: ModelSizes,
+    cmvn: &[u8],
+    weights: &[f64],
+    means_invvars: &[f64],
+    inv_vars: &[f64],
+    m: &[f64],
+    sigma_inv: &[f64],
+    prior_offset: f64,
+    lda: &[f64],
+    out: &mut [u8],
+) -> WrittenAnswer
+    ensures { λ r. ⌜ (
+        let p : Params = paramsFrom sizes (now (weights .entry)) (now («means_invvars» .entry)) (now («inv_vars» .entry)) (now (m .entry)) (now («sigma_inv» .entry)) «prior_offset» (now (lda .entry)) in
+        (r ≡ writtenAnswer (written binary64 opts (now (cmvn .entry)) p (length (now (out .entry)))))
+        × (now (out .exit) ≡ writtenOut binary64 opts (now (cmvn .entry)) p (now (out .entry)))) ⌝ }
+{
+    let a = model_writer::write_f64(
+        opts,
+        sizes,
+        cmvn,
+        weights,
+        means_invvars,
+        inv_vars,
+        m,
+        sigma_inv,
+        prior_offset,
+        lda,
+        out,
+    );
+    model_writer::written_answer(a)
 }

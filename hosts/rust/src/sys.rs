@@ -221,6 +221,22 @@ records! {
         stream: IvectorStream,
         silence: SilenceWeighting,
     }
+
+    /// The sizes of a model that is written: Gaussians of the GMM and of the extractor, feature and i-vector dimension, columns of the LDA.
+    shofrakin_model_sizes: struct ModelSizes {
+        num_gauss: usize,
+        ext_gauss: usize,
+        feat_dim: usize,
+        ivector_dim: usize,
+        lda_cols: usize,
+    }
+
+    shofrakin_written_answer: struct WrittenAnswer {
+        refusal: usize,
+        gmm: usize,
+        extractor: usize,
+        lda: usize,
+    }
 }
 
 // A slice is a pointer and a length, two arguments.
@@ -351,4 +367,14 @@ extern "C" {
         delta_frames: *mut usize, delta_frames_len: usize, delta_weights: *mut f32, delta_weights_len: usize,
         out: *mut u32, out_len: usize, voices: usize, enrolled: *const u32, enrolled_len: usize, limit: f32,
     ) -> RoundAnswer;
+    pub fn shofrakin_write_f32(
+        opts: IvectorOptions, sizes: ModelSizes, cmvn: *const u8, cmvn_len: usize, weights: *const f32, weights_len: usize,
+        means_invvars: *const f32, means_invvars_len: usize, inv_vars: *const f32, inv_vars_len: usize, m: *const f32, m_len: usize,
+        sigma_inv: *const f32, sigma_inv_len: usize, prior_offset: f32, lda: *const f32, lda_len: usize, out: *mut u8, out_len: usize,
+    ) -> WrittenAnswer;
+    pub fn shofrakin_write_f64(
+        opts: IvectorOptions, sizes: ModelSizes, cmvn: *const u8, cmvn_len: usize, weights: *const f64, weights_len: usize,
+        means_invvars: *const f64, means_invvars_len: usize, inv_vars: *const f64, inv_vars_len: usize, m: *const f64, m_len: usize,
+        sigma_inv: *const f64, sigma_inv_len: usize, prior_offset: f64, lda: *const f64, lda_len: usize, out: *mut u8, out_len: usize,
+    ) -> WrittenAnswer;
 }
