@@ -523,6 +523,32 @@ int main(void) {
     is("its window", m.info.opts.cmn_window, 600);
     is("load with settings out of range", shofrakin_load_with_settings(TEXTS("--left-context=9\n", ""), FILES, TABLES, scratch, 2).refusal, 1);
     is("load with refused settings", shofrakin_load_with_settings(TEXTS("--left-context=9\n\377", ""), FILES, TABLES, scratch, 2).refusal, 25);
+
+    {
+        /* a model written back: dimensions of 1, at both widths */
+        shofrakin_options plain = {0, 0, 600, 200, 5, 15, 0.025f, 0.1f, 100, 50};
+        shofrakin_model_sizes ones = {1, 1, 1, 1, 1};
+        uint8_t out[512];
+        memset(out, 0xee, sizeof out);
+        float f[] = {1, 2};
+        double g[] = {1, 2};
+        const uint8_t *row = (const uint8_t *)cmvn_text;
+        size_t row_len = strlen(cmvn_text);
+        shofrakin_written_answer w = shofrakin_write_f32(plain, ones, row, row_len, f, 1, f, 1, f, 1, f + 1, 1, f, 1, 0.5f, f, 1, out, sizeof out);
+        is("written", w.refusal, 0);
+        is("its GMM", w.gmm, 124);
+        is("its extractor", w.extractor, 144);
+        is("its LDA", w.lda, 19);
+        is("past its end", out[124 + 144 + 19], 0xee);
+        is("its offset", out[124 + 144 - 25], 4);
+        w = shofrakin_write_f64(plain, ones, row, row_len, g, 1, g, 1, g, 1, g + 1, 1, g, 1, 0.5, g, 1, out, sizeof out);
+        is("written as double", w.gmm + w.extractor + w.lda, 136 + 156 + 23);
+        w = shofrakin_write_f64(plain, ones, row, row_len, g, 1, g, 1, g, 1, g + 1, 1, g, 1, 0.5, g, 1, out, 314);
+        is("a byte too few", w.refusal, 26);
+        is("no length", w.gmm, 0);
+        w = shofrakin_write_f64(plain, ones, row, row_len, g, 1, g, 2, g, 1, g + 1, 1, g, 1, 0.5, g, 1, out, 314);
+        is("a list too long", w.refusal, 5);
+    }
     printf(wrong ? "%d differ\n" : "the headers fit the library\n", wrong);
     return wrong != 0;
 }

@@ -20,6 +20,7 @@ pub mod script;
 pub mod settings;
 pub mod timed;
 pub mod trigger;
+pub mod writer;
 #[allow(dead_code, warnings)]
 mod orig {
     include!(concat!(env!("OUT_DIR"), "/orig.rs"));

@@ -574,6 +574,11 @@ fn parse_cmvn(t: &[u8]) -> Re<Vec<f64>> {
     Ok(row)
 }
 
+/// The global row of a CMVN text, where it is taken.
+pub fn cmvn_row(t: &[u8]) -> Option<Vec<f64>> {
+    parse_cmvn(t).ok()
+}
+
 fn cross_ok(d: &Dims, o: &Options, lda_rows: usize, ext_feat: usize) -> bool {
     let spliced = d.base as u64 * (o.left + 1 + o.right);
     (d.lda_cols as u64 == spliced || d.lda_cols as u64 == spliced + 1) && lda_rows == d.feat && ext_feat == d.feat && d.gmm_gauss <= d.ext_gauss
