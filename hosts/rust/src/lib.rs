@@ -47,6 +47,7 @@ mod stream;
 pub mod sys;
 mod trigger;
 mod voice;
+mod writer;
 
 pub use model::{Dimensions, IvectorInfo, IvectorOptions, OpenError, MODEL_FILES, SETTINGS_FILES};
 pub use refusal::Refusal;
@@ -54,3 +55,4 @@ pub use silence::{DecoderFrame, InputFrame, PhoneSegment, SilenceWeighting};
 pub use stream::{Fetched, Held, IvectorStream, Room, MAX_CHANGES};
 pub use trigger::{Round, RoundEnd};
 pub use voice::{nearest_voice, Voice};
+pub use writer::{ModelParams, ModelSizes, Written};

@@ -1,7 +1,7 @@
 //! The types over the library: a model, streams, the silence table, the nearest voice; what is refused, and with which number.
 use shofrakin::{
-    nearest_voice, DecoderFrame, Held, InputFrame, IvectorInfo, IvectorOptions, IvectorStream, OpenError, PhoneSegment, Refusal, Room, RoundEnd,
-    SilenceWeighting, Voice, MAX_CHANGES,
+    nearest_voice, DecoderFrame, Held, InputFrame, IvectorInfo, IvectorOptions, IvectorStream, ModelParams, ModelSizes, OpenError, PhoneSegment,
+    Refusal, Room, RoundEnd, SilenceWeighting, Voice, Written, MAX_CHANGES,
 };
 use std::path::{Path, PathBuf};
 
@@ -560,4 +560,34 @@ fn rounds() {
     // a fresh stream has no frame ready
     let mut fresh = IvectorStream::new(&info, Room::default()).unwrap();
     assert_eq!(fresh.round(&mut table(), 0, &[], &[], &enrolled, 1.0, &mut vector).end, RoundEnd::NoVector);
+}
+
+/// P9's numbers written at both widths, and loaded back: its vector is 0.5, as of its own files.
+#[test]
+fn a_model_written_back() {
+    let o = p9_options();
+    let text = p9()[3].clone();
+    let sizes = ModelSizes { num_gauss: 1, ext_gauss: 1, feat_dim: 1, ivector_dim: 1, lda_cols: 1 };
+    let (one, two) = ([1f32], [2f32]);
+    let narrow = ModelParams { sizes, weights: &one, means_invvars: &one, inv_vars: &one, m: &two, sigma_inv: &one, prior_offset: 1f32, lda: &one };
+    let (one, two) = ([1f64], [2f64]);
+    let wide = ModelParams { sizes, weights: &one, means_invvars: &one, inv_vars: &one, m: &two, sigma_inv: &one, prior_offset: 1f64, lda: &one };
+    for files in [narrow.files(&o, &text).unwrap(), wide.files(&o, &text).unwrap()] {
+        let info = IvectorInfo::from_bytes(o, &files[0], &files[1], &files[2], &text).unwrap();
+        let mut s = IvectorStream::new(&info, Room::for_utterances(&info, 4)).unwrap();
+        s.push_frame(&[4.0]).unwrap();
+        let mut v = [0.0];
+        s.get_frame(0, &mut v).unwrap();
+        assert_eq!(v, [0.5]);
+    }
+    let mut out = vec![7; 300];
+    assert_eq!(narrow.write(&o, &text, &mut out).unwrap(), Written { gmm: 124, extractor: 144, lda: 19 });
+    assert_eq!(out[287..], [7; 13]);
+    let mut out = vec![7; 286];
+    assert_eq!(number(narrow.write(&o, &text, &mut out)), 26);
+    assert_eq!(out, [7; 286]);
+    assert_eq!(number(ModelParams { lda: &[], ..wide }.files(&o, &text)), 5);
+    assert_eq!(number(ModelParams { weights: &[1e-50], ..wide }.files(&o, &text)), 6);
+    assert_eq!(number(ModelParams { sizes: ModelSizes { feat_dim: usize::MAX, ..sizes }, ..wide }.files(&o, &text)), 4);
+    assert_eq!(number(wide.files(&o, b"")), 7);
 }
