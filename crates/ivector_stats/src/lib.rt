@@ -2,12 +2,13 @@
 use basics::add_scaled;
 use basics::clear;
 use definition::IvectorOptions;
+use packed_matrix::weighted_rows;
 ghost use mathlib.Core.Path.{_≡_};
 ghost use mathlib.Core.List.{List};
 ghost use Prim.Native.Nat.{_+_, _*_, _<_, _≤_};
 ghost use lib.ListN.{length, set};
 ghost use lib.Ieee.{eq};
-ghost use Rattle.loops.specs.Lists.{build, if_then_else_};
+ghost use Rattle.loops.specs.Lists.{if_then_else_};
 ghost use Rattle.loops.specs.Steps.{fill};
 ghost use Rattle.floats.specs.Operators.{_+₆₄_, _*₆₄_, _/₆₄_, zero₆₄, at, sum₆₄};
 ghost use Rattle.floats.specs.Extremes.{larger};
@@ -46,19 +47,6 @@ pub fn prior_vector(dim: usize, prior_offset: f64, ivector: &mut [f64])
 {
     clear(ivector, dim);
     ivector[0] = prior_offset;
-}
-
-// d rows of s, each times its element of x, added up.
-fn weighted_rows(rows: &[f64], d: usize, s: usize, x: &[f64], out: &mut [f64])
-    requires { ⌜ (d * s ≤ length (now rows)) × (d ≤ length (now x)) × (length (now out) ≡ s) ⌝ }
-    ensures { λ _. ⌜ now (out .exit) ≡ build s (λ c. sum₆₄ zero₆₄ d (λ a. at (now (rows .entry)) (a * s + c) *₆₄ at (now (x .entry)) a)) ⌝ }
-{
-    clear(out, s);
-    for a in 0..d {
-        let start = a * s;
-        let end = start + s;
-        add_scaled(x[a], &rows[start..end], out);
-    }
 }
 
 fn add(row: &[f64], out: &mut [f64])

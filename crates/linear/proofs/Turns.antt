@@ -32,27 +32,39 @@ module _ (a : List Float) (n : ℕ) (b x : List Float) where
   -- ---- before the first turn
 
   pub begin-is : {q p r : List Float} {v : Float} {s : CgdState} → q ≡ spMatVec a n x → p ≡ build n (λ i. at b i -₆₄ at q i) → r ≡ build n (λ i. neg (at p i)) → v ≡ dot n r r → s ≡ started v
-      → (cgdOf x r p s ≡ begun a n b x) × (s .k ≡ 0)
+      → cgdOf x r p s ≡ begun a n b x
   unfolding begun
-  begin-is e1 e2 e3 e4 e5 = (rw (e5, e4, e3, e2, e1), rw e5)
+  begin-is e1 e2 e3 e4 e5 = rw (e5, e4, e3, e2, e1)
 
   -- ---- the residual, recomputed or as it is
 
   module _ (r : List Float) (s : CgdState) {t : Bool} (e : t ≡ isFar s) where
-    pub renew-far : {q r′ : List Float} {v : Float} {s′ : CgdState} → t ≡ true → q ≡ spMatVec a n x → r′ ≡ build n (λ i. at q i -₆₄ at b i) → v ≡ dot n r′ r′ → s′ ≡ recomputed s v
-        → (r′ ≡ (if isFar s then residual a n b x else r)) × (s′ ≡ (if isFar s then recomputed s (dot n r′ r′) else s))
-    renew-far h e1 e2 e3 e4 =
-        let f : isFar s ≡ true = sym e ∙ h in
-        (choose-true r f (e2 ∙ ap (λ (q : List Float). build n (λ i. at q i -₆₄ at b i)) e1), choose-true s f (e4 ∙ ap (recomputed s) e3))
+    pub renew-far : {q r′ : List Float} → t ≡ true → q ≡ spMatVec a n x → r′ ≡ build n (λ i. at q i -₆₄ at b i) → r′ ≡ (if isFar s then residual a n b x else r)
+    renew-far h e1 e2 = choose-true r (sym e ∙ h) (e2 ∙ ap (λ (q : List Float). build n (λ i. at q i -₆₄ at b i)) e1)
 
-    pub renew-near : t ≡ false → (r ≡ (if isFar s then residual a n b x else r)) × (s ≡ (if isFar s then recomputed s (dot n r r) else s))
-    renew-near h = let f : isFar s ≡ false = sym e ∙ h in (choose-false _ f refl, choose-false _ f refl)
+    pub renew-near : t ≡ false → r ≡ (if isFar s then residual a n b x else r)
+    renew-near h = choose-false _ (sym e ∙ h) refl
+
+-- ---- its scalars
+
+pub begun-k : {v : Float} {s : CgdState} → s ≡ started v → s .k ≡ 0
+begun-k e = rw e
+
+module _ (n : ℕ) (s : CgdState) {t : Bool} (e : t ≡ isFar s) where
+  pub scalars-far : (r : List Float) {v : Float} {s′ : CgdState} → t ≡ true → v ≡ dot n r r → s′ ≡ recomputed s v → s′ ≡ (if isFar s then recomputed s (dot n r r) else s)
+  scalars-far r h e1 e2 = choose-true s (sym e ∙ h) (e2 ∙ ap (recomputed s) e1)
+
+  pub scalars-near : (r : List Float) → t ≡ false → s ≡ (if isFar s then recomputed s (dot n r r) else s)
+  scalars-near r h = choose-false _ (sym e ∙ h) refl
 
 -- ---- a turn
 
 renewed-k : (f : Bool) (s : CgdState) (v : Float) → (if f then recomputed s v else s) .k ≡ s .k
 renewed-k true s v = refl
 renewed-k false s v = refl
+
+pub counted : (n : ℕ) (s : CgdState) (r : List Float) {v : Float} {s₁ t : CgdState} → s₁ ≡ stepped s v → t ≡ (if isFar s₁ then recomputed s₁ (dot n r r) else s₁) → t .k ≡ s .k + 1
+counted n s r {s₁ = s₁} e h = ap (λ (t : CgdState). t .k) h ∙ renewed-k (isFar s₁) s₁ (dot n r r) ∙ ap (λ (t : CgdState). t .k) e
 
 module _ (a : List Float) (n : ℕ) (b x r p : List Float) (s : CgdState) where
   -- its end, with the residual R and the scalars T
@@ -103,17 +115,14 @@ module _ (a : List Float) (n : ℕ) (b x r p : List Float) (s : CgdState) where
         ∙ ap (λ (q : List Float). turnAlong (neg (dot n p r) /₆₄ dot n p q) q) e1
         ∙ along-is
 
-    counted : T .k ≡ s .k + 1
-    counted = ap (λ (t : CgdState). t .k) e9 ∙ renewed-k (isFar s₁) s₁ (dot n R R) ∙ ap (λ (t : CgdState). t .k) e7
-
-    pub turn-last : {t : Bool} → t ≡ isLast T → t ≡ true → (ended T (cgdOf x′ R p T) ≡ turn a n b (cgdOf x r p s)) × (T .k ≡ s .k + 1)
-    turn-last h l = let f : isLast T ≡ true = sym h ∙ l in (sym (is-last (isLast T) _ f) ∙ choose-true _ f refl ∙ turn-is, counted)
+    pub turn-last : {t : Bool} → t ≡ isLast T → t ≡ true → ended T (cgdOf x′ R p T) ≡ turn a n b (cgdOf x r p s)
+    turn-last h l = let f : isLast T ≡ true = sym h ∙ l in sym (is-last (isLast T) _ f) ∙ choose-true _ f refl ∙ turn-is
 
     pub turn-on : {t : Bool} {p′ : List Float} → t ≡ isLast T → t ≡ false → p′ ≡ build n (λ i. T .«r_cur» /₆₄ s .«r_cur» *₆₄ at p i -₆₄ at R i)
-        → (ended T (cgdOf x′ R p′ T) ≡ turn a n b (cgdOf x r p s)) × (T .k ≡ s .k + 1)
+        → ended T (cgdOf x′ R p′ T) ≡ turn a n b (cgdOf x r p s)
     turn-on h l e =
         let f : isLast T ≡ false = sym h ∙ l in
-        (sym (goes-on (isLast T) _ f) ∙ choose-false _ f (ap (λ (p : List Float). on (cgdOf x′ R p T)) e) ∙ turn-is, counted)
+        sym (goes-on (isLast T) _ f) ∙ choose-false _ f (ap (λ (p : List Float). on (cgdOf x′ R p T)) e) ∙ turn-is
 
 -- ---- the turns, m at most
 

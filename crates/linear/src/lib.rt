@@ -3,12 +3,14 @@ use basics::add_scaled;
 use basics::clear;
 use basics::difference;
 use packed_matrix::dot;
+use packed_matrix::lay_out;
 use packed_matrix::packed_index;
-use packed_matrix::sp_mat_vec;
+use packed_matrix::weighted_rows;
 ghost use mathlib.Core.Path.{_≡_};
+ghost use mathlib.Core.List.{List};
 ghost use Prim.Native.Nat.{_+_, _*_, _<_, _≤_, min};
 ghost use lib.Dec.{ltb};
-ghost use lib.Ieee.{neg};
+ghost use lib.Ieee.{Float, neg};
 ghost use lib.ListN.{length};
 ghost use Rattle.loops.specs.Loop.{leave, final};
 ghost use Rattle.loops.specs.Steps.{done};
@@ -16,6 +18,7 @@ ghost use Rattle.loops.specs.Lists.{build, if_then_else_};
 ghost use Rattle.floats.specs.Operators.{_-₆₄_, _*₆₄_, at};
 ghost use Rattle.definition.specs.Kaldi.{triangle};
 ghost use Rattle.definition.specs.Solve.{dot as dotOf, factor as factorOf, forward as forwardOf, backward as backwardOf, solvedOr, begun, residual, turn, linearCgd};
+ghost use Rattle.packed_matrix.specs.Steps.{squareOf};
 ghost use Rattle.linear.specs.Steps.{started, stepped as steppedOf, recomputed as recomputedOf, isFar, isLast, isWorse, cgdOf, ended, isOn};
 
 // The lower factor L of A = L Lᵗ, by rows of n, or false at the first pivot that is at most 0.
@@ -199,9 +202,9 @@ impl CgdState {
     }
 }
 
-// The first residual, the first direction against it, and the scalars. ap is room for A x.
+// The first residual, the first direction against it, and the scalars. A is laid out square, here and in the turns; ap is room for A x.
 fn cgd_begin(
-    a: &[f64],
+    square: &[f64],
     n: usize,
     b: &[f64],
     x: &[f64],
@@ -209,10 +212,10 @@ fn cgd_begin(
     p: &mut [f64],
     ap: &mut [f64],
 ) -> CgdState
-    requires { ⌜ (triangle n ≤ length (now a)) × (n ≤ length (now b)) × (n ≤ length (now x)) × (length (now r) ≡ n) × (length (now p) ≡ n) × (length (now ap) ≡ n) ⌝ }
-    ensures { λ s. ⌜ (cgdOf (now (x .entry)) (now (r .exit)) (now (p .exit)) s ≡ begun (now (a .entry)) n (now (b .entry)) (now (x .entry))) × (s .k ≡ 0) ⌝ }
+    requires { ⌜ (n * n ≤ length (now square)) × (n ≤ length (now b)) × (n ≤ length (now x)) × (length (now r) ≡ n) × (length (now p) ≡ n) × (length (now ap) ≡ n) ⌝ }
+    ensures { λ s. ⌜ ((a : List Float) → now (square .entry) ≡ squareOf n a → cgdOf (now (x .entry)) (now (r .exit)) (now (p .exit)) s ≡ begun a n (now (b .entry)) (now (x .entry))) × (s .k ≡ 0) ⌝ }
 {
-    sp_mat_vec(a, n, x, ap);
+    weighted_rows(square, n, n, x, ap);
     difference(b, ap, n, p);
     negated(p, n, r);
     CgdState::new(dot(r, r, n))
@@ -220,7 +223,7 @@ fn cgd_begin(
 
 // The residual anew, where it is far from the last one that was.
 fn recompute(
-    a: &[f64],
+    square: &[f64],
     n: usize,
     b: &[f64],
     x: &[f64],
@@ -228,11 +231,11 @@ fn recompute(
     ap: &mut [f64],
     s: CgdState,
 ) -> CgdState
-    requires { ⌜ (triangle n ≤ length (now a)) × (n ≤ length (now b)) × (n ≤ length (now x)) × (length (now r) ≡ n) × (length (now ap) ≡ n) ⌝ }
-    ensures { λ t. ⌜ (now (r .exit) ≡ (if isFar s then residual (now (a .entry)) n (now (b .entry)) (now (x .entry)) else now (r .entry))) × (t ≡ (if isFar s then recomputedOf s (dotOf n (now (r .exit)) (now (r .exit))) else s)) ⌝ }
+    requires { ⌜ (n * n ≤ length (now square)) × (n ≤ length (now b)) × (n ≤ length (now x)) × (length (now r) ≡ n) × (length (now ap) ≡ n) ⌝ }
+    ensures { λ t. ⌜ ((a : List Float) → now (square .entry) ≡ squareOf n a → now (r .exit) ≡ (if isFar s then residual a n (now (b .entry)) (now (x .entry)) else now (r .entry))) × (t ≡ (if isFar s then recomputedOf s (dotOf n (now (r .exit)) (now (r .exit))) else s)) ⌝ }
 {
     if s.is_far() {
-        sp_mat_vec(a, n, x, ap);
+        weighted_rows(square, n, n, x, ap);
         difference(ap, b, n, r);
         return s.recomputed(dot(r, r, n));
     }
@@ -241,7 +244,7 @@ fn recompute(
 
 // A turn: along p, then the next direction.
 fn cgd_turn(
-    a: &[f64],
+    square: &[f64],
     n: usize,
     b: &[f64],
     x: &mut [f64],
@@ -250,15 +253,15 @@ fn cgd_turn(
     ap: &mut [f64],
     s: CgdState,
 ) -> CgdState
-    requires { ⌜ (s .k < 200) × (triangle n ≤ length (now a)) × (n ≤ length (now b)) × (length (now x) ≡ n) × (length (now r) ≡ n) × (length (now p) ≡ n) × (length (now ap) ≡ n) ⌝ }
-    ensures { λ t. ⌜ (ended t (cgdOf (now (x .exit)) (now (r .exit)) (now (p .exit)) t) ≡ turn (now (a .entry)) n (now (b .entry)) (cgdOf (now (x .entry)) (now (r .entry)) (now (p .entry)) s)) × (t .k ≡ s .k + 1) ⌝ }
+    requires { ⌜ (s .k < 200) × (n * n ≤ length (now square)) × (n ≤ length (now b)) × (length (now x) ≡ n) × (length (now r) ≡ n) × (length (now p) ≡ n) × (length (now ap) ≡ n) ⌝ }
+    ensures { λ t. ⌜ ((a : List Float) → now (square .entry) ≡ squareOf n a → ended t (cgdOf (now (x .exit)) (now (r .exit)) (now (p .exit)) t) ≡ turn a n (now (b .entry)) (cgdOf (now (x .entry)) (now (r .entry)) (now (p .entry)) s)) × (t .k ≡ s .k + 1) ⌝ }
 {
-    sp_mat_vec(a, n, p, ap);
+    weighted_rows(square, n, n, p, ap);
     let alpha = -dot(p, r, n) / dot(p, ap, n);
     add_scaled(alpha, p, x);
     add_scaled(alpha, ap, r);
     let moved = s.stepped(dot(r, r, n));
-    let t = recompute(a, n, b, x, r, ap, moved);
+    let t = recompute(square, n, b, x, r, ap, moved);
     if t.is_last() {
         return t;
     }
@@ -268,7 +271,7 @@ fn cgd_turn(
 
 // At most n + 5 turns and at most max_iters.
 fn cgd_turns(
-    a: &[f64],
+    square: &[f64],
     n: usize,
     b: &[f64],
     x: &mut [f64],
@@ -278,12 +281,13 @@ fn cgd_turns(
     max_iters: usize,
     s: CgdState,
 ) -> CgdState
-    requires { ⌜ (s .k ≡ 0) × (n ≤ 128) × (triangle n ≤ length (now a)) × (n ≤ length (now b)) × (length (now x) ≡ n) × (length (now r) ≡ n) × (length (now p) ≡ n) × (length (now ap) ≡ n) ⌝ }
-    ensures { λ t. ⌜ cgdOf (now (x .exit)) (now (r .exit)) (now (p .exit)) t ≡ final (leave (min (n + 5) «max_iters») (λ k. turn (now (a .entry)) n (now (b .entry))) (cgdOf (now (x .entry)) (now (r .entry)) (now (p .entry)) s)) ⌝ }
+    requires { ⌜ (s .k ≡ 0) × (n ≤ 128) × (n * n ≤ length (now square)) × (n ≤ length (now b)) × (length (now x) ≡ n) × (length (now r) ≡ n) × (length (now p) ≡ n) × (length (now ap) ≡ n) ⌝ }
+    ensures { λ t. ⌜ ((a : List Float) → now (square .entry) ≡ squareOf n a
+        → cgdOf (now (x .exit)) (now (r .exit)) (now (p .exit)) t ≡ final (leave (min (n + 5) «max_iters») (λ k. turn a n (now (b .entry))) (cgdOf (now (x .entry)) (now (r .entry)) (now (p .entry)) s))) ⌝ }
 {
     let mut t = s;
     while t.goes_on(n, max_iters) {
-        t = cgd_turn(a, n, b, x, r, p, ap, t);
+        t = cgd_turn(square, n, b, x, r, p, ap, t);
         if t.is_last() {
             break;
         }
@@ -309,7 +313,7 @@ fn exact_or_start(
     }
 }
 
-// `linear_cgd` in lent rooms, with a copy of the start.
+// `linear_cgd` in lent rooms, with a copy of the start. l holds the square while the turns go on, and L after them.
 fn linear_cgd_in(
     a: &[f64],
     n: usize,
@@ -325,18 +329,19 @@ fn linear_cgd_in(
     requires { ⌜ (now «x_orig» ≡ now x) × (n ≤ 128) × (triangle n ≤ length (now a)) × (n ≤ length (now b)) × (length (now x) ≡ n) × (length (now r) ≡ n) × (length (now p) ≡ n) × (length (now ap) ≡ n) × (length (now l) ≡ n * n) ⌝ }
     ensures { λ _. ⌜ now (x .exit) ≡ linearCgd (now (a .entry)) n (now (b .entry)) (now (x .entry)) «max_iters» ⌝ }
 {
-    let first = cgd_begin(a, n, b, x, r, p, ap);
+    lay_out(a, n, l);
+    let first = cgd_begin(l, n, b, x, r, p, ap);
     if first.is_last() {
         return;
     }
-    let last = cgd_turns(a, n, b, x, r, p, ap, max_iters, first);
+    let last = cgd_turns(l, n, b, x, r, p, ap, max_iters, first);
     if last.is_worse(first.r_cur, dot(b, b, n)) {
         exact_or_start(a, n, b, x, x_orig, l, ap);
     }
 }
 
 // A x = b from the start x, which is kept where it is the solution. Where the residual gets worse: the exact solution, or the start
-// again. L lies in scratch.
+// again. The matrix laid out square, and then L, lies in scratch.
 pub fn linear_cgd(
     a: &[f64],
     n: usize,

@@ -1,4 +1,4 @@
--- Laws of packed rows, and of a room of just n places.
+-- Laws of packed columns, of sums of rows, and of a room of just n places.
 pub mod Packing
 pub mod Rooms
-mod Rows
+pub mod Square

@@ -1,20 +1,16 @@
--- The sums that `sp_mat_vec` has when some of the rows are done. Not for readers.
+-- A table's row, and a matrix laid out square. Not for readers.
 use mathlib.Core.List.{List}
-use Prim.Native.Nat.{ℕ, _+_}
+use Prim.Native.Nat.{ℕ, _*_}
+use lib.ListN.{take, drop}
 use lib.Ieee.{Float}
-use Rattle.floats.specs.Operators.{_+₆₄_, _*₆₄_, zero₆₄, at, sum₆₄}
+use Rattle.loops.specs.Lists.{build, flat}
+use Rattle.floats.specs.Operators.{at}
 use Rattle.definition.specs.Model.{packed}
 
-module _ (a x : List Float) where
-  -- the first m terms of row i
-  abbrev pub partRow : ℕ → ℕ → Float
-  partRow m i = sum₆₄ zero₆₄ m (λ k. at a (packed i k) *₆₄ at x k)
+-- row k of a table, s wide
+unfoldable pub tableRow : ℕ → List Float → ℕ → List Float
+tableRow s table k = take s (drop (k * s) table)
 
-  -- m elements from `start` on, element k times x k
-  abbrev pub along : ℕ → ℕ → Float
-  along start m = sum₆₄ zero₆₄ m (λ k. at a (start + k) *₆₄ at x k)
-
-  -- four terms more, with x from j on
-  abbrev pub fourMore : ℕ → ℕ → ℕ → ℕ → ℕ → Float → Float
-  fourMore j p0 p1 p2 p3 s =
-      s +₆₄ at a p0 *₆₄ at x j +₆₄ at a p1 *₆₄ at x (j + 1) +₆₄ at a p2 *₆₄ at x (j + 2) +₆₄ at a p3 *₆₄ at x (j + 3)
+-- the packed matrix a, n wide, column after column; the columns of a symmetric matrix are its rows
+unfoldable pub squareOf : ℕ → List Float → List Float
+squareOf n a = flat n (λ i. build n (λ j. at a (packed j i)))

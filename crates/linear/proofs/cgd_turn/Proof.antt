@@ -1,18 +1,20 @@
--- `linear::cgd_turn` meets its contract: what the steps leave is the definition's turn, the last (`turn-last`) or not (`turn-on`, both in Turns.antt).
+-- `linear::cgd_turn` meets its contract: what the steps leave is the definition's turn, the last (`turn-last`) or not (`turn-on`, both in Turns.antt),
+-- where the square is a's (`square-product` in packed_matrix/proofs/Square.antt).
 use borrow.Author.Needs.{needs}
 use mathlib.Core.Path.{_∙_}
 use native.Mathlib.Omega.{arith}
 use Rattle.basics.proofs.Rows.{whole}
-use Rattle.linear.proofs.Turns.{turn-last, turn-on}
+use Rattle.packed_matrix.proofs.Square.{square-product}
+use Rattle.linear.proofs.Turns.{counted, turn-last, turn-on}
 use Rattle.linear.proofs.cgd_turn.Statement.{statement}
 use Rattle.linear.proofs.cgd_turn.Tie as tie
 
 -- ---- places in the code, each from the next that is named
 
-abbrev before-sp-mat-vec : tie.After-sp-mat-vec → tie.Start
-before-sp-mat-vec c = c .before .before .before .before .before .before .before .before .before
+abbrev before-weighted-rows : tie.After-weighted-rows → tie.Start
+before-weighted-rows c = c .before .before .before .before .before .before .before .before .before
 
-abbrev before-dot : tie.After-dot → tie.After-sp-mat-vec
+abbrev before-dot : tie.After-dot → tie.After-weighted-rows
 before-dot c = c .before .before .before .before .before
 
 abbrev before-dot2 : tie.After-dot2 → tie.After-dot
@@ -40,15 +42,15 @@ recompute-requires : tie.Need-recompute-requires
 recompute-requires c κs =
     let at-add-scaled2 = before-dot3 (c .before .before .before .before) in
     let at-add-scaled = before-add-scaled2 at-add-scaled2 in
-    let at-sp-mat-vec = before-dot (before-dot2 (before-add-scaled at-add-scaled)) in
-    let start = before-sp-mat-vec at-sp-mat-vec in
-    omega (arith, (start .pre), (at-add-scaled .add-scaled) .kept, (at-add-scaled2 .add-scaled2) .kept, (at-sp-mat-vec .sp-mat-vec) .kept)
+    let at-weighted-rows = before-dot (before-dot2 (before-add-scaled at-add-scaled)) in
+    let start = before-weighted-rows at-weighted-rows in
+    omega (arith, (start .pre), (at-add-scaled .add-scaled) .kept, (at-add-scaled2 .add-scaled2) .kept, (at-weighted-rows .weighted-rows) .kept)
 
 same-length-4 : tie.Need-same-length-4
 same-length-4 c =
     let at-recompute = before-is-last (c .before) in
-    let at-sp-mat-vec = before-dot (before-dot2 (before-add-scaled (before-add-scaled2 (before-dot3 ((before-recompute at-recompute) .before))))) in
-    (at-recompute .recompute) .kept .1 .1 .1 .1 .1 .0 ∙ (at-sp-mat-vec .sp-mat-vec) .kept .1 .1 .1 .0
+    let at-weighted-rows = before-dot (before-dot2 (before-add-scaled (before-add-scaled2 (before-dot3 ((before-recompute at-recompute) .before))))) in
+    (at-recompute .recompute) .kept .1 .1 .1 .1 .1 .0 ∙ (at-weighted-rows .weighted-rows) .kept .1 .1 .1 .1 .0
 
 returns : tie.Need-returns
 returns c =
@@ -59,18 +61,23 @@ returns c =
     let at-add-scaled = before-add-scaled2 at-add-scaled2 in
     let at-dot2 = before-add-scaled at-add-scaled in
     let at-dot = before-dot2 at-dot2 in
-    let at-sp-mat-vec = before-dot at-dot in
-    let start = before-sp-mat-vec at-sp-mat-vec in
-    turn-last _ _ _ _ _ _ _ (at-sp-mat-vec .sp-mat-vec .ensures) (at-dot .dot .ensures) (at-dot2 .dot2 .ensures)
-    (whole _ _ (start .args .x .now) (start .pre .3) (at-add-scaled .add-scaled .ensures)) (whole _ _ (start .args .r .now) (start .pre .4) (at-add-scaled2 .add-scaled2 .ensures))
-    (at-dot3 .dot3 .ensures) (at-stepped .stepped .ensures) (at-recompute .recompute .ensures .0) (at-recompute .recompute .ensures .1)
-    (c .before .is-last .ensures) (c .if1 .taken)
+    let at-weighted-rows = before-dot at-dot in
+    let start = before-weighted-rows at-weighted-rows in
+    let product = at-weighted-rows .weighted-rows .ensures in
+    let stepped = at-stepped .stepped .ensures in
+    let renewed = at-recompute .recompute .ensures in (
+      λ a h. turn-last a _ _ _ _ _ _ (square-product _ a _ h product) (at-dot .dot .ensures) (at-dot2 .dot2 .ensures)
+          (whole _ _ (start .args .x .now) (start .pre .3) (at-add-scaled .add-scaled .ensures)) (whole _ _ (start .args .r .now) (start .pre .4) (at-add-scaled2 .add-scaled2 .ensures))
+          (at-dot3 .dot3 .ensures) stepped (renewed .0 a h) (renewed .1)
+          (c .before .is-last .ensures) (c .if1 .taken),
+      counted _ (start .args .s) _ stepped (renewed .1),
+    )
 
 turned-requires : tie.Need-turned-requires
 turned-requires c κs =
     let at-recompute = before-is-last (c .before .before .before .before .before) in
     let at-add-scaled2 = before-dot3 ((before-recompute at-recompute) .before) in
-    let start = before-sp-mat-vec (before-dot (before-dot2 (before-add-scaled (before-add-scaled2 at-add-scaled2)))) in
+    let start = before-weighted-rows (before-dot (before-dot2 (before-add-scaled (before-add-scaled2 at-add-scaled2)))) in
     omega (arith, (start .pre), (at-add-scaled2 .add-scaled2) .kept, (at-recompute .recompute) .kept)
 
 same-length-5 : tie.Need-same-length-5
@@ -81,8 +88,8 @@ same-length-5 c =
 same-length-8 : tie.Need-same-length-8
 same-length-8 c =
     let at-recompute = before-is-last ((before-slice-known10 c) .before) in
-    let at-sp-mat-vec = before-dot (before-dot2 (before-add-scaled (before-add-scaled2 (before-dot3 ((before-recompute at-recompute) .before))))) in
-    (at-recompute .recompute) .kept .1 .1 .1 .1 .1 .0 ∙ (at-sp-mat-vec .sp-mat-vec) .kept .1 .1 .1 .0
+    let at-weighted-rows = before-dot (before-dot2 (before-add-scaled (before-add-scaled2 (before-dot3 ((before-recompute at-recompute) .before))))) in
+    (at-recompute .recompute) .kept .1 .1 .1 .1 .1 .0 ∙ (at-weighted-rows .weighted-rows) .kept .1 .1 .1 .1 .0
 
 returns-2 : tie.Need-returns-2
 returns-2 c =
@@ -95,12 +102,17 @@ returns-2 c =
     let at-add-scaled = before-add-scaled2 at-add-scaled2 in
     let at-dot2 = before-add-scaled at-add-scaled in
     let at-dot = before-dot2 at-dot2 in
-    let at-sp-mat-vec = before-dot at-dot in
-    let start = before-sp-mat-vec at-sp-mat-vec in
-    turn-on _ _ _ _ _ _ _ (at-sp-mat-vec .sp-mat-vec .ensures) (at-dot .dot .ensures) (at-dot2 .dot2 .ensures)
-    (whole _ _ (start .args .x .now) (start .pre .3) (at-add-scaled .add-scaled .ensures)) (whole _ _ (start .args .r .now) (start .pre .4) (at-add-scaled2 .add-scaled2 .ensures))
-    (at-dot3 .dot3 .ensures) (at-stepped .stepped .ensures) (at-recompute .recompute .ensures .0) (at-recompute .recompute .ensures .1)
-    (at-is-last .is-last .ensures) (at-if1 .if1 .left) (c .before .before .turned .ensures)
+    let at-weighted-rows = before-dot at-dot in
+    let start = before-weighted-rows at-weighted-rows in
+    let product = at-weighted-rows .weighted-rows .ensures in
+    let stepped = at-stepped .stepped .ensures in
+    let renewed = at-recompute .recompute .ensures in (
+      λ a h. turn-on a _ _ _ _ _ _ (square-product _ a _ h product) (at-dot .dot .ensures) (at-dot2 .dot2 .ensures)
+          (whole _ _ (start .args .x .now) (start .pre .3) (at-add-scaled .add-scaled .ensures)) (whole _ _ (start .args .r .now) (start .pre .4) (at-add-scaled2 .add-scaled2 .ensures))
+          (at-dot3 .dot3 .ensures) stepped (renewed .0 a h) (renewed .1)
+          (at-is-last .is-last .ensures) (at-if1 .if1 .left) (c .before .before .turned .ensures),
+      counted _ (start .args .s) _ stepped (renewed .1),
+    )
 
 pub cgd-turn-spec : {M : Type 1} → statement M
 cgd-turn-spec =

@@ -2,23 +2,26 @@
 -- `last-turn`, `turns-end` in Turns.antt).
 use borrow.Author.Needs.{needs}
 use mathlib.Core.Path.{_≡_, sym, _∙_}
+use mathlib.Core.List.{List}
 use Prim.Native.Nat.{_+_, _-_, _≤_, _<_, min}
 use native.Mathlib.Nat.{min-le-left}
 use native.Mathlib.Omega.{arith}
 use borrow.Author.Tests.{ltb-true, ltb-false}
 use lib.ListN.{length}
+use lib.Ieee.{Float}
 use Rattle.loops.specs.Loop.{on}
+use Rattle.packed_matrix.specs.Steps.{squareOf}
 use Rattle.linear.specs.Steps.{cgdOf}
 use Rattle.linear.proofs.Turns.{turnsFrom, no-turn, turns-end, next-turn, last-turn}
 use Rattle.linear.proofs.cgd_turns.Statement.{statement}
 use Rattle.linear.proofs.cgd_turns.Tie as tie
 
 abbrev Inv-loop : tie.InvT-loop
-Inv-loop a n b x₀ r₀ p₀ ap₀ max-iters t₀ x r p ap t =
-    (t .k ≤ min (n + 5) max-iters) × (length x ≡ n) × (length r ≡ n) × (length p ≡ n) × (length ap ≡ n) × (on (cgdOf x r p t) ≡ turnsFrom a n b (t .k) (cgdOf x₀ r₀ p₀ t₀))
+Inv-loop square n b x₀ r₀ p₀ ap₀ max-iters t₀ x r p ap t =
+    (t .k ≤ min (n + 5) max-iters) × (length x ≡ n) × (length r ≡ n) × (length p ≡ n) × (length ap ≡ n) × ((a : List Float) → square ≡ squareOf n a → on (cgdOf x r p t) ≡ turnsFrom a n b (t .k) (cgdOf x₀ r₀ p₀ t₀))
 
 abbrev μ-loop : tie.MeasureT-loop
-μ-loop a n b x₀ r₀ p₀ ap₀ max-iters t₀ x r p ap t = min (n + 5) max-iters - t .k
+μ-loop square n b x₀ r₀ p₀ ap₀ max-iters t₀ x r p ap t = min (n + 5) max-iters - t .k
 
 -- ---- places in the code, each from the next that is named
 
@@ -34,7 +37,7 @@ before-is-last c = c .before .before .before .before .before .before .before .be
 loop-holds : tie.Need-loop-holds Inv-loop μ-loop
 loop-holds c =
     let start = c .before .before .before .before .before .before in
-    (omega (arith, (start .pre) .0), (start .pre) .4, (start .pre) .5, (start .pre) .6, (start .pre) .7, no-turn _ _ _ (start .pre .0))
+    (omega (arith, (start .pre) .0), (start .pre) .4, (start .pre) .5, (start .pre) .6, (start .pre) .7, λ a h. no-turn a _ _ (start .pre .0))
 
 goes-on-requires : tie.Need-goes-on-requires Inv-loop μ-loop
 goes-on-requires c κs =
@@ -71,14 +74,14 @@ loop-again c =
     let i = at-loop .loop .inv in
     let e = at-cgd-turn .cgd-turn .ensures in
     let k = at-cgd-turn .cgd-turn .kept .1 .1 .1 in
-    (omega (arith, e .1), k .0 ∙ i .1, k .1 .0 ∙ i .2, k .1 .1 .0 ∙ i .3, k .1 .1 .1 .0 ∙ i .4, next-turn _ _ _ _ _ (i .5) _ (e .0) (c .before .is-last .ensures) (e .1) (c .if2 .left))
+    (omega (arith, e .1), k .0 ∙ i .1, k .1 .0 ∙ i .2, k .1 .1 .0 ∙ i .3, k .1 .1 .1 .0 ∙ i .4, λ a h. next-turn a _ _ _ _ (i .5 a h) _ (e .0 a h) (c .before .is-last .ensures) (e .1) (c .if2 .left))
 
 returns : tie.Need-returns Inv-loop μ-loop
 returns c =
     let at-loop = c .before .before in
     let start = before-loop at-loop in
     let g : min (start .args .n + 5) (start .args .max-iters) ≤ (at-loop .loop) .t .k = ltb-false _ _ (sym (c .before .goes-on .ensures) ∙ (c .if1) .left) in
-    turns-end _ _ _ _ _ (at-loop .loop .inv .5) _ (at-loop .loop .inv .0) g
+    λ a h. turns-end a _ _ _ _ (at-loop .loop .inv .5 a h) _ (at-loop .loop .inv .0) g
 
 returns-2 : tie.Need-returns-2 Inv-loop μ-loop
 returns-2 c =
@@ -88,7 +91,7 @@ returns-2 c =
     let at-loop = at-goes-on .before in
     let start = before-loop at-loop in
     let g : (at-loop .loop) .t .k < min (start .args .n + 5) (start .args .max-iters) = ltb-true _ _ (sym (at-goes-on .goes-on .ensures) ∙ (at-if1 .if1) .taken) in
-    last-turn _ _ _ _ _ (at-loop .loop .inv .5) (at-cgd-turn .cgd-turn .result) (at-cgd-turn .cgd-turn .ensures .0) (c .before .is-last .ensures) _ g (c .if2 .taken)
+    λ a h. last-turn a _ _ _ _ (at-loop .loop .inv .5 a h) (at-cgd-turn .cgd-turn .result) (at-cgd-turn .cgd-turn .ensures .0 a h) (c .before .is-last .ensures) _ g (c .if2 .taken)
 
 pub cgd-turns-spec : {M : Type 1} → statement M
 cgd-turns-spec =
