@@ -1,4 +1,4 @@
-// The lines between rounds: forget, finish, fetch; and what a stream and a silence table hold.
+// The lines between rounds: forget and finish; and what a stream and a silence table hold.
 use super::print::not_here;
 use super::print::print_answer;
 use super::print::print_changes;
@@ -8,39 +8,25 @@ use super::print::print_flag;
 use super::print::print_float;
 use super::print::print_next;
 use super::print::print_number;
-use super::print::print_vector;
 use super::print::say;
 use super::rooms::CmvnStats;
 use super::rooms::Current;
 use super::rooms::Frames;
-use super::rooms::Gconsts;
-use super::rooms::GlobalRow;
-use super::rooms::InvVars;
 use super::rooms::Known;
-use super::rooms::Lda;
-use super::rooms::LdaOffset;
 use super::rooms::Linear;
-use super::rooms::Means;
 use super::rooms::Quadratic;
 use super::rooms::Rows;
-use super::rooms::Scratch;
-use super::rooms::SigmaInvM;
-use super::rooms::U;
 use super::rooms::WaitingFrames;
 use super::rooms::WaitingWeights;
 use super::rooms::Weights;
 use super::rooms::front_f32;
 use super::rooms::front_f64;
-use super::rooms::front_u32;
 use super::rooms::front_usize;
-use super::rooms::lend_f32;
-use super::rooms::lend_f64;
-use super::rooms::lend_u32;
-use super::rooms::lend_usize;
 use super::session::Held;
 use super::session::Session;
 use super::session::Table;
 use super::session::hold_stream;
+use definition::EstimateLengths;
 use definition::IvectorStream;
 use definition::StreamCall;
 
@@ -111,127 +97,15 @@ pub(crate) fn mark_line(
     hold_stream(session, Held::Stream(stream))
 }
 
-// ---- `v F n`
-
-fn fetch_in(
-    s: IvectorStream,
-    frame: usize,
-    gconsts: &[f32],
-    means_invvars_t: &[f32],
-    inv_vars_t: &[f32],
-    sigma_inv_m: &[f64],
-    u: &[f64],
-    lda_t: &[f32],
-    lda_offset: &[f32],
-    global_mean_stats: &[f64],
-    frames: &[f32],
-    rows: &[f64],
-    waiting_frames: &mut [usize],
-    waiting_weights: &mut [f32],
-    cmvn_stats: &mut [f64],
-    linear: &mut [f64],
-    quadratic: &mut [f64],
-    current: &mut [f64],
-    scratch: &mut [f64],
-    out: &mut [u32],
-) -> StreamCall {
-    let lengths = s.lengths;
-    let z = lengths.rings;
-    let e = lengths.estimate;
-    ivector_fetch::get_frame(
-        s,
-        frame,
-        gconsts,
-        means_invvars_t,
-        inv_vars_t,
-        sigma_inv_m,
-        u,
-        lda_t,
-        lda_offset,
-        global_mean_stats,
-        front_f32(frames, z.frames),
-        front_f64(rows, z.rows),
-        lend_usize(waiting_frames, z.waiting_frames),
-        lend_f32(waiting_weights, z.waiting_weights),
-        lend_f64(cmvn_stats, e.cmvn_stats),
-        lend_f64(linear, e.linear),
-        lend_f64(quadratic, e.quadratic),
-        lend_f64(current, e.current),
-        lend_f64(scratch, e.scratch),
-        out,
-    )
-}
-
-pub(crate) fn fetch_line(
-    text: &[u8],
-    at: usize,
-    session: Session,
-    gconsts: &Gconsts,
-    means_invvars_t: &Means,
-    inv_vars_t: &InvVars,
-    sigma_inv_m: &SigmaInvM,
-    u: &U,
-    lda_t: &Lda,
-    lda_offset: &LdaOffset,
-    global_mean_stats: &GlobalRow,
-    frames: &Frames,
-    rows: &Rows,
-    waiting_frames: &mut WaitingFrames,
-    waiting_weights: &mut WaitingWeights,
-    cmvn_stats: &mut CmvnStats,
-    linear: &mut Linear,
-    quadratic: &mut Quadratic,
-    current: &mut Current,
-    scratch: &mut Scratch,
-) -> Session {
-    let mut out = [0u32; 16];
-    let held = session.held;
-    let Held::Stream(s) = held else {
-        not_here();
-        return session;
-    };
-    let frame = script::number(text, at, 10);
-    let n = script::number(text, frame.next, 10);
-    let call = fetch_in(
-        s,
-        frame.value,
-        gconsts,
-        means_invvars_t,
-        inv_vars_t,
-        sigma_inv_m,
-        u,
-        lda_t,
-        lda_offset,
-        global_mean_stats,
-        frames,
-        rows,
-        waiting_frames,
-        waiting_weights,
-        cmvn_stats,
-        linear,
-        quadratic,
-        current,
-        scratch,
-        lend_u32(&mut out, n.value),
-    );
-    fetched(session, call, front_u32(&out, n.value))
-}
-
-// A fetch's answer: with the counts and the vector where it was taken.
-fn fetched(session: Session, call: StreamCall, vector: &[u32]) -> Session {
-    let a = call.answer;
-    print_answer(a);
-    if a.refusal == 0 {
-        print_next(a.not_finite);
-        print_next(a.nan_likelihoods);
-        print_vector(vector);
-    }
-    say(b"\n");
-    let stream = call.stream;
-    hold_stream(session, Held::Stream(stream))
-}
-
 // ---- `q s` and `q t`
+
+// How many numbers the model keeps in each room.
+fn estimate_lengths(s: IvectorStream) -> EstimateLengths {
+    let info = s.info;
+    let needed = memory::rooms_needed(info.dims, 1, 2, 0);
+    let lengths = needed.lengths;
+    lengths.estimate
+}
 
 pub(crate) fn print_stream(
     session: Session,
@@ -247,8 +121,7 @@ pub(crate) fn print_stream(
         not_here();
         return;
     };
-    let lengths = s.lengths;
-    let e = lengths.estimate;
+    let e = estimate_lengths(s);
     print_number(s.accepted);
     print_next(s.num_frames_stats);
     print_next(s.mark);

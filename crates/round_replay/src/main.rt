@@ -7,7 +7,6 @@ mod rooms;
 mod round;
 mod session;
 
-use calls::fetch_line;
 use calls::mark_line;
 use calls::print_stream;
 use calls::print_table;
@@ -119,28 +118,6 @@ fn line(
             known,
             is_silence,
             current_weight,
-        ),
-        b'v' => fetch_line(
-            text,
-            at,
-            session,
-            gconsts,
-            means_invvars_t,
-            inv_vars_t,
-            sigma_inv_m,
-            u,
-            lda_t,
-            lda_offset,
-            global_mean_stats,
-            frames,
-            rows,
-            waiting_frames,
-            waiting_weights,
-            cmvn_stats,
-            linear,
-            quadratic,
-            current,
-            scratch,
         ),
         b'd' | b'f' => mark_line(
             letter,

@@ -22,7 +22,6 @@ use super::rooms::U;
 use super::rooms::WaitingFrames;
 use super::rooms::WaitingWeights;
 use super::rooms::front_f32;
-use super::rooms::front_f64;
 use super::rooms::front_i32;
 use super::rooms::front_u8;
 use super::rooms::front_usize;
@@ -32,13 +31,11 @@ use super::session::Session;
 use super::session::Table;
 use super::session::hold_stream;
 use super::session::hold_table;
-use definition::EstimateLengths;
 use definition::IvectorInfo;
 use definition::Loaded;
 use definition::NewStream;
 use definition::NewTable;
 use definition::RingLengths;
-use definition::RoomLengths;
 ghost use Prim.Native.Nat.{_<_};
 
 // ---- `m ..`
@@ -156,7 +153,6 @@ pub(crate) fn load_line(
 fn new_in(
     info: IvectorInfo,
     z: RingLengths,
-    e: EstimateLengths,
     gconsts: &[f32],
     means_invvars_t: &[f32],
     inv_vars_t: &[f32],
@@ -189,33 +185,29 @@ fn new_in(
         lend_f64(rows, z.rows),
         front_usize(waiting_frames, z.waiting_frames),
         front_f32(waiting_weights, z.waiting_weights),
-        lend_f64(cmvn_stats, e.cmvn_stats),
-        lend_f64(linear, e.linear),
-        lend_f64(quadratic, e.quadratic),
-        lend_f64(current, e.current),
-        front_f64(scratch, e.scratch),
+        cmvn_stats,
+        linear,
+        quadratic,
+        current,
+        scratch,
     )
 }
 
-// The rings that the line asks for, and the rooms that the model needs besides: what the line says of these is not read.
-fn stream_lengths(text: &[u8], at: usize, info: IvectorInfo) -> RoomLengths {
+// The rings that the line asks for.
+fn ring_lengths(text: &[u8], at: usize) -> RingLengths {
     let frames = script::number(text, at, 10);
     let rows = script::number(text, frames.next, 10);
     let waiting_frames = script::number(text, rows.next, 10);
     let waiting_weights = script::number(text, waiting_frames.next, 10);
-    let needed = memory::rooms_needed(info.dims, 1, 2, 0);
-    let lengths = needed.lengths;
-    let estimate = lengths.estimate;
-    let rings = RingLengths {
+    RingLengths {
         frames: frames.value,
         rows: rows.value,
         waiting_frames: waiting_frames.value,
         waiting_weights: waiting_weights.value,
-    };
-    RoomLengths { rings, estimate }
+    }
 }
 
-// Over a model that has no stream yet.
+// Over a model that has no stream yet. The rooms besides the rings are lent whole: what the line says of their lengths is not read.
 pub(crate) fn new_line(
     text: &[u8],
     at: usize,
@@ -243,11 +235,10 @@ pub(crate) fn new_line(
         not_here();
         return session;
     };
-    let z = stream_lengths(text, at, info);
+    let z = ring_lengths(text, at);
     let answer = new_in(
         info,
-        z.rings,
-        z.estimate,
+        z,
         gconsts,
         means_invvars_t,
         inv_vars_t,

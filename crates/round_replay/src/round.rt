@@ -141,11 +141,11 @@ fn round_in(
     rows: &mut [f64],
     waiting_frames: &mut [usize],
     waiting_weights: &mut [f32],
-    cmvn_stats: &mut [f64],
-    linear: &mut [f64],
-    quadratic: &mut [f64],
-    current: &mut [f64],
-    scratch: &mut [f64],
+    cmvn_stats: &mut CmvnStats,
+    linear: &mut Linear,
+    quadratic: &mut Quadratic,
+    current: &mut Current,
+    scratch: &mut Scratch,
     silence_phones: &[i32],
     known: &mut [bool],
     is_silence: &mut [bool],
@@ -157,7 +157,6 @@ fn round_in(
 ) -> TriggerRound {
     let lengths = s.lengths;
     let z = lengths.rings;
-    let e = lengths.estimate;
     trigger::round(
         s,
         silence,
@@ -178,11 +177,11 @@ fn round_in(
         lend_f64(rows, z.rows),
         lend_usize(waiting_frames, z.waiting_frames),
         lend_f32(waiting_weights, z.waiting_weights),
-        lend_f64(cmvn_stats, e.cmvn_stats),
-        lend_f64(linear, e.linear),
-        lend_f64(quadratic, e.quadratic),
-        lend_f64(current, e.current),
-        lend_f64(scratch, e.scratch),
+        cmvn_stats,
+        linear,
+        quadratic,
+        current,
+        scratch,
         front_i32(silence_phones, known_phones),
         lend_bool(known, silence.table),
         lend_bool(is_silence, silence.table),
