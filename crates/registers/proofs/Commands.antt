@@ -29,13 +29,13 @@ use Rattle.registers.proofs.Room.{told-number}
 abbrev long : List ℕ → Bool
 long b = not (eqb (length b) 16)
 
-pub block-long : (b : List ℕ) → (length b ≡ 16 → ⊥) → 10 ≡ blockRefusal b
-unfolding blockRefusal
-block-long b h = first-is 0 ((long b, 10) ∷ []) (ap not (ne-eqb _ _ h))
-
 pub block-whole : (b : List ℕ) → length b ≡ 16 → 0 ≡ blockRefusal b
 unfolding blockRefusal
 block-whole b h = first-none ((long b, 10) ∷ []) (ap not (eq-eqb _ _ h), tt)
+
+pub block-long : (b : List ℕ) → (length b ≡ 16 → ⊥) → 10 ≡ blockRefusal b
+unfolding blockRefusal
+block-long b h = first-is 0 ((long b, 10) ∷ []) (ap not (ne-eqb _ _ h))
 
 -- ---- the command
 
