@@ -10,12 +10,12 @@ use lib.Ieee.{Float, neg}
 use borrow.Author.Tests.{eqb-true, eqb-false, lt-ltb, le-ltb}
 use Rattle.loops.specs.Loop.{Out, on, off, leave, final}
 use Rattle.loops.specs.Lists.{if_then_else_, build}
-use Rattle.loops.proofs.Leave.{leave-none, leave-step, leave-end, leave-left, goes-on, is-last}
+use Rattle.loops.proofs.Leave.{leave-none, leave-step, leave-end, leave-left}
 use Rattle.loops.proofs.Choose.{by-test, choose-true, choose-false}
 use Rattle.floats.specs.Operators.{_+₆₄_, _-₆₄_, _*₆₄_, _/₆₄_, at}
 use Rattle.definition.specs.Solve.{dot, spMatVec, factor, solvedOr, Cgd, begun, residual, residualLast, residualWorse, turn, linearCgd}
 use Rattle.linear.specs.declared.CgdState.{CgdState}
-use Rattle.linear.specs.Steps.{started, stepped, recomputed, isFar, isLast, isWorse, cgdOf, ended}
+use Rattle.linear.specs.Steps.{started, stepped, recomputed, isFar, isLast, isWorse, cgdOf, turnEnd}
 
 -- ---- whether a turn is left, of at most n and at most m
 
@@ -67,11 +67,6 @@ pub counted : (n : ℕ) (s : CgdState) (r : List Float) {v : Float} {s₁ t : Cg
 counted n s r {s₁ = s₁} e h = ap (λ (t : CgdState). t .k) h ∙ renewed-k (isFar s₁) s₁ (dot n r r) ∙ ap (λ (t : CgdState). t .k) e
 
 module _ (a : List Float) (n : ℕ) (b x r p : List Float) (s : CgdState) where
-  -- its end, with the residual R and the scalars T
-  abbrev turnEnd : List Float → List Float → CgdState → Out Cgd
-  turnEnd x R T =
-      if isLast T then off (cgdOf x R p T) else on (cgdOf x R (build n (λ i. T .«r_cur» /₆₄ s .«r_cur» *₆₄ at p i -₆₄ at R i)) T)
-
   -- from the step along p on: the same as the definition has it, by whether the residual is recomputed
   abbrev turnFar : Bool → List Float → List Float → List Float → Out Cgd
   turnFar far x moved anew =
@@ -89,7 +84,7 @@ module _ (a : List Float) (n : ℕ) (b x r p : List Float) (s : CgdState) where
   turnAlong alpha q = turnMoved (build n (λ i. at x i +₆₄ alpha *₆₄ at p i)) (build n (λ i. at r i +₆₄ alpha *₆₄ at q i))
 
   end-is : (far : Bool) (x moved anew : List Float)
-      → (let R = if far then anew else moved in turnEnd x R (if far then recomputed (stepped s (dot n moved moved)) (dot n R R) else stepped s (dot n moved moved))) ≡ turnFar far x moved anew
+      → (let R = if far then anew else moved in turnEnd n p s x R (if far then recomputed (stepped s (dot n moved moved)) (dot n R R) else stepped s (dot n moved moved))) ≡ turnFar far x moved anew
   end-is true x moved anew = refl
   end-is false x moved anew = refl
 
@@ -102,11 +97,11 @@ module _ (a : List Float) (n : ℕ) (b x r p : List Float) (s : CgdState) where
       (e4 : x′ ≡ build n (λ i. at x i +₆₄ neg d₁ /₆₄ d₂ *₆₄ at p i)) (e5 : r₁ ≡ build n (λ i. at r i +₆₄ neg d₁ /₆₄ d₂ *₆₄ at q i))
       (e6 : v ≡ dot n r₁ r₁) (e7 : s₁ ≡ stepped s v)
       (e8 : R ≡ (if isFar s₁ then residual a n b x′ else r₁)) (e9 : T ≡ (if isFar s₁ then recomputed s₁ (dot n R R) else s₁)) where
-    turn-is : turnEnd x′ R T ≡ turn a n b (cgdOf x r p s)
+    pub turn-is : turnEnd n p s x′ R T ≡ turn a n b (cgdOf x r p s)
     turn-is =
-        ap (turnEnd x′ R) e9
-        ∙ ap (λ (R : List Float). turnEnd x′ R (if isFar s₁ then recomputed s₁ (dot n R R) else s₁)) e8
-        ∙ ap (λ (s₁ : CgdState). let R = if isFar s₁ then residual a n b x′ else r₁ in turnEnd x′ R (if isFar s₁ then recomputed s₁ (dot n R R) else s₁)) (e7 ∙ ap (stepped s) e6)
+        ap (turnEnd n p s x′ R) e9
+        ∙ ap (λ (R : List Float). turnEnd n p s x′ R (if isFar s₁ then recomputed s₁ (dot n R R) else s₁)) e8
+        ∙ ap (λ (s₁ : CgdState). let R = if isFar s₁ then residual a n b x′ else r₁ in turnEnd n p s x′ R (if isFar s₁ then recomputed s₁ (dot n R R) else s₁)) (e7 ∙ ap (stepped s) e6)
         ∙ end-is (isFar (stepped s (dot n r₁ r₁))) x′ r₁ (residual a n b x′)
         ∙ ap (λ (x : List Float). turnMoved x r₁) e4
         ∙ ap (turnMoved (build n (λ i. at x i +₆₄ neg d₁ /₆₄ d₂ *₆₄ at p i))) e5
@@ -114,15 +109,6 @@ module _ (a : List Float) (n : ℕ) (b x r p : List Float) (s : CgdState) where
         ∙ ap (λ (d : Float). turnAlong (neg (dot n p r) /₆₄ d) q) e3
         ∙ ap (λ (q : List Float). turnAlong (neg (dot n p r) /₆₄ dot n p q) q) e1
         ∙ along-is
-
-    pub turn-last : {t : Bool} → t ≡ isLast T → t ≡ true → ended T (cgdOf x′ R p T) ≡ turn a n b (cgdOf x r p s)
-    turn-last h l = let f : isLast T ≡ true = sym h ∙ l in sym (is-last (isLast T) _ f) ∙ choose-true _ f refl ∙ turn-is
-
-    pub turn-on : {t : Bool} {p′ : List Float} → t ≡ isLast T → t ≡ false → p′ ≡ build n (λ i. T .«r_cur» /₆₄ s .«r_cur» *₆₄ at p i -₆₄ at R i)
-        → ended T (cgdOf x′ R p′ T) ≡ turn a n b (cgdOf x r p s)
-    turn-on h l e =
-        let f : isLast T ≡ false = sym h ∙ l in
-        sym (goes-on (isLast T) _ f) ∙ choose-false _ f (ap (λ (p : List Float). on (cgdOf x′ R p T)) e) ∙ turn-is
 
 -- ---- the turns, m at most
 
@@ -137,12 +123,13 @@ module _ (a : List Float) (n : ℕ) (b : List Float) where
     pub turns-end : (m : ℕ) → t .k ≤ m → m ≤ t .k → cgdOf x r p t ≡ final (turnsFrom m c)
     turns-end m l g = ap final (leave-end _ c (t .k) m l g e)
 
-    module _ {x′ r′ p′ : List Float} (t′ : CgdState) (h : ended t′ (cgdOf x′ r′ p′ t′) ≡ turn a n b (cgdOf x r p t)) {l : Bool} (f : l ≡ isLast t′) where
-      pub next-turn : t′ .k ≡ t .k + 1 → l ≡ false → on (cgdOf x′ r′ p′ t′) ≡ turnsFrom (t′ .k) c
-      next-turn g q = leave-step _ c (t .k) e (goes-on (isLast t′) _ (sym f ∙ q) ∙ h) ∙ ap (λ (k : ℕ). turnsFrom k c) (sym g)
+    module _ {x′ r′ : List Float} (t′ : CgdState) (h : turnEnd n p t x′ r′ t′ ≡ turn a n b (cgdOf x r p t)) {l : Bool} (f : l ≡ isLast t′) where
+      pub next-turn : {p′ : List Float} → t′ .k ≡ t .k + 1 → l ≡ false → p′ ≡ build n (λ i. t′ .«r_cur» /₆₄ t .«r_cur» *₆₄ at p i -₆₄ at r′ i) → on (cgdOf x′ r′ p′ t′) ≡ turnsFrom (t′ .k) c
+      next-turn g q d =
+          leave-step _ c (t .k) e (choose-false _ (sym f ∙ q) (ap (λ (p : List Float). on (cgdOf x′ r′ p t′)) d) ∙ h) ∙ ap (λ (k : ℕ). turnsFrom k c) (sym g)
 
-      pub last-turn : (m : ℕ) → t .k < m → l ≡ true → cgdOf x′ r′ p′ t′ ≡ final (turnsFrom m c)
-      last-turn m g q = ap final (leave-left _ c (t .k) m g e (is-last (isLast t′) _ (sym f ∙ q) ∙ h))
+      pub last-turn : (m : ℕ) → t .k < m → l ≡ true → cgdOf x′ r′ p t′ ≡ final (turnsFrom m c)
+      last-turn m g q = ap final (leave-left _ c (t .k) m g e (choose-true _ (sym f ∙ q) refl ∙ h))
 
 -- ---- the end
 

@@ -19,7 +19,7 @@ ghost use Rattle.floats.specs.Operators.{_-₆₄_, _*₆₄_, at};
 ghost use Rattle.definition.specs.Kaldi.{triangle};
 ghost use Rattle.definition.specs.Solve.{dot as dotOf, factor as factorOf, forward as forwardOf, backward as backwardOf, solvedOr, begun, residual, turn, linearCgd};
 ghost use Rattle.packed_matrix.specs.Steps.{squareOf};
-ghost use Rattle.linear.specs.Steps.{started, stepped as steppedOf, recomputed as recomputedOf, isFar, isLast, isWorse, cgdOf, ended, isOn};
+ghost use Rattle.linear.specs.Steps.{started, stepped as steppedOf, recomputed as recomputedOf, isFar, isLast, isWorse, cgdOf, turnEnd, isOn};
 
 // The lower factor L of A = L Lᵗ, by rows of n, or false at the first pivot that is at most 0.
 fn factor(a: &[f64], n: usize, l: &mut [f64]) -> bool
@@ -242,34 +242,29 @@ fn recompute(
     s
 }
 
-// A turn: along p, then the next direction.
+// A turn along p, up to the residual and its scalars.
 fn cgd_turn(
     square: &[f64],
     n: usize,
     b: &[f64],
     x: &mut [f64],
     r: &mut [f64],
-    p: &mut [f64],
+    p: &[f64],
     ap: &mut [f64],
     s: CgdState,
 ) -> CgdState
     requires { ⌜ (s .k < 200) × (n * n ≤ length (now square)) × (n ≤ length (now b)) × (length (now x) ≡ n) × (length (now r) ≡ n) × (length (now p) ≡ n) × (length (now ap) ≡ n) ⌝ }
-    ensures { λ t. ⌜ ((a : List Float) → now (square .entry) ≡ squareOf n a → ended t (cgdOf (now (x .exit)) (now (r .exit)) (now (p .exit)) t) ≡ turn a n (now (b .entry)) (cgdOf (now (x .entry)) (now (r .entry)) (now (p .entry)) s)) × (t .k ≡ s .k + 1) ⌝ }
+    ensures { λ t. ⌜ ((a : List Float) → now (square .entry) ≡ squareOf n a → turnEnd n (now (p .entry)) s (now (x .exit)) (now (r .exit)) t ≡ turn a n (now (b .entry)) (cgdOf (now (x .entry)) (now (r .entry)) (now (p .entry)) s)) × (t .k ≡ s .k + 1) ⌝ }
 {
     weighted_rows(square, n, n, p, ap);
     let alpha = -dot(p, r, n) / dot(p, ap, n);
     add_scaled(alpha, p, x);
     add_scaled(alpha, ap, r);
     let moved = s.stepped(dot(r, r, n));
-    let t = recompute(square, n, b, x, r, ap, moved);
-    if t.is_last() {
-        return t;
-    }
-    turned(t.r_cur / s.r_cur, r, n, p);
-    t
+    recompute(square, n, b, x, r, ap, moved)
 }
 
-// At most n + 5 turns and at most max_iters.
+// At most n + 5 turns and at most max_iters, each but the last with the next direction.
 fn cgd_turns(
     square: &[f64],
     n: usize,
@@ -287,10 +282,12 @@ fn cgd_turns(
 {
     let mut t = s;
     while t.goes_on(n, max_iters) {
-        t = cgd_turn(square, n, b, x, r, p, ap, t);
+        let before = t;
+        t = cgd_turn(square, n, b, x, r, p, ap, before);
         if t.is_last() {
             break;
         }
+        turned(t.r_cur / before.r_cur, r, n, p);
     }
     t
 }

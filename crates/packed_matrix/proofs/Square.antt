@@ -10,7 +10,7 @@ use lib.Ieee.{Float, nan, binary64}
 use Rattle.loops.specs.Loop.{iter}
 use Rattle.loops.specs.Lists.{build, flat, over}
 use Rattle.loops.specs.Steps.{fill}
-use Rattle.loops.proofs.Loop.{iter-next, iter-ext}
+use Rattle.loops.proofs.Loop.{iter-none, iter-next, iter-ext}
 use Rattle.loops.proofs.Build.{length-build, at-build, build-ext, build-same}
 use Rattle.loops.proofs.Fill.{over-whole}
 use Rattle.loops.proofs.Flat.{flat-add, length-cells}
@@ -60,6 +60,13 @@ module _ (s : ℕ) (table x : List Float) where
   more k c {v = v} q p e h =
       ap (λ (t : Float). v +₆₄ t *₆₄ at x k) (ap (λ (r : List Float). at r c) e ∙ at-part nan (k * s) s table c p)
       ∙ iter-next _ zero₆₄ k h ∙ ap (λ (m : ℕ). sumOf m c) (sym q)
+
+  -- four rows from the start on
+  pub four-first : (y : List Float) {r0 r1 r2 r3 z : List Float} → length y ≡ s → r0 ≡ tableRow s table 0 → r1 ≡ tableRow s table 1 → r2 ≡ tableRow s table 2 → r3 ≡ tableRow s table 3
+      → z ≡ fill (length y) (λ c. zero₆₄ +₆₄ at r0 c *₆₄ at x 0 +₆₄ at r1 c *₆₄ at x 1 +₆₄ at r2 c *₆₄ at x 2 +₆₄ at r3 c *₆₄ at x 3) y → z ≡ build s (sumOf 4)
+  four-first y l h0 h1 h2 h3 f =
+      whole _ s y l f
+      ∙ build-ext s _ _ (λ c p. more 3 c (omega arith) p h3 (more 2 c (omega arith) p h2 (more 1 c (omega arith) p h1 (more 0 c (omega arith) p h0 (iter-none _ zero₆₄)))))
 
   module _ (k : ℕ) {y : List Float} (e : y ≡ build s (sumOf k)) where
     pub length-sums : length y ≡ s

@@ -74,6 +74,26 @@ fn add_four(
     }
 }
 
+// The same, from 0.0 on.
+fn set_four(
+    r0: &[f64],
+    r1: &[f64],
+    r2: &[f64],
+    r3: &[f64],
+    v0: f64,
+    v1: f64,
+    v2: f64,
+    v3: f64,
+    out: &mut [f64],
+)
+    requires { ⌜ (length (now r0) ≡ length (now out)) × (length (now r1) ≡ length (now out)) × (length (now r2) ≡ length (now out)) × (length (now r3) ≡ length (now out)) ⌝ }
+    ensures { λ _. ⌜ now (out .exit) ≡ fill (length (now (out .entry))) (λ c. zero₆₄ +₆₄ at (now (r0 .entry)) c *₆₄ v0 +₆₄ at (now (r1 .entry)) c *₆₄ v1 +₆₄ at (now (r2 .entry)) c *₆₄ v2 +₆₄ at (now (r3 .entry)) c *₆₄ v3) (now (out .entry)) ⌝ }
+{
+    for c in 0..out.len() {
+        out[c] = 0.0 + r0[c] * v0 + r1[c] * v1 + r2[c] * v2 + r3[c] * v3;
+    }
+}
+
 // Row k of a table, s wide.
 fn row_at(table: &[f64], s: usize, k: usize) -> &[f64]
     requires { ⌜ k * s + s ≤ length (now table) ⌝ }
@@ -84,14 +104,30 @@ fn row_at(table: &[f64], s: usize, k: usize) -> &[f64]
     &table[start..end]
 }
 
+// The sums over the first four of d rows, or, where there are fewer, over none; and over how many.
+fn begin_sums(rows: &[f64], d: usize, s: usize, x: &[f64], out: &mut [f64]) -> usize
+    requires { ⌜ (d * s ≤ length (now rows)) × (d ≤ length (now x)) × (length (now out) ≡ s) ⌝ }
+    ensures { λ r. ⌜ (r ≤ d) × (now (out .exit) ≡ build s (λ c. sum₆₄ zero₆₄ r (λ a. at (now (rows .entry)) (a * s + c) *₆₄ at (now (x .entry)) a))) ⌝ }
+{
+    if d < 4 {
+        clear(out, s);
+        return 0;
+    }
+    let r0 = row_at(rows, s, 0);
+    let r1 = row_at(rows, s, 1);
+    let r2 = row_at(rows, s, 2);
+    let r3 = row_at(rows, s, 3);
+    set_four(r0, r1, r2, r3, x[0], x[1], x[2], x[3], out);
+    4
+}
+
 // d rows of s, each times its element of x, added up, four in a pass over the sums: each sum is added in the order of the rows. Of a matrix that is
 // laid out square, and of a vector, that is their product.
 pub fn weighted_rows(rows: &[f64], d: usize, s: usize, x: &[f64], out: &mut [f64])
     requires { ⌜ (d * s ≤ length (now rows)) × (d ≤ length (now x)) × (length (now out) ≡ s) ⌝ }
     ensures { λ _. ⌜ now (out .exit) ≡ build s (λ c. sum₆₄ zero₆₄ d (λ a. at (now (rows .entry)) (a * s + c) *₆₄ at (now (x .entry)) a)) ⌝ }
 {
-    clear(out, s);
-    let mut k = 0;
+    let mut k = begin_sums(rows, d, s, x, out);
     while d - k >= 4 {
         let r0 = row_at(rows, s, k);
         let r1 = row_at(rows, s, k + 1);

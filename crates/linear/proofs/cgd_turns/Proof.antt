@@ -32,7 +32,10 @@ abbrev before-cgd-turn : tie.After-cgd-turn Inv-loop μ-loop → tie.Then1 Inv-l
 before-cgd-turn c = c .before .before .before .before .before
 
 abbrev before-is-last : tie.After-is-last Inv-loop μ-loop → tie.After-cgd-turn Inv-loop μ-loop
-before-is-last c = c .before .before .before .before .before .before .before .before .before
+before-is-last c = c .before .before .before .before .before .before .before
+
+abbrev before-turned : tie.After-turned Inv-loop μ-loop → tie.Else2 Inv-loop μ-loop
+before-turned c = c .before .before .before .before .before
 
 loop-holds : tie.Need-loop-holds Inv-loop μ-loop
 loop-holds c =
@@ -55,7 +58,7 @@ cgd-turn-requires c κs =
 
 loop-less : tie.Need-loop-less Inv-loop μ-loop
 loop-less c =
-    let at-cgd-turn = before-is-last (c .before) in
+    let at-cgd-turn = before-is-last (before-turned (c .before .before) .before) in
     let at-if1 = before-cgd-turn at-cgd-turn in
     let at-goes-on = at-if1 .before in
     let at-loop = at-goes-on .before in
@@ -63,9 +66,17 @@ loop-less c =
     let g : (at-loop .loop) .t .k < min (start .args .n + 5) (start .args .max-iters) = ltb-true _ _ (sym (at-goes-on .goes-on .ensures) ∙ (at-if1 .if1) .taken) in
     omega (arith, (at-cgd-turn .cgd-turn) .ensures .1)
 
+turned-requires : tie.Need-turned-requires Inv-loop μ-loop
+turned-requires c κs =
+    let at-cgd-turn = before-is-last (c .before .before .before .before .before) in
+    let i = (before-cgd-turn at-cgd-turn) .before .before .loop .inv in
+    (omega (arith, at-cgd-turn .cgd-turn .kept .1 .1 .1 .1 .0, i .2), i .3)
+
 loop-again : tie.Need-loop-again Inv-loop μ-loop
 loop-again c =
-    let at-cgd-turn = before-is-last (c .before) in
+    let at-turned = c .before .before in
+    let at-if2 = before-turned at-turned in
+    let at-cgd-turn = before-is-last (at-if2 .before) in
     let at-if1 = before-cgd-turn at-cgd-turn in
     let at-goes-on = at-if1 .before in
     let at-loop = at-goes-on .before in
@@ -74,7 +85,7 @@ loop-again c =
     let i = at-loop .loop .inv in
     let e = at-cgd-turn .cgd-turn .ensures in
     let k = at-cgd-turn .cgd-turn .kept .1 .1 .1 in
-    (omega (arith, e .1), k .0 ∙ i .1, k .1 .0 ∙ i .2, k .1 .1 .0 ∙ i .3, k .1 .1 .1 .0 ∙ i .4, λ a h. next-turn a _ _ _ _ (i .5 a h) _ (e .0 a h) (c .before .is-last .ensures) (e .1) (c .if2 .left))
+    (omega (arith, e .1), k .0 ∙ i .1, k .1 .0 ∙ i .2, at-turned .turned .kept .1 .1 .1 .0 ∙ i .3, k .1 .1 .1 .0 ∙ i .4, λ a h. next-turn a _ _ _ _ (i .5 a h) (at-cgd-turn .cgd-turn .result) (e .0 a h) (at-if2 .before .is-last .ensures) (e .1) (at-if2 .if2 .left) (at-turned .turned .ensures))
 
 returns : tie.Need-returns Inv-loop μ-loop
 returns c =
@@ -96,6 +107,6 @@ returns-2 c =
 pub cgd-turns-spec : {M : Type 1} → statement M
 cgd-turns-spec =
     tie.close
-    (tie.spec Inv-loop μ-loop loop-holds goes-on-requires cgd-turn-requires (λ c κs. search needs) loop-less loop-again (λ c. search needs)
+    (tie.spec Inv-loop μ-loop loop-holds goes-on-requires cgd-turn-requires (λ c κs. search needs) turned-requires loop-less loop-again (λ c. search needs)
     (λ c. search needs) (λ c. search needs) (λ c. search needs) returns (λ c. search needs) (λ c. search needs) (λ c. search needs) (λ c. search needs)
     returns-2)

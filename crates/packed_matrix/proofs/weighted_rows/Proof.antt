@@ -1,4 +1,4 @@
--- `packed_matrix::weighted_rows` meets its contract. The invariant of both loops: each place holds the sum over the first k rows (`sums-none`, `four-turn`,
+-- `packed_matrix::weighted_rows` meets its contract. The invariant of both loops: each place holds the sum over the first k rows (`four-turn`,
 -- `one-turn` in Square.antt); a row's end lies in the table (`row-in` in loops/proofs/Cells.antt).
 use borrow.Author.Needs.{needs}
 use mathlib.Core.Path.{_≡_, sym, _∙_}
@@ -9,7 +9,7 @@ use lib.ListN.{length}
 use Rattle.loops.specs.Lists.{build}
 use Rattle.loops.proofs.Loop.{at-end}
 use Rattle.loops.proofs.Cells.{row-in}
-use Rattle.packed_matrix.proofs.Square.{sumOf, sums-none, length-sums, one-turn, four-turn}
+use Rattle.packed_matrix.proofs.Square.{sumOf, length-sums, one-turn, four-turn}
 use Rattle.packed_matrix.proofs.weighted_rows.Statement.{statement}
 use Rattle.packed_matrix.proofs.weighted_rows.Tie as tie
 
@@ -44,8 +44,8 @@ before-add-scaled c = c .before .before
 loop-holds : tie.Need-loop-holds Inv-loop μ-loop Inv-loop2 μ-loop2
 loop-holds c =
     let start = c .before .before .before .before .before .before .before in
-    let e = sums-none (start .args .s) (start .args .rows .now) (start .args .x .now) (c .before .before .clear .ensures) in
-    (omega arith, length-sums (start .args .s) (start .args .rows .now) (start .args .x .now) 0 e, e)
+    let e = c .before .before .begin-sums .ensures in
+    (e .0, length-sums (start .args .s) (start .args .rows .now) (start .args .x .now) (c .before .before .begin-sums .result) (e .1), e .1)
 
 row-at-requires : tie.Need-row-at-requires Inv-loop μ-loop Inv-loop2 μ-loop2
 row-at-requires c κs =
@@ -78,6 +78,13 @@ add-four-requires c κs =
     let at-row-at = at-row-at2 .before in
     let e = sym (at-row-at .before .before .loop .inv .1) in
     (at-row-at .row-at .ensures .1 ∙ e, at-row-at2 .row-at2 .ensures .1 ∙ e, at-row-at3 .row-at3 .ensures .1 ∙ e, at-row-at4 .row-at4 .ensures .1 ∙ e)
+
+add-k : tie.Need-add-k Inv-loop μ-loop Inv-loop2 μ-loop2
+add-k c =
+    let at-row-at4 = before-add-four (c .before .before .before) in
+    let at-loop-test = at-row-at4 .before .before .before .before in
+    let start = before-loop (at-loop-test .before) in
+    omega (arith, at-loop-test .loop-test .taken, at-loop-test .before .loop .inv .0, start .pre .1, start .fits)
 
 loop-again : tie.Need-loop-again Inv-loop μ-loop Inv-loop2 μ-loop2
 loop-again c =
@@ -133,5 +140,5 @@ weighted-rows-spec =
     (tie.spec Inv-loop μ-loop Inv-loop2 μ-loop2 (λ c κs. search needs) loop-holds (λ c. search needs) row-at-requires (λ c. search needs) row-at-requires-2
     (λ c. search needs) row-at-requires-3 (λ c. search needs) row-at-requires-4 (λ c. search needs) (λ c. search needs) (λ c. search needs) (λ c. search needs)
     (λ c. search needs) (λ c. search needs) (λ c. search needs) (λ c. search needs) (λ c. search needs) (λ c. search needs) (λ c. search needs) add-four-requires
-    (λ c. search needs) (λ c. search needs) loop-again loop2-holds row-at-requires-5 (λ c. search needs) (λ c. search needs) add-scaled-requires
+    add-k (λ c. search needs) loop-again loop2-holds row-at-requires-5 (λ c. search needs) (λ c. search needs) add-scaled-requires
     (λ c. search needs) (λ c. search needs) loop2-again same-length returns)
