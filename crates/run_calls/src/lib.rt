@@ -113,7 +113,7 @@ fn call_at(kinds: &[u8], numbers: &[usize], i: usize) -> CodedCall
 }
 
 // A call of a list, played. The vector of a fetch goes to the part of `outs` that its numbers name.
-fn turn(
+pub fn turn(
     k: CodedCall,
     s: IvectorStream,
     lists: &[usize],
