@@ -1,0 +1,2 @@
+-- Bytes written one after the other.
+pub mod Written
