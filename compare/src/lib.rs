@@ -3,6 +3,7 @@ pub mod day;
 pub mod fns;
 pub mod gen;
 pub mod lists;
+pub mod loads;
 pub mod loud;
 pub mod machine;
 pub mod memory;
