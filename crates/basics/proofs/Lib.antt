@@ -1,2 +1,3 @@
--- Laws of rows after the functions here: for their callers.
+-- Laws of rows after the functions here, and of a ring's places as code comes to them: for their callers.
 pub mod Rows
+pub mod Places

@@ -1,8 +1,9 @@
 // Small functions that several crates use: differences and extremes of whole numbers, where a ring's row begins, rows cleared and added.
 ghost use mathlib.Core.Path.{_≡_};
-ghost use Prim.Native.Nat.{_-_, _<_, _≤_, min, max};
+ghost use Prim.Native.Nat.{_+_, _-_, _<_, _≤_, min, max};
+ghost use lib.Dec.{leb};
 ghost use lib.ListN.{length, replicate};
-ghost use Rattle.loops.specs.Lists.{over};
+ghost use Rattle.loops.specs.Lists.{if_then_else_, over};
 ghost use Rattle.loops.specs.Ring.{rowsIn, place};
 ghost use Rattle.loops.specs.Steps.{fill};
 ghost use Rattle.floats.specs.Operators.{_+₆₄_, _-₆₄_, _*₆₄_, zero₆₄, at};
@@ -32,6 +33,30 @@ pub fn row_place(numbers: usize, dim: usize, t: usize) -> usize
     ensures { λ r. ⌜ r ≡ place numbers dim t ⌝ }
 {
     t % (numbers / dim) * dim
+}
+
+// The same for a row of at most 64 numbers, with no division until a row is written over: until then it is t rows on.
+pub fn ring_place(numbers: usize, dim: usize, t: usize) -> usize
+    requires { ⌜ (0 < dim) × (dim ≤ 64) × (0 < rowsIn numbers dim) × (t ≤ 1000000000) ⌝ }
+    ensures { λ r. ⌜ r ≡ place numbers dim t ⌝ }
+{
+    let here = t * dim;
+    if here + dim <= numbers {
+        return here;
+    }
+    row_place(numbers, dim, t)
+}
+
+// Where the row after the one that begins `here` does: a row further, or at the ring's beginning where no whole row is left.
+pub fn row_after(numbers: usize, dim: usize, here: usize) -> usize
+    requires { ⌜ (dim ≤ 64) × (here ≤ numbers) ⌝ }
+    ensures { λ r. ⌜ r ≡ (if leb (dim + dim) (numbers - here) then here + dim else 0) ⌝ }
+{
+    if dim + dim <= numbers - here {
+        here + dim
+    } else {
+        0
+    }
 }
 
 // Zeros in all n places.

@@ -15,8 +15,8 @@ use Rattle.definition.specs.declared.FrameWeight.{FrameWeight}
 use Rattle.definition.specs.declared.FrameWeight.the-variants.{Skipped, Weighed}
 use Rattle.definition.specs.Posteriors.{Post, selectPosteriors, nanCount, posteriors, nansOf}
 use Rattle.definition.specs.Statistics.{Entry, seen}
-use Rattle.diag_gmm.specs.Steps.{held}
-use Rattle.diag_gmm.proofs.Rooms.{held-none, held-build}
+use Rattle.leading.specs.Steps.{held}
+use Rattle.leading.proofs.Rooms.{held-none, held-build}
 use Rattle.batch_sums.specs.Batch.{entryOf, scaledEntry, Slots, Sums}
 
 -- ---- for callers

@@ -12,7 +12,7 @@ use borrow.Author.Tests.{eqb-true, eqb-false, ltb-true, ltb-false, lt-ltb, le-lt
 use Rattle.loops.specs.Lists.{if_then_else_}
 use Rattle.loops.proofs.Choose.{by-test}
 use Rattle.loops.proofs.Cells.{row-in}
-use Rattle.diag_gmm.specs.Steps.{Fair}
+use Rattle.posteriors.specs.Steps.{Fair}
 use Rattle.batch_sums.specs.Batch.{Slots}
 
 -- f with its value at j in the place of the value n

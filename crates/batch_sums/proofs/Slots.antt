@@ -19,7 +19,7 @@ use Rattle.loops.proofs.Ring.{row-apart}
 use Rattle.loops.proofs.Tests.{at-some, at-none}
 use Rattle.floats.specs.Operators.{_+₆₄_, _*₆₄_, zero₆₄, at}
 use Rattle.definition.specs.Statistics.{Entry, seen, sumFor}
-use Rattle.diag_gmm.specs.Steps.{Fair}
+use Rattle.posteriors.specs.Steps.{Fair}
 use Rattle.batch_sums.specs.Batch.{entryOf, weight, feature, Slots, Sums}
 use Rattle.batch_sums.proofs.Entries.{seen-again, seen-first, sum-own, sum-other, sum-unseen}
 use Rattle.batch_sums.proofs.Places.{slots-apart, slot-tot, slot-sum}

@@ -10,7 +10,7 @@ use Rattle.definition.specs.declared.FrameWeight.{FrameWeight}
 use Rattle.definition.specs.declared.FrameWeight.the-variants.{Weighed}
 use Rattle.definition.specs.Posteriors.{Post}
 use Rattle.definition.specs.Statistics.{Entry, seen, sumFor}
-use Rattle.diag_gmm.specs.Steps.{Fair}
+use Rattle.posteriors.specs.Steps.{Fair}
 
 -- a posterior of a frame whose raw feature row is given
 abbrev pub entryOf : List Float → Post → Entry

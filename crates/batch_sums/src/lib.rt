@@ -12,7 +12,7 @@ ghost use Rattle.floats.specs.Operators.{_+₆₄_, _*₆₄_, zero₆₄, at};
 ghost use Rattle.floats.specs.Ln.{lnNarrow};
 ghost use Rattle.definition.specs.Posteriors.{loglikes, selectPosteriors, nanCount, posteriors, nansOf};
 ghost use Rattle.definition.specs.Statistics.{Entry};
-ghost use Rattle.diag_gmm.specs.Steps.{held};
+ghost use Rattle.leading.specs.Steps.{held};
 ghost use Rattle.batch_sums.specs.Batch.{entryOf, scaledEntry, Slots, Sums, Logged};
 
 // Where Gaussian g stands among the m seen; m where it was not seen.
@@ -164,7 +164,7 @@ fn acc_weighed(
         ll,
         b,
     );
-    let selection = diag_gmm::select_by(ll, num_gselect, floor, ln, chosen, posts);
+    let selection = posteriors::select_by(ll, num_gselect, floor, ln, chosen, posts);
     let r = acc_posteriors(
         selection.count,
         scale,
@@ -185,7 +185,7 @@ fn acc_weighed(
 }
 
 // A frame of the batch goes into the running sums; m: how many Gaussians were seen. A skipped one adds nothing, and its likelihoods are not asked
-// for; ln: the logarithm of its floor. With few Gaussians, clearing rooms for as many as there can be would cost more than the work: they have rooms for 64.
+// for; ln: the logarithm of its floor. `ll` and `b` are scratch, a number for each Gaussian: they are lent, so that a batch clears them once.
 pub fn acc_frame(
     o: IvectorOptions,
     weight: FrameWeight,
@@ -197,13 +197,15 @@ pub fn acc_frame(
     inv_vars_t: &[f32],
     normalized: &[f32],
     raw: &[f32],
+    ll: &mut [f32],
+    b: &mut [f32],
     m: usize,
     seen: &mut [usize],
     tot: &mut [f64],
     sum: &mut [f64],
 ) -> Counts
     requires { ⌜ («num_gauss» * d ≤ length (now «means_invvars_t»)) × («num_gauss» * d ≤ length (now «inv_vars_t»)) × («num_gauss» ≤ length (now gconsts)) × (d ≤ length (now normalized)) × (d ≤ length (now raw)) ⌝ }
-    requires { ⌜ (o .«num_gselect» ≤ 32) × («num_gauss» ≤ 1024) × Slots «num_gauss» d m (now seen) (now tot) (now sum) × Logged weight ln ⌝ }
+    requires { ⌜ (length (now ll) ≡ «num_gauss») × (length (now b) ≡ «num_gauss») × (o .«num_gselect» ≤ 32) × Slots «num_gauss» d m (now seen) (now tot) (now sum) × Logged weight ln ⌝ }
     ensures { λ r. ⌜ Slots «num_gauss» d (r .seen) (now (seen .exit)) (now (tot .exit)) (now (sum .exit))
         × ((es : List Entry) → Sums d es m (now (seen .entry)) (now (tot .entry)) (now (sum .entry))
         → Sums d (es ++ map (entryOf (now (raw .entry)))
@@ -215,33 +217,6 @@ pub fn acc_frame(
         FrameWeight::Weighed(floor, scale) => {
             let mut chosen = [0usize; 32];
             let mut posts = [0.0f32; 32];
-            if num_gauss <= 64 {
-                let mut ll = [0.0f32; 64];
-                let mut b = [0.0f32; 64];
-                return acc_weighed(
-                    o.num_gselect,
-                    floor,
-                    ln,
-                    scale,
-                    num_gauss,
-                    d,
-                    gconsts,
-                    means_invvars_t,
-                    inv_vars_t,
-                    normalized,
-                    raw,
-                    &mut ll[..num_gauss],
-                    &mut b[..num_gauss],
-                    &mut chosen,
-                    &mut posts,
-                    m,
-                    seen,
-                    tot,
-                    sum,
-                );
-            }
-            let mut ll = [0.0f32; 1024];
-            let mut b = [0.0f32; 1024];
             acc_weighed(
                 o.num_gselect,
                 floor,
@@ -254,8 +229,8 @@ pub fn acc_frame(
                 inv_vars_t,
                 normalized,
                 raw,
-                &mut ll[..num_gauss],
-                &mut b[..num_gauss],
+                ll,
+                b,
                 &mut chosen,
                 &mut posts,
                 m,

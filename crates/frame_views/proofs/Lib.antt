@@ -1,4 +1,5 @@
 -- Laws of a stream's rooms.
 pub mod Rings
 pub mod Normalised
+pub mod LdaSums
 pub mod SplicedRows

@@ -1,27 +1,27 @@
--- Laws of the spliced row.
+-- Laws of the spliced row: what a fetch leaves and adds, the loop over its places with the LDA's sums so far (`lda-on` in LdaSums.antt), and the whole row.
 use mathlib.Core.Path.{_≡_, refl, sym, ap, _∙_}
 use mathlib.Core.Bool.{Bool, true, false}
 use mathlib.Core.List.{List}
 use Prim.Native.Nat.{ℕ, zero, suc, _+_, _-_, _*_, _≤_, min}
-use native.Mathlib.Nat.{zero-mul, suc-mul, mul-le-mul}
+use native.Mathlib.Nat.{zero-mul, suc-mul}
 use native.Mathlib.Omega.{arith}
-use lib.ListN.{length, take, length-append}
-use lib.Ieee.{Float, nan}
+use lib.ListN.{length, take, drop, length-append}
+use lib.Ieee.{Float}
 use Rattle.loops.specs.Loop.{iter}
-use Rattle.loops.specs.Lists.{if_then_else_, build, flat, over}
-use Rattle.loops.specs.Ring.{put}
+use Rattle.loops.specs.Lists.{if_then_else_, build, flat}
+use Rattle.loops.specs.Steps.{fill}
 use Rattle.loops.proofs.Loop.{at-end, iter-more}
 use Rattle.loops.proofs.Choose.{choose-true, choose-false}
-use Rattle.loops.proofs.Build.{length-build, take-build, build-list}
-use Rattle.loops.proofs.Fill.{over-none, over-put, over-whole}
+use Rattle.loops.proofs.Build.{length-build, take-build}
 use Rattle.loops.proofs.Flat.{flat-none, flat-snoc}
-use Rattle.floats.specs.Operators.{at}
+use Rattle.floats.specs.Operators.{_*₃₂_, at, sum₃₂}
 use Rattle.definition.specs.declared.IvectorOptions.{IvectorOptions}
 use Rattle.definition.specs.Options.{width}
-use Rattle.definition.specs.Views.{Frames, cmvnState, cmvnFrame, spliceAt, rawRow, normalisedRow}
+use Rattle.definition.specs.Views.{Frames, cmvnState, cmvnFrame, spliceAt, rawRow, normalisedRow, ldaFrame}
 use Rattle.program.specs.Rooms.{ringAt, ringFrames}
 use Rattle.frame_views.specs.Rows.{splicedRow}
 use Rattle.frame_views.specs.Steps.{fetched, viewed, splicedTo}
+use Rattle.frame_views.proofs.LdaSums.{lda-none, lda-on}
 
 -- ---- what a fetch leaves, and what it adds
 
@@ -30,14 +30,11 @@ unfolding viewed cmvnFrame
 length-viewed dim F true t state = length-build dim _
 length-viewed dim F false t state = length-build dim _
 
-whole-row : (dim : ℕ) (row : List Float) → length row ≡ dim → build dim (at row) ≡ row
-whole-row dim row e = rw (← e) (build-list nan row)
-
 pub viewed-on : (dim accepted t : ℕ) (fs rs state view : List Float) (normalized : Bool) {row : List Float} → (normalized ≡ true → view ≡ cmvnFrame dim (ringFrames dim accepted fs rs) t state)
-    → row ≡ (if normalized then take dim view else build dim (ringAt dim fs t)) → length row ≡ dim → build dim (at row) ≡ viewed dim (ringFrames dim accepted fs rs) normalized t state
+    → row ≡ (if normalized then take dim view else build dim (ringAt dim fs t)) → row ≡ viewed dim (ringFrames dim accepted fs rs) normalized t state
 unfolding viewed cmvnFrame
-viewed-on dim accepted t fs rs state view true f e l = whole-row dim _ l ∙ e ∙ ap (take dim) (f refl) ∙ take-build dim dim _ (omega arith)
-viewed-on dim accepted t fs rs state view false f e l = whole-row dim _ l ∙ e
+viewed-on dim accepted t fs rs state view true f e = e ∙ ap (take dim) (f refl) ∙ take-build dim dim _ (omega arith)
+viewed-on dim accepted t fs rs state view false f e = e
 
 module _ (o : IvectorOptions) (dim : ℕ) (global : List Float) (F : Frames) (t : ℕ) (s : List Float) {normalized : Bool} where
   pub fetched-true : {s′ : List Float} → normalized ≡ true → s′ ≡ cmvnState o dim global F t s → s′ ≡ fetched o dim global F normalized t s
@@ -62,9 +59,9 @@ module _ (o : IvectorOptions) (dim : ℕ) (global : List Float) (F : Frames) (no
   unfolding splicedTo iter
   spliced-none = refl
 
-  pub room-none : (room : List Float) → room ≡ over (Done 0 .1) room
+  pub lda-start : (d : ℕ) (table offset room : List Float) {y : List Float} → length room ≡ d → y ≡ fill d (at offset) room → y ≡ ldaFrame d table offset (Done 0 .1)
   unfolding splicedTo iter
-  room-none room = over-none room
+  lda-start d table offset room = lda-none d table offset room
 
   length-done : (n : ℕ) → length (Done n .1) ≡ n * dim
   unfolding splicedTo iter
@@ -76,15 +73,14 @@ module _ (o : IvectorOptions) (dim : ℕ) (global : List Float) (F : Frames) (no
     unfolding splicedTo
     spliced-turn = h ∙ rw (iter-more _ _ n, e, f)
 
-    pub room-turn : (room : List Float) {r r′ : List Float} → r ≡ over (Done n .1) room → r′ ≡ put (n * dim) (viewed dim F normalized u s′) r → r′ ≡ over (Done (n + 1) .1) room
+    -- the LDA's sums over the numbers so far go on with the frame's, by the rows of the table from `start` to `end`
+    pub lda-place : (d : ℕ) (table offset : List Float) {size start end : ℕ} {y z : List Float} → size ≡ dim * d → start ≡ n * size → end ≡ start + size
+        → y ≡ ldaFrame d table offset (Done n .1) → z ≡ fill (length y) (λ r. sum₃₂ (at y r) dim (λ c. at (take (end - start) (drop start table)) (c * length y + r) *₃₂ at (viewed dim F normalized u s′) c)) y
+        → z ≡ ldaFrame d table offset (Done (n + 1) .1)
     unfolding splicedTo
-    room-turn room g k = k ∙ rw (g, h, e, f, iter-more _ _ n) (over-put (Done n .1) _ room (n * dim) (length-done n))
-
-  pub spliced-end : (n m : ℕ) {s : List Float} → n ≤ m → m ≤ n → s ≡ Done n .0 → s ≡ Done m .0
-  spliced-end n m = at-end (λ k. Done k .0) n m
-
-  pub room-end : (n m : ℕ) (room : List Float) {r : List Float} → n ≤ m → m ≤ n → length room ≡ m * dim → r ≡ over (Done n .1) room → r ≡ Done m .1
-  room-end n m room p q l e = at-end (λ k. over (Done k .1) room) n m p q e ∙ over-whole (Done m .1) room (length-done m ∙ sym l)
+    lda-place d table offset p q r g k =
+        lda-on d table offset n dim (Done n .1) (viewed dim F normalized u s′) (length-done n) (length-viewed dim F normalized u s′) p q r g k
+        ∙ ap (ldaFrame d table offset) (rw (h, e, f, iter-more _ _ n))
 
 -- ---- the whole row
 
@@ -94,12 +90,19 @@ unfolding splicedTo fetched viewed iter
 raw-to o dim global F t zero state = ap (λ (r : List Float). (state, r)) (sym (flat-none _))
 raw-to o dim global F t (suc n) state = rw (raw-to o dim global F t n state) (ap (λ (r : List Float). (state, r)) (sym (flat-snoc n _)))
 
-pub spliced-row-on : (o : IvectorOptions) (dim : ℕ) (global : List Float) (F : Frames) (normalized : Bool) (t : ℕ) (state : List Float)
-    → splicedTo o dim global F normalized t (width o) state ≡ splicedRow o dim global F normalized t state
-unfolding splicedTo fetched viewed normalisedRow rawRow
-spliced-row-on o dim global F true t state = refl
-spliced-row-on o dim global F false t state = raw-to o dim global F t (width o) state
+module _ (o : IvectorOptions) (dim : ℕ) (global : List Float) (F : Frames) (t : ℕ) (state : List Float) where
+  row-on : (normalized : Bool) → splicedTo o dim global F normalized t (width o) state ≡ splicedRow o dim global F normalized t state
+  unfolding splicedTo fetched viewed normalisedRow rawRow
+  row-on true = refl
+  row-on false = raw-to o dim global F t (width o) state
 
--- its length: there is room for 17 frames of 64 numbers
-pub row-small : (left right dim : ℕ) → left ≤ 8 → right ≤ 8 → dim ≤ 64 → (left + 1 + right) * dim ≤ 1088
-row-small left right dim p q h = mul-le-mul {n₁ = left + 1 + right} {n₂ = 17} (omega arith) h
+  -- the loop's end: all places of the row
+  module _ (normalized : Bool) (n : ℕ) (p : n ≤ width o) (q : width o ≤ n) where
+    pub spliced-end : {s : List Float} → s ≡ splicedTo o dim global F normalized t n state .0 → s ≡ splicedRow o dim global F normalized t state .0
+    spliced-end e = at-end (λ k. splicedTo o dim global F normalized t k state .0) n (width o) p q e ∙ ap (λ (r : List Float × List Float). r .0) (row-on normalized)
+
+    pub lda-end : (d : ℕ) (table offset : List Float) {y : List Float} → y ≡ ldaFrame d table offset (splicedTo o dim global F normalized t n state .1)
+        → y ≡ ldaFrame d table offset (splicedRow o dim global F normalized t state .1)
+    lda-end d table offset e =
+        at-end (λ k. ldaFrame d table offset (splicedTo o dim global F normalized t k state .1)) n (width o) p q e
+        ∙ ap (λ (r : List Float × List Float). ldaFrame d table offset (r .1)) (row-on normalized)

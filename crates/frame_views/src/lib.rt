@@ -13,15 +13,15 @@ ghost use Prim.Native.Nat.{_+_, _-_, _*_, _<_, _≤_};
 ghost use lib.ListN.{length, take};
 ghost use lib.Ieee.{lt};
 ghost use Rattle.loops.specs.Lists.{if_then_else_, build};
-ghost use Rattle.loops.specs.Ring.{rowsIn, put};
+ghost use Rattle.loops.specs.Ring.{rowsIn};
 ghost use Rattle.loops.specs.Steps.{fill};
-ghost use Rattle.floats.specs.Operators.{_-₃₂_, _/₆₄_, at};
+ghost use Rattle.floats.specs.Operators.{_-₃₂_, _*₃₂_, _/₆₄_, at, sum₃₂};
 ghost use Rattle.floats.specs.Narrow.{narrowed};
 ghost use Rattle.definition.specs.Options.{width};
 ghost use Rattle.definition.specs.Views.{smoothed, windowed, cmvnState, cmvnFrame, spliceAt, ldaFrame};
 ghost use Rattle.program.specs.Rooms.{ringAt, ringFrames};
 ghost use Rattle.frame_views.specs.Rows.{Lent, splicedRow};
-ghost use Rattle.frame_views.specs.Steps.{fetched, viewed, splicedTo};
+ghost use Rattle.frame_views.specs.Steps.{fetched, viewed};
 
 // Frame t.
 fn frame(frames: &[f32], dim: usize, t: usize) -> &[f32]
@@ -135,16 +135,6 @@ fn spliced_row<'a>(
     frame(frames, dim, t)
 }
 
-// A row put into the spliced row from `start` on.
-fn put_row(row: &[f32], n: usize, start: usize, spliced: &mut [f32])
-    requires { ⌜ (length (now row) ≡ n) × (start + n ≤ length (now spliced)) ⌝ }
-    ensures { λ _. ⌜ now (spliced .exit) ≡ put start (build n (at (now (row .entry)))) (now (spliced .entry)) ⌝ }
-{
-    for i in 0..n {
-        spliced[start + i] = row[i];
-    }
-}
-
 // Frame t, if it is to be normalised: the CMVN state that its fetch leaves, and its view.
 fn fetch_frame(
     o: IvectorOptions,
@@ -168,25 +158,25 @@ fn fetch_frame(
     }
 }
 
-// Frame t, fetched, and put into the spliced row from `start` on.
-fn splice_one(
+// Frame t, fetched, and added to the LDA's sums. `part` is the rows of the LDA's table for this frame.
+fn add_frame(
     o: IvectorOptions,
     dim: usize,
     accepted: usize,
     t: usize,
     normalized: bool,
-    start: usize,
     global: &[f64],
     frames: &[f32],
     rows: &[f64],
+    part: &[f32],
     cmvn: &mut [f64],
     view: &mut [f32],
-    spliced: &mut [f32],
+    out: &mut [f32],
 )
     requires { ⌜ Lent dim accepted (now global) (now frames) (now rows) (now cmvn) ⌝ }
-    requires { ⌜ (t < accepted) × (length (now view) ≡ dim) × (start + dim ≤ length (now spliced)) ⌝ }
+    requires { ⌜ (t < accepted) × (length (now view) ≡ dim) × (dim * length (now out) ≤ length (now part)) ⌝ }
     ensures { λ _. ⌜ (now (cmvn .exit) ≡ fetched o dim (now (global .entry)) (ringFrames dim accepted (now (frames .entry)) (now (rows .entry))) normalized t (now (cmvn .entry)))
-        × (now (spliced .exit) ≡ put start (viewed dim (ringFrames dim accepted (now (frames .entry)) (now (rows .entry))) normalized t (now (cmvn .exit))) (now (spliced .entry))) ⌝ }
+        × (now (out .exit) ≡ fill (length (now (out .entry))) (λ r. sum₃₂ (at (now (out .entry)) r) dim (λ c. at (now (part .entry)) (c * length (now (out .entry)) + r) *₃₂ at (viewed dim (ringFrames dim accepted (now (frames .entry)) (now (rows .entry))) normalized t (now (cmvn .exit))) c)) (now (out .entry))) ⌝ }
 {
     fetch_frame(
         o,
@@ -201,7 +191,7 @@ fn splice_one(
         view,
     );
     let row = spliced_row(frames, view, normalized, dim, t);
-    put_row(row, dim, start, spliced);
+    table_sums::add_rows(part, row, false, dim, out);
 }
 
 // The frame at place n of the row spliced around t, the ends clamped to frames 0 and last.
@@ -210,45 +200,6 @@ fn splice_at(o: IvectorOptions, accepted: usize, t: usize, n: usize) -> usize
     ensures { λ r. ⌜ (r ≡ spliceAt o accepted t n) × (r < accepted) ⌝ }
 {
     smaller(less(t + n, o.left_context), accepted - 1)
-}
-
-// The row spliced around frame t; a repeated frame is fetched again.
-fn splice(
-    o: IvectorOptions,
-    dim: usize,
-    accepted: usize,
-    t: usize,
-    normalized: bool,
-    width: usize,
-    global: &[f64],
-    frames: &[f32],
-    rows: &[f64],
-    cmvn: &mut [f64],
-    view: &mut [f32],
-    spliced: &mut [f32],
-)
-    requires { ⌜ Lent dim accepted (now global) (now frames) (now rows) (now cmvn) ⌝ }
-    requires { ⌜ (t < accepted) × (width < 1000000000) × (length (now view) ≡ dim) × (length (now spliced) ≡ width * dim) ⌝ }
-    ensures { λ _. ⌜ (now (cmvn .exit) ≡ splicedTo o dim (now (global .entry)) (ringFrames dim accepted (now (frames .entry)) (now (rows .entry))) normalized t width (now (cmvn .entry)) .0)
-        × (now (spliced .exit) ≡ splicedTo o dim (now (global .entry)) (ringFrames dim accepted (now (frames .entry)) (now (rows .entry))) normalized t width (now (cmvn .entry)) .1) ⌝ }
-{
-    for n in 0..width {
-        let u = splice_at(o, accepted, t, n);
-        splice_one(
-            o,
-            dim,
-            accepted,
-            u,
-            normalized,
-            n * dim,
-            global,
-            frames,
-            rows,
-            cmvn,
-            view,
-            spliced,
-        );
-    }
 }
 
 // What the LDA starts from.
@@ -261,59 +212,8 @@ fn copy_offset(offset: &[f32], n: usize, out: &mut [f32])
     }
 }
 
-// The LDA of a spliced row, column by column.
-fn transform(lda_t: &[f32], lda_offset: &[f32], row: &[f32], d: usize, out: &mut [f32])
-    requires { ⌜ (length (now row) * d ≤ length (now «lda_t»)) × (d ≤ length (now «lda_offset»)) × (length (now out) ≡ d) ⌝ }
-    ensures { λ _. ⌜ now (out .exit) ≡ ldaFrame d (now («lda_t» .entry)) (now («lda_offset» .entry)) (now (row .entry)) ⌝ }
-{
-    copy_offset(lda_offset, d, out);
-    table_sums::add_rows(lda_t, row, false, row.len(), out);
-}
-
-// `lda_frame` in lent rooms for the view of a frame and for the spliced row.
-fn lda_frame_in(
-    o: IvectorOptions,
-    dim: usize,
-    d: usize,
-    accepted: usize,
-    t: usize,
-    normalized: bool,
-    width: usize,
-    global: &[f64],
-    frames: &[f32],
-    rows: &[f64],
-    lda_t: &[f32],
-    lda_offset: &[f32],
-    cmvn: &mut [f64],
-    view: &mut [f32],
-    spliced: &mut [f32],
-    out: &mut [f32],
-)
-    requires { ⌜ Lent dim accepted (now global) (now frames) (now rows) (now cmvn) ⌝ }
-    requires { ⌜ (t < accepted) × (width < 1000000000) × (length (now view) ≡ dim) × (length (now spliced) ≡ width * dim)
-        × (width * dim * d ≤ length (now «lda_t»)) × (d ≤ length (now «lda_offset»)) × (length (now out) ≡ d) ⌝ }
-    ensures { λ _. ⌜ (now (cmvn .exit) ≡ splicedTo o dim (now (global .entry)) (ringFrames dim accepted (now (frames .entry)) (now (rows .entry))) normalized t width (now (cmvn .entry)) .0)
-        × (now (out .exit) ≡ ldaFrame d (now («lda_t» .entry)) (now («lda_offset» .entry)) (splicedTo o dim (now (global .entry)) (ringFrames dim accepted (now (frames .entry)) (now (rows .entry))) normalized t width (now (cmvn .entry)) .1)) ⌝ }
-{
-    splice(
-        o,
-        dim,
-        accepted,
-        t,
-        normalized,
-        width,
-        global,
-        frames,
-        rows,
-        cmvn,
-        view,
-        spliced,
-    );
-    transform(lda_t, lda_offset, spliced, d, out);
-}
-
-// The spliced and LDA-transformed frame t, from raw frames or from normalised ones. Its rows are of 17 frames at most,
-// each of 64 numbers. For a short row, clearing the larger room would cost more than the work: it has room for 128.
+// The spliced and LDA-transformed frame t, from raw frames or from normalised ones. The spliced row is nowhere put together: at
+// each place of it, the frame's numbers are added where they lie. A repeated frame is fetched again.
 pub fn lda_frame(
     o: IvectorOptions,
     dim: usize,
@@ -336,47 +236,26 @@ pub fn lda_frame(
         × (now (out .exit) ≡ ldaFrame d (now («lda_t» .entry)) (now («lda_offset» .entry)) (splicedRow o dim (now (global .entry)) (ringFrames dim accepted (now (frames .entry)) (now (rows .entry))) normalized t (now (cmvn .entry)) .1)) ⌝ }
 {
     let width = o.left_context + 1 + o.right_context;
-    let n = width * dim;
+    let size = dim * d;
     let mut view = [0.0f32; 64];
-    if n <= 128 {
-        let mut spliced = [0.0f32; 128];
-        lda_frame_in(
+    copy_offset(lda_offset, d, out);
+    for n in 0..width {
+        let u = splice_at(o, accepted, t, n);
+        let start = n * size;
+        let end = start + size;
+        add_frame(
             o,
             dim,
-            d,
             accepted,
-            t,
+            u,
             normalized,
-            width,
             global,
             frames,
             rows,
-            lda_t,
-            lda_offset,
+            &lda_t[start..end],
             cmvn,
             &mut view[..dim],
-            &mut spliced[..n],
             out,
         );
-        return;
     }
-    let mut spliced = [0.0f32; 1088];
-    lda_frame_in(
-        o,
-        dim,
-        d,
-        accepted,
-        t,
-        normalized,
-        width,
-        global,
-        frames,
-        rows,
-        lda_t,
-        lda_offset,
-        cmvn,
-        &mut view[..dim],
-        &mut spliced[..n],
-        out,
-    );
 }

@@ -31,7 +31,7 @@ use Rattle.program.specs.Calls.{callOf, overWaiting, Step, fetchCall, fetchedOn
 use Rattle.program.proofs.WaitingRooms.{length-waiting, frames-waiting, weights-waiting}
 use Rattle.program.proofs.InOrder.{waiting-early, waiting-late}
 use Rattle.program.proofs.Steps.{four}
-use Rattle.ivector_update.specs.Steps.{batchOf, changesBatch, run}
+use Rattle.ivector_batch.specs.Steps.{batchOf, changesBatch, run}
 use Rattle.ivector_fetch.specs.Steps.{fetchedAt}
 use Rattle.ivector_fetch.proofs.Vector.{fetched-is}
 use Rattle.ivector_fetch.proofs.Short.{batch-short}

@@ -23,7 +23,7 @@ use Rattle.definition.proofs.Ranges.{info-sound}
 use Rattle.program.specs.Rooms.{Rooms, roomLengthsOf}
 use Rattle.program.specs.Calls.{fetchRefusal}
 use Rattle.program.proofs.Steps.{four}
-use Rattle.ivector_stream.proofs.Records.{Passed, tests-passed, few}
+use Rattle.stream_refusals.proofs.Records.{Passed, tests-passed, few}
 
 -- whether no change reached f
 module _ (next past f : ℕ) (called : Bool) where

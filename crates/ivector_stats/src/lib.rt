@@ -78,7 +78,7 @@ fn acc_gauss(
     let size = d * s;
     let start = g * size;
     let end = start + size;
-    weighted_rows(&sigma_inv_m[start..end], d, s, x, row);
+    weighted_rows(&sigma_inv_m[start..end], d, s, s, x, row);
     add(row, linear);
     let from = g * quadratic.len();
     let to = from + quadratic.len();

@@ -1,5 +1,3 @@
 -- Laws of the calls.
-pub mod Records
-pub mod Refusals
 pub mod Replies
-pub mod Stored
+pub mod Taken

@@ -1,45 +1,35 @@
--- Rows of a table, each times a number, added up in a room row after row; and rows that make a table.
+-- Rows of a table, each times its element of a column that was laid out, added up; and rows that make a table.
 use mathlib.Core.Path.{_≡_, refl, sym, ap, _∙_}
 use mathlib.Core.List.{List, _++_}
-use Prim.Native.Nat.{ℕ, _+_, _-_, _*_, _/_, _≤_}
+use Prim.Native.Nat.{ℕ, _+_, _-_, _*_, _/_}
 use native.Mathlib.Omega.{arith}
-use lib.ListN.{length, take, drop, replicate}
+use lib.ListN.{length, take, drop}
 use lib.Seq.{take-at, drop-at}
-use lib.Ieee.{Float, nan}
-use Rattle.loops.specs.Loop.{iter}
+use lib.Ieee.{Float, nan, binary64}
 use Rattle.loops.specs.Lists.{build, flat, over}
-use Rattle.loops.specs.Steps.{fill}
-use Rattle.loops.proofs.Build.{length-build, build-same}
-use Rattle.loops.proofs.Fill.{fill-ext, over-whole}
+use Rattle.loops.proofs.Loop.{iter-ext}
+use Rattle.loops.proofs.Build.{at-build, build-ext}
+use Rattle.loops.proofs.Fill.{over-whole}
 use Rattle.loops.proofs.Flat.{length-cells}
 use Rattle.loops.proofs.Triangle.{length-triangle}
-use Rattle.loops.proofs.Columns.{columns-turn, columns-end}
-use Rattle.loops.proofs.Parts.{lent-is, at-part}
+use Rattle.basics.proofs.Rows.{times-comm}
 use Rattle.floats.specs.Operators.{_+₆₄_, _*₆₄_, zero₆₄, at, sum₆₄}
 use Rattle.definition.specs.Kaldi.{Matrix}
 use Rattle.definition.specs.Model.{transposed, packed, sigmaInvM, quadraticTerm}
+use Rattle.packed_matrix.proofs.Packing.{packed-turned}
 
--- w columns of rows that stand s apart
-module _ (w s : ℕ) (table : List Float) (x : ℕ → Float) where
-  abbrev column : ℕ → ℕ → Float → Float
-  column c b v = v +₆₄ x b *₆₄ at table (b * s + c)
+-- ---- the sums of a row, by the column that its numbers are from
 
-  pub scaled-none : {y : List Float} → y ≡ replicate w zero₆₄ → y ≡ build w (λ c. sum₆₄ zero₆₄ 0 (λ b. x b *₆₄ at table (b * s + c)))
-  unfolding iter
-  scaled-none e = e ∙ sym (build-same w zero₆₄)
+-- a column of a symmetric matrix is its row
+pub row-of-column : (d a : ℕ) (si : List Float) {n : ℕ} {x : List Float} → n ≡ d → x ≡ build n (λ j. at si (packed j a)) → x ≡ build d (λ b. at si (packed a b))
+row-of-column d a si l e = e ∙ ap (λ (n : ℕ). build n (λ j. at si (packed j a))) l ∙ build-ext d _ _ (λ b p. ap (at si) (packed-turned b a))
 
-  pub scaled-turn : (b : ℕ) {y z : List Float} {v : Float} {e : ℕ} → e ≡ b * s + w → v ≡ x b → y ≡ build w (λ c. sum₆₄ zero₆₄ b (λ b. x b *₆₄ at table (b * s + c)))
-      → z ≡ fill (length y) (λ c. at y c +₆₄ v *₆₄ at (take (e - b * s) (drop (b * s) table)) c) y
-      → z ≡ build w (λ c. sum₆₄ zero₆₄ (b + 1) (λ b. x b *₆₄ at table (b * s + c)))
-  scaled-turn b {y} {v = v} {e = e} n k h f =
-      let l : length y ≡ w = ap length h ∙ length-build w _ in
-      columns-turn nan w column (λ c. zero₆₄) b h
-      (f ∙ ap (λ (n : ℕ). fill n (λ c. at y c +₆₄ v *₆₄ at (take (e - b * s) (drop (b * s) table)) c) y) l
-      ∙ fill-ext w _ _ y (λ c p. ap (λ (t : Float). at y c +₆₄ v *₆₄ t) (ap (λ (t : List Float). at t c) (lent-is (b * s) w e table n) ∙ at-part nan (b * s) w table c p) ∙ ap (λ (t : Float). at y c +₆₄ t *₆₄ at table (b * s + c)) k))
-
-  pub scaled-end : (b d : ℕ) {y : List Float} → b ≤ d → d ≤ b → y ≡ build w (λ c. sum₆₄ zero₆₄ b (λ b. x b *₆₄ at table (b * s + c)))
-      → y ≡ build w (λ c. sum₆₄ zero₆₄ d (λ b. x b *₆₄ at table (b * s + c)))
-  scaled-end b d = columns-end nan w column (λ c. zero₆₄) b d
+-- the sums of rows that stand s apart, each row times its element of x, with that element first in each product
+pub factor-first : (d s w : ℕ) (table : List Float) (f : ℕ → Float) {x y : List Float} → x ≡ build d f → y ≡ build w (λ c. sum₆₄ zero₆₄ d (λ b. at table (b * s + c) *₆₄ at x b))
+    → y ≡ build w (λ c. sum₆₄ zero₆₄ d (λ b. f b *₆₄ at table (b * s + c)))
+factor-first d s w table f {x} e h =
+    h ∙ build-ext w _ _ (λ c p. iter-ext d _ _ zero₆₄ (λ b q v. ap (λ (t : Float). v +₆₄ t)
+    (times-comm binary64 (at table (b * s + c)) (at x b) ∙ ap (λ (t : Float). t *₆₄ at table (b * s + c)) (ap (λ (x : List Float). at x b) e ∙ at-build nan d f b q))))
 
 -- ---- the tables of one Gaussian, by their rows
 

@@ -1,7 +1,5 @@
 // The tables that a model keeps, from bytes that were checked: what `DiagGmm::parse`, `IvectorExtractor::parse` and the LDA's part of
 // `IvectorInfo::open` in the Rust make of the files' numbers. A table goes to the front of its room, and the places past it keep their values.
-use basics::add_scaled;
-use basics::clear;
 use kaldi_io::MAX_FEAT;
 use kaldi_io::MAX_IVECTOR;
 use kaldi_io::Matrix;
@@ -13,7 +11,8 @@ use kaldi_io::fill_doubles;
 use kaldi_io::narrowed_at;
 use kaldi_io::single_at;
 use kaldi_text::fill_row;
-use packed_matrix::packed_index;
+use packed_matrix::column;
+use packed_matrix::weighted_rows;
 ghost use mathlib.Core.Path.{_≡_};
 ghost use mathlib.Core.Bool.{false};
 ghost use Prim.Native.Nat.{_+_, _*_, _<_, _≤_};
@@ -234,18 +233,22 @@ pub fn fill_global(s: &[u8], from: usize, len: usize, out: &mut [f64])
 
 // ---- the extractor
 
-// Row a of Σ⁻¹ M: the rows of M, each times its element of Σ⁻¹, added up from the first to the last.
-fn sigma_inv_m_row(sigma_inv: &[f64], m: &[f64], d: usize, s: usize, a: usize, out: &mut [f64])
-    requires { ⌜ (d ≤ 64) × (a < d) × (triangle d ≤ length (now «sigma_inv»)) × (d * s ≤ length (now m)) × (length (now out) ≡ s) ⌝ }
+// Row a of Σ⁻¹ M: the rows of M, each times its element of Σ⁻¹, added up from the first to the last. x is room for column a of Σ⁻¹, which is row a.
+fn sigma_inv_m_row(
+    sigma_inv: &[f64],
+    m: &[f64],
+    d: usize,
+    s: usize,
+    a: usize,
+    x: &mut [f64],
+    out: &mut [f64],
+)
+    requires { ⌜ (d ≤ 64) × (a < d) × (triangle d ≤ length (now «sigma_inv»)) × (d * s ≤ length (now m)) × (length (now x) ≡ d) × (length (now out) ≡ s) ⌝ }
     ensures { λ _. ⌜ now (out .exit) ≡ build s (λ c. sum₆₄ zero₆₄ d (λ b. at (now («sigma_inv» .entry)) (packed a b) *₆₄ at (now (m .entry)) (b * s + c))) ⌝ }
 {
-    clear(out, s);
-    for b in 0..d {
-        let start = b * s;
-        let end = start + s;
-        let place = packed_index(a, b);
-        add_scaled(sigma_inv[place], &m[start..end], out);
-    }
+    let start = a * (a + 1) / 2;
+    column(sigma_inv, start, a, x);
+    weighted_rows(m, d, s, s, x, out);
 }
 
 // Σ⁻¹ M of one Gaussian, into a room that it fills.
@@ -253,35 +256,52 @@ fn sigma_inv_m(sigma_inv: &[f64], m: &[f64], d: usize, s: usize, out: &mut [f64]
     requires { ⌜ (d ≤ 64) × (triangle d ≤ length (now «sigma_inv»)) × (d * s ≤ length (now m)) × (length (now out) ≡ d * s) ⌝ }
     ensures { λ _. ⌜ now (out .exit) ≡ sigmaInvM d s (now («sigma_inv» .entry)) (now (m .entry)) ⌝ }
 {
+    let mut x = [0.0f64; 64];
     for a in 0..d {
         let start = a * s;
         let end = start + s;
-        sigma_inv_m_row(sigma_inv, m, d, s, a, &mut out[start..end]);
+        sigma_inv_m_row(sigma_inv, m, d, s, a, &mut x[..d], &mut out[start..end]);
     }
 }
 
-// Row p of Mᵗ Σ⁻¹ M, up to the diagonal: the rows of Σ⁻¹ M, each times its element of column p of M, added up from the first to the last.
-fn quadratic_row(m: &[f64], sigma_inv_m: &[f64], d: usize, s: usize, p: usize, out: &mut [f64])
-    requires { ⌜ (p < s) × (d * s ≤ length (now m)) × (d * s ≤ length (now «sigma_inv_m»)) × (length (now out) ≡ p + 1) ⌝ }
+// Column p of M, of as many rows as x has places.
+fn column_of(m: &[f64], s: usize, p: usize, x: &mut [f64])
+    requires { ⌜ (p < s) × (length (now x) * s ≤ length (now m)) ⌝ }
+    ensures { λ _. ⌜ now (x .exit) ≡ build (length (now (x .entry))) (λ b. at (now (m .entry)) (b * s + p)) ⌝ }
+{
+    for b in 0..x.len() {
+        x[b] = m[b * s + p];
+    }
+}
+
+// Row p of Mᵗ Σ⁻¹ M, up to the diagonal: the rows of Σ⁻¹ M, each times its element of column p of M, added up from the first to the last. x is room for
+// that column.
+fn quadratic_row(
+    m: &[f64],
+    sigma_inv_m: &[f64],
+    d: usize,
+    s: usize,
+    p: usize,
+    x: &mut [f64],
+    out: &mut [f64],
+)
+    requires { ⌜ (p < s) × (d * s ≤ length (now m)) × (d * s ≤ length (now «sigma_inv_m»)) × (length (now x) ≡ d) × (length (now out) ≡ p + 1) ⌝ }
     ensures { λ _. ⌜ now (out .exit) ≡ build (p + 1) (λ q. sum₆₄ zero₆₄ d (λ b. at (now (m .entry)) (b * s + p) *₆₄ at (now («sigma_inv_m» .entry)) (b * s + q))) ⌝ }
 {
-    clear(out, p + 1);
-    for b in 0..d {
-        let start = b * s;
-        let end = start + p + 1;
-        add_scaled(m[start + p], &sigma_inv_m[start..end], out);
-    }
+    column_of(m, s, p, x);
+    weighted_rows(sigma_inv_m, d, s, p + 1, x, out);
 }
 
 // Mᵗ Σ⁻¹ M of one Gaussian, packed, into a room that it fills.
 fn quadratic_term(m: &[f64], sigma_inv_m: &[f64], d: usize, s: usize, out: &mut [f64])
-    requires { ⌜ (s ≤ 128) × (d * s ≤ length (now m)) × (d * s ≤ length (now «sigma_inv_m»)) × (length (now out) ≡ triangle s) ⌝ }
+    requires { ⌜ (d ≤ 64) × (s ≤ 128) × (d * s ≤ length (now m)) × (d * s ≤ length (now «sigma_inv_m»)) × (length (now out) ≡ triangle s) ⌝ }
     ensures { λ _. ⌜ now (out .exit) ≡ quadraticTerm d s (now (m .entry)) (now («sigma_inv_m» .entry)) ⌝ }
 {
+    let mut x = [0.0f64; 64];
     let mut start = 0;
     for p in 0..s {
         let end = start + p + 1;
-        quadratic_row(m, sigma_inv_m, d, s, p, &mut out[start..end]);
+        quadratic_row(m, sigma_inv_m, d, s, p, &mut x[..d], &mut out[start..end]);
         start = end;
     }
 }

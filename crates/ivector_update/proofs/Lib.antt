@@ -1,5 +1,3 @@
--- Laws of a batch: its places, its NaNs, its statistics, and the lent rooms.
-mod Places
-mod Counted
+-- Laws of a batch's statistics, and the lent rooms.
 mod Updated
 mod Rooms

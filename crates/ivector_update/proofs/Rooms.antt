@@ -20,7 +20,8 @@ use Rattle.definition.proofs.Ranges.{OptionRanges, option-ranges, DimRanges, di
 use Rattle.program.specs.Rooms.{EstimateRooms, estimateFrom, Rooms, roomLengthsOf}
 use Rattle.program.specs.Calls.{overEstimate}
 use Rattle.frame_views.specs.Rows.{Lent}
-use Rattle.ivector_update.specs.Steps.{Ready, Solvable}
+use Rattle.ivector_batch.specs.Steps.{Ready}
+use Rattle.ivector_update.specs.Steps.{Solvable}
 
 -- ---- what the tests say
 
@@ -100,11 +101,6 @@ module _ {i : IvectorInfo} {t : Tables} {z : Rooms} {n : ℕ} (r : Sound i t z n
         sums-fit = omega (arith, r .rooms-fit .scratch-fits);
         factor-fits = omega (arith, r .rooms-fit .scratch-fits);
       }
-
--- the CMVN state comes back as long as it was
-pub lent-on : {dim accepted : ℕ} {global frames rows cmvn cmvn′ : List Float} → Lent dim accepted global frames rows cmvn → length cmvn′ ≡ length cmvn → Lent dim accepted global frames rows cmvn′
-lent-on r e =
-    record { some = r .some; frame-room = r .frame-room; row-room = r .row-room; global-long = r .global-long; state-long = e ∙ r .state-long; few = r .few }
 
 -- ---- the rooms afterwards
 

@@ -25,7 +25,7 @@ use Rattle.definition.specs.Solve.{getIvector}
 use Rattle.definition.specs.Estimate.{Estimate, entries, nansOver, accumulated, updated}
 use Rattle.program.specs.Rooms.{waitingIn}
 use Rattle.program.proofs.WaitingRooms.{length-waiting}
-use Rattle.ivector_update.specs.Steps.{run, changesBatch, batchOf, batchLength, viewTables, frameState, Ready}
+use Rattle.ivector_batch.specs.Steps.{run, changesBatch, batchOf, batchLength, viewTables, frameState, Ready}
 
 -- what is asked of all tables is asked of those of a frame
 pub ready-view : {i : IvectorInfo} {t : Tables} → Ready i t → Ready i (viewTables (t .gconsts) (t .means-invvars-t) (t .inv-vars-t) (t .lda-t) (t .lda-offset) (t .global-mean-stats))

@@ -1,2 +1,2 @@
--- What a batch of frames adds.
+-- What the statistics of a batch ask.
 pub mod Steps

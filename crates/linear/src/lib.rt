@@ -215,7 +215,7 @@ fn cgd_begin(
     requires { ⌜ (n * n ≤ length (now square)) × (n ≤ length (now b)) × (n ≤ length (now x)) × (length (now r) ≡ n) × (length (now p) ≡ n) × (length (now ap) ≡ n) ⌝ }
     ensures { λ s. ⌜ ((a : List Float) → now (square .entry) ≡ squareOf n a → cgdOf (now (x .entry)) (now (r .exit)) (now (p .exit)) s ≡ begun a n (now (b .entry)) (now (x .entry))) × (s .k ≡ 0) ⌝ }
 {
-    weighted_rows(square, n, n, x, ap);
+    weighted_rows(square, n, n, n, x, ap);
     difference(b, ap, n, p);
     negated(p, n, r);
     CgdState::new(dot(r, r, n))
@@ -235,7 +235,7 @@ fn recompute(
     ensures { λ t. ⌜ ((a : List Float) → now (square .entry) ≡ squareOf n a → now (r .exit) ≡ (if isFar s then residual a n (now (b .entry)) (now (x .entry)) else now (r .entry))) × (t ≡ (if isFar s then recomputedOf s (dotOf n (now (r .exit)) (now (r .exit))) else s)) ⌝ }
 {
     if s.is_far() {
-        weighted_rows(square, n, n, x, ap);
+        weighted_rows(square, n, n, n, x, ap);
         difference(ap, b, n, r);
         return s.recomputed(dot(r, r, n));
     }
@@ -256,7 +256,7 @@ fn cgd_turn(
     requires { ⌜ (s .k < 200) × (n * n ≤ length (now square)) × (n ≤ length (now b)) × (length (now x) ≡ n) × (length (now r) ≡ n) × (length (now p) ≡ n) × (length (now ap) ≡ n) ⌝ }
     ensures { λ t. ⌜ ((a : List Float) → now (square .entry) ≡ squareOf n a → turnEnd n (now (p .entry)) s (now (x .exit)) (now (r .exit)) t ≡ turn a n (now (b .entry)) (cgdOf (now (x .entry)) (now (r .entry)) (now (p .entry)) s)) × (t .k ≡ s .k + 1) ⌝ }
 {
-    weighted_rows(square, n, n, p, ap);
+    weighted_rows(square, n, n, n, p, ap);
     let alpha = -dot(p, r, n) / dot(p, ap, n);
     add_scaled(alpha, p, x);
     add_scaled(alpha, ap, r);

@@ -13,6 +13,7 @@ use Rattle.loops.specs.Steps.{fill}
 use Rattle.loops.proofs.Loop.{iter-none, iter-next, iter-ext}
 use Rattle.loops.proofs.Build.{length-build, at-build, build-ext, build-same}
 use Rattle.loops.proofs.Fill.{over-whole}
+use Rattle.loops.proofs.Cells.{row-in}
 use Rattle.loops.proofs.Flat.{flat-add, length-cells}
 use Rattle.loops.proofs.Parts.{at-part}
 use Rattle.basics.proofs.Rows.{times-comm, whole}
@@ -43,49 +44,53 @@ pub square-whole : (n : ℕ) (a room : List Float) {y : List Float} → length r
 unfolding squareOf
 square-whole n a room l e = e ∙ over-whole _ room (length-cells n n _ ∙ sym l)
 
--- ---- rows of a table, s wide, each times its element of x
+-- ---- the first w numbers of rows of a table that stand s apart, each row times its element of x
 
-module _ (s : ℕ) (table x : List Float) where
-  -- the sum in column c after k rows
-  abbrev pub sumOf : ℕ → ℕ → Float
-  sumOf k c = sum₆₄ zero₆₄ k (λ a. at table (a * s + c) *₆₄ at x a)
+-- the sum in column c after k rows
+abbrev pub sumOf : ℕ → List Float → List Float → ℕ → ℕ → Float
+sumOf s table x k c = sum₆₄ zero₆₄ k (λ a. at table (a * s + c) *₆₄ at x a)
 
-  pub sums-none : {y : List Float} → y ≡ replicate s zero₆₄ → y ≡ build s (sumOf 0)
+-- row k of d, up to place w, lies within n
+pub front-in : (k d s w n : ℕ) → w ≤ s → d * s ≤ n → k < d → k * s + w ≤ n
+front-in k d s w n h l p = omega (arith, row-in k d s n l p)
+
+module _ (s w : ℕ) (table x : List Float) where
+  pub sums-none : {y : List Float} → y ≡ replicate w zero₆₄ → y ≡ build w (sumOf s table x 0)
   unfolding iter
-  sums-none e = e ∙ sym (build-same s zero₆₄)
+  sums-none e = e ∙ sym (build-same w zero₆₄)
 
   -- a sum goes on by a row
-  more : (k c : ℕ) {m : ℕ} {r : List Float} {v : Float} → m ≡ k + 1 → c < s → r ≡ tableRow s table k → v ≡ sumOf k c → v +₆₄ at r c *₆₄ at x k ≡ sumOf m c
+  more : (k c : ℕ) {m : ℕ} {r : List Float} {v : Float} → m ≡ k + 1 → c < w → r ≡ tableRow s w table k → v ≡ sumOf s table x k c → v +₆₄ at r c *₆₄ at x k ≡ sumOf s table x m c
   unfolding tableRow
   more k c {v = v} q p e h =
-      ap (λ (t : Float). v +₆₄ t *₆₄ at x k) (ap (λ (r : List Float). at r c) e ∙ at-part nan (k * s) s table c p)
-      ∙ iter-next _ zero₆₄ k h ∙ ap (λ (m : ℕ). sumOf m c) (sym q)
+      ap (λ (t : Float). v +₆₄ t *₆₄ at x k) (ap (λ (r : List Float). at r c) e ∙ at-part nan (k * s) w table c p)
+      ∙ iter-next _ zero₆₄ k h ∙ ap (λ (m : ℕ). sumOf s table x m c) (sym q)
 
   -- four rows from the start on
-  pub four-first : (y : List Float) {r0 r1 r2 r3 z : List Float} → length y ≡ s → r0 ≡ tableRow s table 0 → r1 ≡ tableRow s table 1 → r2 ≡ tableRow s table 2 → r3 ≡ tableRow s table 3
-      → z ≡ fill (length y) (λ c. zero₆₄ +₆₄ at r0 c *₆₄ at x 0 +₆₄ at r1 c *₆₄ at x 1 +₆₄ at r2 c *₆₄ at x 2 +₆₄ at r3 c *₆₄ at x 3) y → z ≡ build s (sumOf 4)
+  pub four-first : (y : List Float) {r0 r1 r2 r3 z : List Float} → length y ≡ w → r0 ≡ tableRow s w table 0 → r1 ≡ tableRow s w table 1 → r2 ≡ tableRow s w table 2 → r3 ≡ tableRow s w table 3
+      → z ≡ fill (length y) (λ c. zero₆₄ +₆₄ at r0 c *₆₄ at x 0 +₆₄ at r1 c *₆₄ at x 1 +₆₄ at r2 c *₆₄ at x 2 +₆₄ at r3 c *₆₄ at x 3) y → z ≡ build w (sumOf s table x 4)
   four-first y l h0 h1 h2 h3 f =
-      whole _ s y l f
-      ∙ build-ext s _ _ (λ c p. more 3 c (omega arith) p h3 (more 2 c (omega arith) p h2 (more 1 c (omega arith) p h1 (more 0 c (omega arith) p h0 (iter-none _ zero₆₄)))))
+      whole _ w y l f
+      ∙ build-ext w _ _ (λ c p. more 3 c (omega arith) p h3 (more 2 c (omega arith) p h2 (more 1 c (omega arith) p h1 (more 0 c (omega arith) p h0 (iter-none _ zero₆₄)))))
 
-  module _ (k : ℕ) {y : List Float} (e : y ≡ build s (sumOf k)) where
-    pub length-sums : length y ≡ s
-    length-sums = ap length e ∙ length-build s _
+  module _ (k : ℕ) {y : List Float} (e : y ≡ build w (sumOf s table x k)) where
+    pub length-sums : length y ≡ w
+    length-sums = ap length e ∙ length-build w _
 
-    sum-at : (c : ℕ) → c < s → at y c ≡ sumOf k c
-    sum-at c p = ap (λ (y : List Float). at y c) e ∙ at-build nan s _ c p
+    sum-at : (c : ℕ) → c < w → at y c ≡ sumOf s table x k c
+    sum-at c p = ap (λ (y : List Float). at y c) e ∙ at-build nan w _ c p
 
-    pub one-turn : {r z : List Float} → r ≡ tableRow s table k → z ≡ fill (length y) (λ c. at y c +₆₄ at x k *₆₄ at r c) y → z ≡ build s (sumOf (k + 1))
+    pub one-turn : {r z : List Float} → r ≡ tableRow s w table k → z ≡ fill (length y) (λ c. at y c +₆₄ at x k *₆₄ at r c) y → z ≡ build w (sumOf s table x (k + 1))
     one-turn {r} h f =
-        whole _ s y length-sums f
-        ∙ build-ext s _ _ (λ c p. ap (λ (t : Float). at y c +₆₄ t) (times-comm binary64 (at x k) (at r c)) ∙ more k c refl p h (sum-at c p))
+        whole _ w y length-sums f
+        ∙ build-ext w _ _ (λ c p. ap (λ (t : Float). at y c +₆₄ t) (times-comm binary64 (at x k) (at r c)) ∙ more k c refl p h (sum-at c p))
 
-    pub four-turn : {r0 r1 r2 r3 z : List Float} → r0 ≡ tableRow s table k → r1 ≡ tableRow s table (k + 1) → r2 ≡ tableRow s table (k + 2) → r3 ≡ tableRow s table (k + 3)
+    pub four-turn : {r0 r1 r2 r3 z : List Float} → r0 ≡ tableRow s w table k → r1 ≡ tableRow s w table (k + 1) → r2 ≡ tableRow s w table (k + 2) → r3 ≡ tableRow s w table (k + 3)
         → z ≡ fill (length y) (λ c. at y c +₆₄ at r0 c *₆₄ at x k +₆₄ at r1 c *₆₄ at x (k + 1) +₆₄ at r2 c *₆₄ at x (k + 2) +₆₄ at r3 c *₆₄ at x (k + 3)) y
-        → z ≡ build s (sumOf (k + 4))
+        → z ≡ build w (sumOf s table x (k + 4))
     four-turn h0 h1 h2 h3 f =
-        whole _ s y length-sums f
-        ∙ build-ext s _ _ (λ c p. more (k + 3) c (omega arith) p h3 (more (k + 2) c (omega arith) p h2 (more (k + 1) c (omega arith) p h1 (more k c refl p h0 (sum-at c p)))))
+        whole _ w y length-sums f
+        ∙ build-ext w _ _ (λ c p. more (k + 3) c (omega arith) p h3 (more (k + 2) c (omega arith) p h2 (more (k + 1) c (omega arith) p h1 (more k c refl p h0 (sum-at c p)))))
 
 -- ---- the product
 

@@ -7,9 +7,9 @@ use Rattle.loops.specs.Lists.{build, flat}
 use Rattle.floats.specs.Operators.{at}
 use Rattle.definition.specs.Model.{packed}
 
--- row k of a table, s wide
-unfoldable pub tableRow : ℕ → List Float → ℕ → List Float
-tableRow s table k = take s (drop (k * s) table)
+-- the first w numbers of row k of a table whose rows stand s apart
+unfoldable pub tableRow : ℕ → ℕ → List Float → ℕ → List Float
+tableRow s w table k = take w (drop (k * s) table)
 
 -- the packed matrix a, n wide, column after column; the columns of a symmetric matrix are its rows
 unfoldable pub squareOf : ℕ → List Float → List Float

@@ -26,7 +26,7 @@ pub fn packed_index(i: usize, j: usize) -> usize
 }
 
 // Column i of the matrix: before the diagonal it is row i, which begins at `start`; below, each element stands a row further on.
-fn column(a: &[f64], start: usize, i: usize, out: &mut [f64])
+pub fn column(a: &[f64], start: usize, i: usize, out: &mut [f64])
     requires { ⌜ (start ≡ triangle i) × (i < length (now out)) × (length (now out) ≤ 65536) × (triangle (length (now out)) ≤ length (now a)) ⌝ }
     ensures { λ _. ⌜ now (out .exit) ≡ build (length (now (out .entry))) (λ j. at (now (a .entry)) (packed j i)) ⌝ }
 {
@@ -94,50 +94,50 @@ fn set_four(
     }
 }
 
-// Row k of a table, s wide.
-fn row_at(table: &[f64], s: usize, k: usize) -> &[f64]
-    requires { ⌜ k * s + s ≤ length (now table) ⌝ }
-    ensures { λ r. ⌜ (now r ≡ tableRow s (now (table .entry)) k) × (length (now r) ≡ s) ⌝ }
+// The first w numbers of row k of a table whose rows stand s apart.
+fn row_at(table: &[f64], s: usize, w: usize, k: usize) -> &[f64]
+    requires { ⌜ k * s + w ≤ length (now table) ⌝ }
+    ensures { λ r. ⌜ (now r ≡ tableRow s w (now (table .entry)) k) × (length (now r) ≡ w) ⌝ }
 {
     let start = k * s;
-    let end = start + s;
+    let end = start + w;
     &table[start..end]
 }
 
 // The sums over the first four of d rows, or, where there are fewer, over none; and over how many.
-fn begin_sums(rows: &[f64], d: usize, s: usize, x: &[f64], out: &mut [f64]) -> usize
-    requires { ⌜ (d * s ≤ length (now rows)) × (d ≤ length (now x)) × (length (now out) ≡ s) ⌝ }
-    ensures { λ r. ⌜ (r ≤ d) × (now (out .exit) ≡ build s (λ c. sum₆₄ zero₆₄ r (λ a. at (now (rows .entry)) (a * s + c) *₆₄ at (now (x .entry)) a))) ⌝ }
+fn begin_sums(rows: &[f64], d: usize, s: usize, w: usize, x: &[f64], out: &mut [f64]) -> usize
+    requires { ⌜ (w ≤ s) × (d * s ≤ length (now rows)) × (d ≤ length (now x)) × (length (now out) ≡ w) ⌝ }
+    ensures { λ r. ⌜ (r ≤ d) × (now (out .exit) ≡ build w (λ c. sum₆₄ zero₆₄ r (λ a. at (now (rows .entry)) (a * s + c) *₆₄ at (now (x .entry)) a))) ⌝ }
 {
     if d < 4 {
-        clear(out, s);
+        clear(out, w);
         return 0;
     }
-    let r0 = row_at(rows, s, 0);
-    let r1 = row_at(rows, s, 1);
-    let r2 = row_at(rows, s, 2);
-    let r3 = row_at(rows, s, 3);
+    let r0 = row_at(rows, s, w, 0);
+    let r1 = row_at(rows, s, w, 1);
+    let r2 = row_at(rows, s, w, 2);
+    let r3 = row_at(rows, s, w, 3);
     set_four(r0, r1, r2, r3, x[0], x[1], x[2], x[3], out);
     4
 }
 
-// d rows of s, each times its element of x, added up, four in a pass over the sums: each sum is added in the order of the rows. Of a matrix that is
-// laid out square, and of a vector, that is their product.
-pub fn weighted_rows(rows: &[f64], d: usize, s: usize, x: &[f64], out: &mut [f64])
-    requires { ⌜ (d * s ≤ length (now rows)) × (d ≤ length (now x)) × (length (now out) ≡ s) ⌝ }
-    ensures { λ _. ⌜ now (out .exit) ≡ build s (λ c. sum₆₄ zero₆₄ d (λ a. at (now (rows .entry)) (a * s + c) *₆₄ at (now (x .entry)) a)) ⌝ }
+// The first w numbers of d rows that stand s apart, each row times its element of x, added up, four in a pass over the sums: each sum is added in the
+// order of the rows. Of a matrix that is laid out square, and of a vector, that is their product.
+pub fn weighted_rows(rows: &[f64], d: usize, s: usize, w: usize, x: &[f64], out: &mut [f64])
+    requires { ⌜ (w ≤ s) × (d * s ≤ length (now rows)) × (d ≤ length (now x)) × (length (now out) ≡ w) ⌝ }
+    ensures { λ _. ⌜ now (out .exit) ≡ build w (λ c. sum₆₄ zero₆₄ d (λ a. at (now (rows .entry)) (a * s + c) *₆₄ at (now (x .entry)) a)) ⌝ }
 {
-    let mut k = begin_sums(rows, d, s, x, out);
+    let mut k = begin_sums(rows, d, s, w, x, out);
     while d - k >= 4 {
-        let r0 = row_at(rows, s, k);
-        let r1 = row_at(rows, s, k + 1);
-        let r2 = row_at(rows, s, k + 2);
-        let r3 = row_at(rows, s, k + 3);
+        let r0 = row_at(rows, s, w, k);
+        let r1 = row_at(rows, s, w, k + 1);
+        let r2 = row_at(rows, s, w, k + 2);
+        let r3 = row_at(rows, s, w, k + 3);
         add_four(r0, r1, r2, r3, x[k], x[k + 1], x[k + 2], x[k + 3], out);
         k += 4;
     }
     while k < d {
-        let r = row_at(rows, s, k);
+        let r = row_at(rows, s, w, k);
         add_scaled(x[k], r, out);
         k += 1;
     }

@@ -18,7 +18,7 @@ use Rattle.definition.specs.Machine.{Call, push, finish, forget, fetch, pushTes
 use Rattle.program.specs.Rooms.{Rings, EstimateRooms, Rooms, roomsFrom}
 use Rattle.program.specs.Calls.{RingStep, RingCall, ringCall, doneOn, recordTests, pushFrame, setInputFinished, forgetBefore, Step, FetchCall, fetchCall, fetchedOn, fetchRefusal, getFrame}
 use Rattle.program.specs.Session.{Program, program, onRings, stepped, stepOf}
-use Rattle.ivector_stream.proofs.Refusals.{push-tests}
+use Rattle.stream_refusals.proofs.Refusals.{push-tests}
 use Rattle.registers.specs.declared.BoardAnswer.{BoardAnswer}
 use Rattle.registers.specs.Board.{byte, frameNumber, heldCount, roomForPush, commandOf, callFlags, rewritten, Board, board, settled, blockRefusal, performed, boardStep, FetchTaken}
 use Rattle.registers.specs.Steps.{Settled, RingDone}

@@ -20,8 +20,8 @@ use Rattle.definition.specs.declared.StreamCall.{StreamCall}
 use Rattle.definition.specs.Machine.{framesHeld, pushTests}
 use Rattle.program.specs.Rooms.{Rings}
 use Rattle.program.specs.Calls.{answerFrom, answerOf, RingCall, ringCall, doneOn, withFinished, recordTests, pushFrame, setInputFinished}
-use Rattle.ivector_stream.proofs.Records.{Passed, plain-passed}
-use Rattle.ivector_stream.proofs.Refusals.{push-tests, push-already, push-first, push-none}
+use Rattle.stream_refusals.proofs.Records.{Passed, plain-passed}
+use Rattle.stream_refusals.proofs.Refusals.{push-tests, push-already, push-first, push-none}
 use Rattle.registers.specs.Board.{heldCount, roomForPush, Proper}
 
 -- the number of an answer

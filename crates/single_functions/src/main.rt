@@ -124,7 +124,7 @@ fn select_in(
         too_large();
         return;
     }
-    let s = diag_gmm::select_posteriors(&loglikes[..count], most, floor, chosen, posts);
+    let s = posteriors::select_posteriors(&loglikes[..count], most, floor, chosen, posts);
     print_selected(s.count, s.nans, chosen, posts);
 }
 

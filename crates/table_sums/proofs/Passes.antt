@@ -1,9 +1,9 @@
--- A room of n places, each with a counted loop of its own: code does some turns at all places before the next turns.
+-- A room of n places, each with a counted loop of its own: code does some turns at all places before the next turns. A pass adds one
+-- to four rows, each number of rows by the one before it and a row more (`added-more`).
 use mathlib.Core.Path.{_≡_, sym, ap, _∙_}
 use mathlib.Core.Bool.{Bool}
 use mathlib.Core.List.{List}
 use Prim.Native.Nat.{ℕ, _+_, _-_, _*_, _≤_, _<_}
-use native.Mathlib.Nat.{add-zero}
 use native.Mathlib.Omega.{arith}
 use lib.ListN.{length, getD}
 use lib.Ieee.{Float, nan}
@@ -12,6 +12,7 @@ use Rattle.loops.specs.Lists.{build}
 use Rattle.loops.specs.Steps.{fill, from}
 use Rattle.loops.proofs.Build.{length-build, at-build, build-ext}
 use Rattle.loops.proofs.Fill.{fill-ext, fill-at, fill-whole, fill-again, fill-over, over-self}
+use Rattle.loops.proofs.Loop.{iter-more}
 use Rattle.loops.proofs.From.{from-after}
 use Rattle.loops.proofs.Parts.{at-part}
 use Rattle.floats.specs.Operators.{_+₃₂_, _*₃₂_, at, sum₃₂}
@@ -30,15 +31,18 @@ module _ {A : Type 0} (d : A) (n : ℕ) (f : ℕ → ℕ → A → A) (x : List 
       ∙ fill-again n n _ _ x (omega arith)
       ∙ fill-ext n _ _ x (λ m p. ap (from k r (f m)) (fill-at d _ n x m p) ∙ from-after k (f m) (getD x m d) r l)
 
--- one turn, and four
+-- no turn, and one turn more
 module _ {S : Type 0} (k : ℕ) (f : ℕ → S → S) (s : S) where
-  pub from-one : from k (k + 1) f s ≡ f k s
+  from-none : from k k f s ≡ s
   unfolding from iter
-  from-one = let e : k + 1 - k ≡ 1 = omega arith in rw e (ap (λ (i : ℕ). f i s) (add-zero k))
+  from-none = let e : k - k ≡ 0 = omega arith in rw e
 
-  pub from-four : from k (k + 4) f s ≡ f (k + 3) (f (k + 2) (f (k + 1) (f k s)))
-  unfolding from iter
-  from-four = let e : k + 4 - k ≡ 4 = omega arith in rw e (ap (λ (i : ℕ). f (k + 3) (f (k + 2) (f (k + 1) (f i s)))) (add-zero k))
+  from-more : (i j : ℕ) → k ≤ i → j ≡ i + 1 → from k j f s ≡ f i (from k i f s)
+  unfolding from
+  from-more i j l e =
+      let h : j - k ≡ i - k + 1 = omega arith in
+      let g : k + (i - k) ≡ i = omega arith in
+      rw (h, iter-more _ _ (i - k)) (ap (λ (q : ℕ). f q (iter (i - k) (λ t. f (k + t)) s)) g)
 
 -- rows of a table, n wide, each times its factor
 module _ (n : ℕ) (table x : List Float) (squared : Bool) (sum : List Float) where
@@ -46,21 +50,37 @@ module _ (n : ℕ) (table x : List Float) (squared : Bool) (sum : List Float) wh
   unfolding row
   term k m p e h = rw (e, h, at-part nan (k * n) n table m p)
 
-  pub one-is : (k : ℕ) {r y : List Float} {v : Float} → r ≡ row n table k → v ≡ factor squared (at x k)
-      → y ≡ fill n (λ m. at sum m +₃₂ at r m *₃₂ v) sum
-      → y ≡ fill n (λ m. from k (k + 1) (λ i a. a +₃₂ at table (i * n + m) *₃₂ factor squared (at x i)) (at sum m)) sum
-  one-is k e h g =
-      g ∙ fill-ext n _ _ sum (λ m p. ap (λ (t : Float). at sum m +₃₂ t) (term k m p e h) ∙ sym (from-one k (λ i a. a +₃₂ at table (i * n + m) *₃₂ factor squared (at x i)) (at sum m)))
+  -- g m is place m with the rows from k to i added, one after the other
+  abbrev Added : ℕ → ℕ → (ℕ → Float) → Type 0
+  Added k i g = (m : ℕ) → m < n → g m ≡ from k i (λ i a. a +₃₂ at table (i * n + m) *₃₂ factor squared (at x i)) (at sum m)
 
-  pub four-is : (k : ℕ) {r0 r1 r2 r3 y : List Float} {v0 v1 v2 v3 : Float}
-      → r0 ≡ row n table k → r1 ≡ row n table (k + 1) → r2 ≡ row n table (k + 2) → r3 ≡ row n table (k + 3)
-      → v0 ≡ factor squared (at x k) → v1 ≡ factor squared (at x (k + 1)) → v2 ≡ factor squared (at x (k + 2)) → v3 ≡ factor squared (at x (k + 3))
-      → y ≡ fill n (λ m. at sum m +₃₂ at r0 m *₃₂ v0 +₃₂ at r1 m *₃₂ v1 +₃₂ at r2 m *₃₂ v2 +₃₂ at r3 m *₃₂ v3) sum
-      → y ≡ fill n (λ m. from k (k + 4) (λ i a. a +₃₂ at table (i * n + m) *₃₂ factor squared (at x i)) (at sum m)) sum
-  four-is k e0 e1 e2 e3 h0 h1 h2 h3 g =
-      g ∙ fill-ext n _ _ sum (λ m p.
-      rw (term k m p e0 h0, term (k + 1) m p e1 h1, term (k + 2) m p e2 h2, term (k + 3) m p e3 h3)
-      (sym (from-four k (λ i a. a +₃₂ at table (i * n + m) *₃₂ factor squared (at x i)) (at sum m))))
+  -- no row, and a row more
+  added-none : (k : ℕ) → Added k k (at sum)
+  added-none k m p = sym (from-none k _ _)
+
+  added-more : (k i j : ℕ) {g : ℕ → Float} {r : List Float} {v : Float} → k ≤ i → j ≡ i + 1 → Added k i g → r ≡ row n table i → v ≡ factor squared (at x i)
+      → Added k j (λ m. g m +₃₂ at r m *₃₂ v)
+  added-more k i j l q w e h m p = rw (w m p, term i m p e h) (sym (from-more k _ _ i j l q))
+
+  module _ (k : ℕ) {r0 : List Float} {v0 : Float} (e0 : r0 ≡ row n table k) (h0 : v0 ≡ factor squared (at x k)) where
+    pub one-row : Added k (k + 1) (λ m. at sum m +₃₂ at r0 m *₃₂ v0)
+    one-row = added-more k k (k + 1) (omega arith) (omega arith) (added-none k) e0 h0
+
+    module _ {r1 : List Float} {v1 : Float} (e1 : r1 ≡ row n table (k + 1)) (h1 : v1 ≡ factor squared (at x (k + 1))) where
+      pub two-rows : Added k (k + 2) (λ m. at sum m +₃₂ at r0 m *₃₂ v0 +₃₂ at r1 m *₃₂ v1)
+      two-rows = added-more k (k + 1) (k + 2) (omega arith) (omega arith) one-row e1 h1
+
+      module _ {r2 : List Float} {v2 : Float} (e2 : r2 ≡ row n table (k + 2)) (h2 : v2 ≡ factor squared (at x (k + 2))) where
+        pub three-rows : Added k (k + 3) (λ m. at sum m +₃₂ at r0 m *₃₂ v0 +₃₂ at r1 m *₃₂ v1 +₃₂ at r2 m *₃₂ v2)
+        three-rows = added-more k (k + 2) (k + 3) (omega arith) (omega arith) two-rows e2 h2
+
+        pub four-rows : {r3 : List Float} {v3 : Float} → r3 ≡ row n table (k + 3) → v3 ≡ factor squared (at x (k + 3))
+            → Added k (k + 4) (λ m. at sum m +₃₂ at r0 m *₃₂ v0 +₃₂ at r1 m *₃₂ v1 +₃₂ at r2 m *₃₂ v2 +₃₂ at r3 m *₃₂ v3)
+        four-rows = added-more k (k + 3) (k + 4) (omega arith) (omega arith) three-rows
+
+  -- a pass over all places
+  pub pass-is : (k i : ℕ) {g : ℕ → Float} {y : List Float} → Added k i g → y ≡ fill n g sum → y ≡ fill n (λ m. from k i (λ i a. a +₃₂ at table (i * n + m) *₃₂ factor squared (at x i)) (at sum m)) sum
+  pass-is k i w h = h ∙ fill-ext n _ _ sum w
 
   -- the rows below k are added, then those from k to r
   pub rows-turn : (k r : ℕ) {y z : List Float} → k ≤ r → length y ≡ n

@@ -9,7 +9,7 @@ use borrow.Author.Tests.{eq-eqb, ne-eqb, lt-leb, le-leb}
 use Rattle.loops.proofs.Refusal.{NoneFirst, FirstAt, numberAt}
 use Rattle.limits.proofs.Listed.{holds, fails}
 use Rattle.program.specs.Calls.{fetchRefusal}
-use Rattle.ivector_stream.proofs.Refusals.{Past}
+use Rattle.stream_refusals.proofs.Refusals.{Past}
 use Rattle.ivector_fetch.proofs.Refusals.{fetchList, refused-at, refused-none}
 use Rattle.ivector_fetch.proofs.fetch_refusal.Statement.{statement}
 use Rattle.ivector_fetch.proofs.fetch_refusal.Tie as tie

@@ -63,7 +63,7 @@ weighted-rows-requires c κs =
     let start = before-slice-known3 (c .before .before) in
     let a = start .args in
     let p = start .pre in
-    (omega (arith, length-lent (a .g * (a .d * a .s)) (a .d * a .s) _ (a .sigma-inv-m .now) refl (p .1)), p .0, p .4)
+    (omega arith, omega (arith, length-lent (a .g * (a .d * a .s)) (a .d * a .s) _ (a .sigma-inv-m .now) refl (p .1)), p .0, p .4)
 
 add-requires : tie.Need-add-requires
 add-requires c κs =
@@ -71,7 +71,7 @@ add-requires c κs =
     let start = before-slice-known3 (before-weighted-rows at-weighted-rows) in
     let weighted-rows = at-weighted-rows .weighted-rows in
     let p = start .pre in
-    omega (arith, weighted-rows .kept .1 .1 .1 .1 .0, p .3, p .4)
+    omega (arith, weighted-rows .kept .1 .1 .1 .1 .1 .0, p .3, p .4)
 
 mul-from : tie.Need-mul-from
 mul-from c =

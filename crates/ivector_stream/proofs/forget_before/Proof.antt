@@ -9,9 +9,9 @@ use native.Mathlib.Omega.{arith}
 use Rattle.definition.specs.Machine.{longestFrom}
 use Rattle.program.specs.Rooms.{Rings, ringsFrom}
 use Rattle.program.specs.Calls.{callOf, withMark, RingStep, forgetBefore}
-use Rattle.ivector_stream.proofs.Records.{Passed, plain-passed, few, other-few}
+use Rattle.stream_refusals.proofs.Records.{Passed, plain-passed, few, other-few}
 use Rattle.ivector_stream.proofs.Replies.{refused, done}
-use Rattle.ivector_stream.proofs.Stored.{forget-is, forget-under}
+use Rattle.ivector_stream.proofs.Taken.{forget-is, forget-under}
 use Rattle.ivector_stream.proofs.forget_before.Statement.{statement}
 use Rattle.ivector_stream.proofs.forget_before.Tie as tie
 

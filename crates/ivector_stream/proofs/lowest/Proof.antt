@@ -1,7 +1,7 @@
 -- `ivector_stream::lowest` meets its contract: in frames in order the first is the lowest.
 use borrow.Author.Needs.{needs}
 use native.Mathlib.Omega.{arith}
-use Rattle.ivector_stream.proofs.Stored.{lowest-none, lowest-first}
+use Rattle.ivector_stream.proofs.Taken.{lowest-none, lowest-first}
 use Rattle.ivector_stream.proofs.lowest.Statement.{statement}
 use Rattle.ivector_stream.proofs.lowest.Tie as tie
 

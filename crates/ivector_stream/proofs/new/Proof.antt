@@ -4,7 +4,7 @@ use borrow.Author.Needs.{needs}
 use mathlib.Core.Path.{refl, sym, _∙_}
 use native.Mathlib.Omega.{arith}
 use Rattle.program.specs.Calls.{freshStream, freshRooms}
-use Rattle.ivector_stream.proofs.Refusals.{new-taken}
+use Rattle.stream_refusals.proofs.Refusals.{new-taken}
 use Rattle.ivector_stream.proofs.Replies.{new-refused, new-done, untouched, written, rings-are, estimate-is, rooms-are}
 use Rattle.ivector_stream.proofs.new.Statement.{statement}
 use Rattle.ivector_stream.proofs.new.Tie as tie

@@ -4,10 +4,10 @@ use mathlib.Core.Path.{refl}
 use native.Mathlib.Omega.{arith}
 use Rattle.program.specs.Rooms.{Rings, ringsFrom}
 use Rattle.program.specs.Calls.{RingStep, pushFrame}
-use Rattle.ivector_stream.proofs.Records.{few}
-use Rattle.ivector_stream.proofs.Refusals.{PushTaken, push-taken, push-few, store-fits}
+use Rattle.stream_refusals.proofs.Records.{few}
+use Rattle.stream_refusals.proofs.Refusals.{PushTaken, push-taken, push-few, store-fits}
 use Rattle.ivector_stream.proofs.Replies.{refused}
-use Rattle.ivector_stream.proofs.Stored.{push-done}
+use Rattle.ivector_stream.proofs.Taken.{push-done}
 use Rattle.ivector_stream.proofs.push_frame.Statement.{statement}
 use Rattle.ivector_stream.proofs.push_frame.Tie as tie
 

@@ -5,8 +5,8 @@ use mathlib.Core.Path.{refl, ap, _∙_}
 use Prim.Native.Nat.{ℕ}
 use Rattle.program.specs.Rooms.{Rings, ringsFrom}
 use Rattle.program.specs.Calls.{callOf, withWindow, RingStep, setCmnWindow}
-use Rattle.ivector_stream.proofs.Records.{few}
-use Rattle.ivector_stream.proofs.Refusals.{window-taken, window-few}
+use Rattle.stream_refusals.proofs.Records.{few}
+use Rattle.stream_refusals.proofs.Refusals.{window-taken, window-few}
 use Rattle.ivector_stream.proofs.Replies.{refused, done}
 use Rattle.ivector_stream.proofs.set_cmn_window.Statement.{statement}
 use Rattle.ivector_stream.proofs.set_cmn_window.Tie as tie

@@ -4,7 +4,7 @@ use mathlib.Core.Path.{refl}
 use mathlib.Core.List.{[]}
 use Rattle.program.specs.Rooms.{Rings, ringsFrom}
 use Rattle.program.specs.Calls.{RingStep, setInputFinished}
-use Rattle.ivector_stream.proofs.Records.{Passed, plain-passed, few, other-few}
+use Rattle.stream_refusals.proofs.Records.{Passed, plain-passed, few, other-few}
 use Rattle.ivector_stream.proofs.Replies.{refused, done}
 use Rattle.ivector_stream.proofs.set_input_finished.Statement.{statement}
 use Rattle.ivector_stream.proofs.set_input_finished.Tie as tie

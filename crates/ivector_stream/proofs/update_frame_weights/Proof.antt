@@ -7,8 +7,8 @@ use Rattle.definition.specs.declared.IvectorStream.{IvectorStream}
 use Rattle.definition.specs.Changes.{changed}
 use Rattle.program.specs.Rooms.{Rings, ringsFrom}
 use Rattle.program.specs.Calls.{callOf, RingStep, updateFrameWeights}
-use Rattle.ivector_stream.proofs.Records.{few}
-use Rattle.ivector_stream.proofs.Refusals.{ChangeTaken, change-taken, change-few}
+use Rattle.stream_refusals.proofs.Records.{few}
+use Rattle.stream_refusals.proofs.Refusals.{ChangeTaken, change-taken, change-few}
 use Rattle.ivector_stream.proofs.Replies.{refused, done, rings-are, changed-stream}
 use Rattle.ivector_stream.proofs.update_frame_weights.Statement.{statement}
 use Rattle.ivector_stream.proofs.update_frame_weights.Tie as tie

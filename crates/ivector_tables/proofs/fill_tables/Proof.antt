@@ -72,7 +72,7 @@ quadratic-term-requires c κs =
     let pre = start .pre in
     let args = start .args in
     let sigma-inv-m = at-sigma-inv-m .sigma-inv-m in
-    ((pre .1), omega (arith, (length-lent (triangle (args .d)) ((args .d) * (args .n)) ((triangle (args .d)) + (args .d) * (args .n)) (args .numbers .now) refl (pre .2))), omega (arith, (sigma-inv-m .kept .1 .1 .1 .1 .0), (pre .3)), (pre .4))
+    ((pre .0), (pre .1), omega (arith, (length-lent (triangle (args .d)) ((args .d) * (args .n)) ((triangle (args .d)) + (args .d) * (args .n)) (args .numbers .now) refl (pre .2))), omega (arith, (sigma-inv-m .kept .1 .1 .1 .1 .0), (pre .3)), (pre .4))
 
 returns : tie.Need-returns
 returns c =

@@ -1,6 +1,5 @@
 -- `update_rooms` meets its contract: what the tests of the record, the tables and the rooms say bounds the sizes, the parts that are kept are
 -- lent to `update_stats_until`, and come back at the fronts of the rooms.
-use borrow.Author.Needs.{needs}
 use mathlib.Core.Path.{sym, ap, _∙_}
 use Prim.Native.Nat.{_+_}
 use native.Mathlib.Omega.{arith}
@@ -12,7 +11,7 @@ use Rattle.definition.specs.Model.{Tables, tablesFrom, modelIn}
 use Rattle.definition.specs.Statistics.{Stats}
 use Rattle.definition.specs.Estimate.{Estimate, updated}
 use Rattle.program.specs.Rooms.{ringsFrom, estimateFrom, Rooms, roomsFrom, ringFrames, waitingIn, estimateAt}
-use Rattle.ivector_update.specs.Steps.{batchOf}
+use Rattle.ivector_batch.specs.Steps.{batchOf}
 use Rattle.ivector_update.proofs.Rooms.{Sound, sound, ready, lent, solvable, rooms-over}
 use Rattle.ivector_update.proofs.update_rooms.Statement.{statement}
 use Rattle.ivector_update.proofs.update_rooms.Tie as tie
@@ -242,7 +241,7 @@ same-length-4 c =
     (done .kept .1 .1 .1 .1 .1 .1 .1 .1 .1 .1 .1 .1 .1 .1 .1 .1 .1 .1 .1 .1 .1 .1 .0 ∙ length-take-le _ _ fits) fits
 
 same-length-5 : tie.Need-same-length-5
-same-length-5 c = search needs
+same-length-5 c = to-update-stats-until c .update-stats-until .kept .1 .1 .1 .1 .1 .1 .1 .1 .1 .1 .1 .1 .1 .1 .1 .1 .1 .1 .1 .1 .1 .1 .1 .0
 
 returns : tie.Need-returns
 returns c =
@@ -253,10 +252,10 @@ returns c =
     let kept = at-update-stats-until .update-stats-until .kept .1 .1 .1 .1 .1 .1 .1 .1 .1 .1 .1 .1 .1 .1 .1 .1 .1 .1 in (
       ap (λ (x : Stats). x .num-frames) (left .1),
       rooms-over (after start) (rooms start .estimate)
-          (lent-over _ _ _ (kept .0 ∙ length-take-le _ _ (fits .cmvn-fits)) (left .0))
-          (lent-over _ _ _ (kept .1 .1 .0 ∙ length-take-le _ _ (fits .linear-fits)) (ap (λ (x : Stats). x .linear) (left .1)))
-          (lent-over _ _ _ (kept .1 .1 .1 .0 ∙ length-take-le _ _ (fits .quadratic-fits)) (ap (λ (x : Stats). x .quadratic) (left .1)))
-          (lent-over _ _ _ (kept .1 .1 .1 .1 .0 ∙ length-take-le _ _ (fits .current-fits)) (left .2)),
+          (lent-over _ _ _ (kept .0 ∙ length-take-le _ _ (fits .cmvn-fits)) {ys = after start .cmvn} (left .0))
+          (lent-over _ _ _ (kept .1 .1 .0 ∙ length-take-le _ _ (fits .linear-fits)) {ys = after start .stats .linear} (ap (λ (x : Stats). x .linear) (left .1)))
+          (lent-over _ _ _ (kept .1 .1 .1 .0 ∙ length-take-le _ _ (fits .quadratic-fits)) {ys = after start .stats .quadratic} (ap (λ (x : Stats). x .quadratic) (left .1)))
+          (lent-over _ _ _ (kept .1 .1 .1 .1 .0 ∙ length-take-le _ _ (fits .current-fits)) {ys = after start .current} (left .2)),
       left .3,
     )
 

@@ -52,7 +52,7 @@ same-length-3 : tie.Need-same-length-3
 same-length-3 c =
     let at-recompute = before-slice-known8 c in
     let at-weighted-rows = before-dot (before-dot2 (before-add-scaled (before-add-scaled2 (before-dot3 ((before-recompute at-recompute) .before))))) in
-    (at-recompute .recompute) .kept .1 .1 .1 .1 .1 .0 ∙ (at-weighted-rows .weighted-rows) .kept .1 .1 .1 .1 .0
+    (at-recompute .recompute) .kept .1 .1 .1 .1 .1 .0 ∙ (at-weighted-rows .weighted-rows) .kept .1 .1 .1 .1 .1 .0
 
 returns : tie.Need-returns
 returns c =

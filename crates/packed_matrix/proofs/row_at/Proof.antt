@@ -1,4 +1,4 @@
--- `packed_matrix::row_at` meets its contract: the part that is lent is row k, and s long (`lent-is`, `length-lent` in loops/proofs/Parts.antt).
+-- `packed_matrix::row_at` meets its contract: the part that is lent is the front of row k, and w long (`lent-is`, `length-lent` in loops/proofs/Parts.antt).
 use borrow.Author.Needs.{needs}
 use mathlib.Core.Path.{refl}
 use Prim.Native.Nat.{_+_, _*_}
@@ -12,7 +12,7 @@ unfolding tableRow
 returns c =
     let a = c .before .args in
     let from = a .k * a .s in
-    (lent-is from (a .s) (from + a .s) (a .table .now) refl, length-lent from (a .s) (from + a .s) (a .table .now) refl (c .before .pre))
+    (lent-is from (a .w) (from + a .w) (a .table .now) refl, length-lent from (a .w) (from + a .w) (a .table .now) refl (c .before .pre))
 
 pub row-at-spec : {M : Type 1} → statement M
 row-at-spec =

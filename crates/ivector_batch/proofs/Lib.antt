@@ -1,0 +1,3 @@
+-- Laws of a batch: its places, for the statistics too; its NaNs.
+pub mod Places
+mod Counted

@@ -1,0 +1,2 @@
+-- What a batch of frames adds.
+pub mod Steps
