@@ -43,6 +43,15 @@ module _ {A : Type 0} where
   pub slid-end : (j n : ℕ) (p : A) (z : List A) {y : List A} → n ≤ j → slid j n p z ≡ y → z ≡ y
   slid-end j n p z h e = sym (slid-past j n p z h) ∙ e
 
+  pub length-slid : (j n : ℕ) (p : A) (z : List A) → length (slid j n p z) ≡ length z
+  unfolding slid
+  length-slid zero zero p z = refl
+  length-slid zero (suc n) p [] = refl
+  length-slid zero (suc n) p (q ∷ z) = ap suc (length-slid zero n q z)
+  length-slid (suc j) zero p z = refl
+  length-slid (suc j) (suc n) p [] = refl
+  length-slid (suc j) (suc n) p (q ∷ z) = ap suc (length-slid j n p z)
+
   -- ---- from the last on: with the place at j held twice, those behind it have moved up
 
   slid-own : (d : A) (j : ℕ) (z : List A) → j < length z → z ≡ slid j (suc j) (getD z j d) z
@@ -82,16 +91,20 @@ module _ {A : Type 0} where
   slid-twice d (suc j) (suc n) [] h l = absurd (not-suc-le-zero l)
   slid-twice d (suc j) (suc n) (q ∷ z) h l = ap (λ (r : List A). q ∷ r) (slid-twice d j n z (le-of-suc-le-suc h) (le-of-suc-le-suc l))
 
-  pub back-at : (d : A) (j n : ℕ) (x : A) (z : List A) {y : List A} → 0 < j → y ≡ slid j n x z → getD y (j - 1) d ≡ getD z (j - 1) d
-  back-at d j n x z h e = ap (λ (r : List A). getD r (j - 1) d) e ∙ slid-before d j n x z (j - 1) (omega arith)
+  pub back-in : (d : A) (j n : ℕ) (x : A) (z : List A) (k : ℕ) {y : List A} → k < j → y ≡ slid j n x z → getD y k d ≡ getD z k d
+  back-in d j n x z k h e = ap (λ (r : List A). getD r k d) e ∙ slid-before d j n x z k h
 
   pub back-turn : (d : A) (j n : ℕ) (x : A) (z : List A) {y : List A} → 0 < j → j < n → j < length z → y ≡ slid j n x z
       → set y j (getD y (j - 1) d) ≡ slid (j - 1) n (getD z (j - 1) d) z
   back-turn d j n x z {y} h l g e =
       let o : suc (j - 1) ≡ j = omega arith in
       let v : A = getD z (j - 1) d in
-      ap (set y j) (back-at d j n x z h e) ∙ ap (λ (r : List A). set r j v) e ∙ slid-set j n x v z l ∙ sym (ap (λ (i : ℕ). slid i n v z) o)
+      ap (set y j) (back-in d j n x z (j - 1) (omega arith) e) ∙ ap (λ (r : List A). set r j v) e ∙ slid-set j n x v z l ∙ sym (ap (λ (i : ℕ). slid i n v z) o)
       ∙ slid-twice d (j - 1) n z (omega arith) (omega arith)
+
+  -- a turn at place k, which leads to place m
+  pub back-step : (d : A) (k m n : ℕ) (x : A) (z : List A) {y y₁ : List A} → m + 1 ≡ k → k < n → k < length z → y ≡ slid k n x z → y₁ ≡ set y k (getD y (k - 1) d) → y₁ ≡ slid m n (getD z m d) z
+  back-step d k m n x z o l g e f = let i : m ≡ k - 1 = omega arith in rw i (f ∙ back-turn d k n x z (omega arith) l g e)
 
   pub back-end : (j n : ℕ) (x p : A) (z : List A) {y : List A} → j < n → y ≡ slid j n x z → set y j p ≡ slid j n p z
   back-end j n x p z h e = ap (λ (r : List A). set r j p) e ∙ slid-set j n x p z h

@@ -2,8 +2,8 @@
 use mathlib.Core.Path.{_≡_}
 use mathlib.Core.Bool.{true, false}
 use mathlib.Core.List.{List, [], _∷_, zipWith}
-use Prim.Native.Nat.{ℕ, zero, suc, _<_, _≤_}
-use lib.ListN.{take}
+use Prim.Native.Nat.{ℕ, zero, suc, _+_, _<_, _≤_}
+use lib.ListN.{getD, take}
 use lib.Ieee.{Float}
 use Rattle.floats.specs.Operators.{at}
 use Rattle.definition.specs.Posteriors.{Post, ahead}
@@ -33,3 +33,10 @@ pub record Place (p : Float) (n : ℕ) (posts : List Float) (r : ℕ) : Type 0 w
   pub most : r ≤ n
   pub front : (k : ℕ) → k < r → ahead (0, p) (0, at posts k) ≡ false
   pub here : r < n → ahead (0, p) (0, at posts r) ≡ true
+
+-- those behind place r, up to `last`, have moved up by one, and p is ahead of the one at r, if it is one of the first `last`
+pub record Moved (p : Float) (last r : ℕ) (chosen : List ℕ) (posts : List Float) (chosen₁ : List ℕ) (posts₁ : List Float) : Type 0 where
+  pub most : r ≤ last
+  pub gauss : chosen₁ ≡ slid r (last + 1) (getD chosen r 0) chosen
+  pub values : posts₁ ≡ slid r (last + 1) (at posts r) posts
+  pub here : r < last → ahead (0, p) (0, at posts r) ≡ true

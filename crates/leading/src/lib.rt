@@ -2,11 +2,11 @@
 ghost use mathlib.Core.Path.{_≡_};
 ghost use mathlib.Core.Bool.{true, false};
 ghost use Prim.Native.Nat.{ℕ, _+_, _-_, _<_, _≤_};
-ghost use lib.ListN.{length, take};
+ghost use lib.ListN.{length, getD, set, take};
 ghost use Rattle.loops.specs.Lists.{those};
 ghost use Rattle.floats.specs.Operators.{f32, at};
 ghost use Rattle.definition.specs.Posteriors.{ahead as isAhead, insert as insertOf};
-ghost use Rattle.leading.specs.Steps.{held, Falling, Place, slid};
+ghost use Rattle.leading.specs.Steps.{held, Falling, Place, Moved, slid};
 
 // Whether the posterior p is ahead of q: larger; a NaN stands last.
 fn ahead(p: f32, q: f32) -> bool
@@ -62,8 +62,48 @@ fn enters(p: f32, n: usize, posts: &[f32]) -> bool
     ahead(p, posts[n - 1])
 }
 
+// The Gaussian in front of place j, put down at j too.
+fn up_gauss(j: usize, chosen: &mut [usize])
+    requires { ⌜ (0 < j) × (j < length (now chosen)) ⌝ }
+    ensures { λ _. ⌜ now (chosen .exit) ≡ set (now (chosen .entry)) j (getD (now (chosen .entry)) (j - 1) 0) ⌝ }
+{
+    chosen[j] = chosen[j - 1];
+}
+
+// The posterior in front of place j, put down at j too.
+fn up_post(j: usize, posts: &mut [f32])
+    requires { ⌜ (0 < j) × (j < length (now posts)) ⌝ }
+    ensures { λ _. ⌜ now (posts .exit) ≡ set (now (posts .entry)) j (at (now (posts .entry)) (j - 1)) ⌝ }
+{
+    posts[j] = posts[j - 1];
+}
+
+// From place `last` on towards the front, those that p is ahead of moved up by one, four at a time: the one at the answer stands there twice.
+fn fours(p: f32, last: usize, chosen: &mut [usize], posts: &mut [f32]) -> usize
+    requires { ⌜ (last < length (now chosen)) × (last < length (now posts)) ⌝ }
+    ensures { λ r. ⌜ Moved p last r (now (chosen .entry)) (now (posts .entry)) (now (chosen .exit)) (now (posts .exit)) ⌝ }
+{
+    let mut j = last;
+    while j > 3 {
+        if ahead(p, posts[j - 4]) {
+            up_gauss(j, chosen);
+            up_gauss(j - 1, chosen);
+            up_gauss(j - 2, chosen);
+            up_gauss(j - 3, chosen);
+            up_post(j, posts);
+            up_post(j - 1, posts);
+            up_post(j - 2, posts);
+            up_post(j - 3, posts);
+            j -= 4;
+        } else {
+            return j;
+        }
+    }
+    j
+}
+
 // Gaussian g and its posterior p put down where p belongs among the first `last`, behind its equals; those behind it move up by one, to `last` at most.
-// At the front, or by a walk from the last on, which moves those that it passes. The answer is the place.
+// At the front, or by a walk from the last on, which moves those that it passes, four at a time while it can. The answer is the place.
 fn settle(g: usize, p: f32, last: usize, chosen: &mut [usize], posts: &mut [f32]) -> usize
     requires { ⌜ (last < length (now chosen)) × (last < length (now posts)) × Falling last (now posts) ⌝ }
     ensures { λ r. ⌜ (now (chosen .exit) ≡ slid r (last + 1) g (now (chosen .entry))) × (now (posts .exit) ≡ slid r (last + 1) p (now (posts .entry))) × Place p last (now (posts .entry)) r ⌝ }
@@ -72,7 +112,7 @@ fn settle(g: usize, p: f32, last: usize, chosen: &mut [usize], posts: &mut [f32]
         slide(g, p, 0, last + 1, chosen, posts);
         return 0;
     }
-    let mut j = last;
+    let mut j = fours(p, last, chosen, posts);
     while j > 0 {
         let q = posts[j - 1];
         if ahead(p, q) {
