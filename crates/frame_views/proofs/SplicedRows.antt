@@ -2,7 +2,7 @@
 use mathlib.Core.Path.{_≡_, refl, sym, ap, _∙_}
 use mathlib.Core.Bool.{Bool, true, false}
 use mathlib.Core.List.{List}
-use Prim.Native.Nat.{ℕ, zero, suc, _+_, _-_, _*_, _≤_, min}
+use Prim.Native.Nat.{ℕ, zero, suc, _+_, _-_, _*_, _≤_, _<_, min}
 use native.Mathlib.Nat.{zero-mul, suc-mul}
 use native.Mathlib.Omega.{arith}
 use lib.ListN.{length, take, drop, length-append}
@@ -48,6 +48,20 @@ module _ (o : IvectorOptions) (dim : ℕ) (global : List Float) (F : Frames) (t 
 pub splice-at-on : (o : IvectorOptions) (accepted t n : ℕ) {m r : ℕ} → m ≡ t + n - o .«left_context» → r ≡ min m (accepted - 1) → r ≡ spliceAt o accepted t n
 unfolding spliceAt
 splice-at-on o accepted t n e h = rw e at h
+
+-- the first place's frame, and that of the next place: the same one, or the one after it
+module _ (o : IvectorOptions) (accepted t : ℕ) where
+  pub splice-first : {u : ℕ} → t < accepted → u ≡ t - o .«left_context» → u ≡ spliceAt o accepted t 0
+  unfolding spliceAt
+  splice-first h e = omega (arith, h, e)
+
+  pub splice-next : (n : ℕ) {u v : ℕ} → u ≡ spliceAt o accepted t n → v ≡ spliceAt o accepted t (n + 1) → (u ≤ v) × (v ≤ u + 1)
+  unfolding spliceAt
+  splice-next n e f = (omega (arith, e, f), omega (arith, e, f))
+
+  pub splice-under : (n : ℕ) {u : ℕ} → t < accepted → u ≡ spliceAt o accepted t n → u < accepted
+  unfolding spliceAt
+  splice-under n h e = omega (arith, h, e)
 
 -- ---- the loop of fetches
 

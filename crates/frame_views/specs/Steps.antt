@@ -1,12 +1,27 @@
 -- What inner functions ask and leave. Not for readers.
-use Prim.Native.Nat.{ℕ}
-use mathlib.Core.Bool.{Bool}
+use mathlib.Core.Path.{_≡_}
+use Prim.Native.Nat.{ℕ, _+_, _-_, _<_}
+use mathlib.Core.Bool.{Bool, true}
 use mathlib.Core.List.{List, [], _++_}
+use lib.ListN.{length}
 use lib.Ieee.{Float}
 use Rattle.loops.specs.Loop.{iter}
+use Rattle.loops.specs.Ring.{rowsIn, place}
 use Rattle.loops.specs.Lists.{if_then_else_, build}
 use Rattle.definition.specs.declared.IvectorOptions.{IvectorOptions}
+use Rattle.program.specs.Rooms.{ringAt}
 use Rattle.definition.specs.Views.{Frames, cmvnState, cmvnFrame, spliceAt}
+
+-- what is taken of a ring from `start` on: row t, if that is where it begins
+pub record RowAt (dim start : ℕ) (room row : List Float) : Type 0 where
+  pub long : length row ≡ dim
+  pub is : (t : ℕ) → 0 < rowsIn (length room) dim → start ≡ place (length room) dim t → row ≡ build dim (ringAt dim room t)
+
+-- where frame t begins in its ring, and where the prefix rows at the ends of its window do, if it is to be normalised
+pub record Placed (o : IvectorOptions) (dim : ℕ) (normalized : Bool) (t here high low : ℕ) (frames rows : List Float) : Type 0 where
+  pub frame : here ≡ place (length frames) dim t
+  pub last : normalized ≡ true → high ≡ place (length rows) dim (t + 1)
+  pub first : normalized ≡ true → low ≡ place (length rows) dim (t + 1 - o .«cmn_window»)
 
 -- a fetch of frame t for a spliced row: the CMVN state that it leaves, and what it adds to the row
 unfoldable pub fetched : IvectorOptions → ℕ → List Float → Frames → Bool → ℕ → List Float → List Float

@@ -4,16 +4,17 @@
 use basics::add_scaled;
 use basics::difference;
 use basics::less;
+use basics::row_after;
 use basics::row_place;
 use basics::smaller;
 use definition::IvectorOptions;
 ghost use mathlib.Core.Path.{_≡_};
 ghost use mathlib.Core.Bool.{true};
-ghost use Prim.Native.Nat.{_+_, _-_, _*_, _<_, _≤_};
+ghost use Prim.Native.Nat.{ℕ, _+_, _-_, _*_, _<_, _≤_};
 ghost use lib.ListN.{length, take};
 ghost use lib.Ieee.{lt};
 ghost use Rattle.loops.specs.Lists.{if_then_else_, build};
-ghost use Rattle.loops.specs.Ring.{rowsIn};
+ghost use Rattle.loops.specs.Ring.{rowsIn, place};
 ghost use Rattle.loops.specs.Steps.{fill};
 ghost use Rattle.floats.specs.Operators.{_-₃₂_, _*₃₂_, _/₆₄_, at, sum₃₂};
 ghost use Rattle.floats.specs.Narrow.{narrowed};
@@ -21,24 +22,22 @@ ghost use Rattle.definition.specs.Options.{width};
 ghost use Rattle.definition.specs.Views.{smoothed, windowed, cmvnState, cmvnFrame, spliceAt, ldaFrame};
 ghost use Rattle.program.specs.Rooms.{ringAt, ringFrames};
 ghost use Rattle.frame_views.specs.Rows.{Lent, splicedRow};
-ghost use Rattle.frame_views.specs.Steps.{fetched, viewed};
+ghost use Rattle.frame_views.specs.Steps.{RowAt, Placed, fetched, viewed};
 
-// Frame t.
-fn frame(frames: &[f32], dim: usize, t: usize) -> &[f32]
-    requires { ⌜ (0 < dim) × (0 < rowsIn (length (now frames)) dim) ⌝ }
-    ensures { λ r. ⌜ (now r ≡ build dim (ringAt dim (now (frames .entry)) t)) × (length (now r) ≡ dim) ⌝ }
+// The frame that begins at `start`.
+fn frame(frames: &[f32], dim: usize, start: usize) -> &[f32]
+    requires { ⌜ start + dim ≤ length (now frames) ⌝ }
+    ensures { λ r. ⌜ RowAt dim start (now (frames .entry)) (now r) ⌝ }
 {
-    let start = row_place(frames.len(), dim, t);
     let end = start + dim;
     &frames[start..end]
 }
 
-// Prefix row t: the sum of the frames before frame t.
-fn prefix(rows: &[f64], dim: usize, t: usize) -> &[f64]
-    requires { ⌜ (0 < dim) × (0 < rowsIn (length (now rows)) dim) ⌝ }
-    ensures { λ r. ⌜ (now r ≡ build dim (ringAt dim (now (rows .entry)) t)) × (length (now r) ≡ dim) ⌝ }
+// The prefix row that begins at `start`; row t is the sum of the frames before frame t.
+fn prefix(rows: &[f64], dim: usize, start: usize) -> &[f64]
+    requires { ⌜ start + dim ≤ length (now rows) ⌝ }
+    ensures { λ r. ⌜ RowAt dim start (now (rows .entry)) (now r) ⌝ }
 {
-    let start = row_place(rows.len(), dim, t);
     let end = start + dim;
     &rows[start..end]
 }
@@ -49,19 +48,21 @@ fn cmvn_window(
     dim: usize,
     accepted: usize,
     t: usize,
+    here: usize,
+    high: usize,
+    low: usize,
     frames: &[f32],
     rows: &[f64],
     cmvn: &mut [f64],
 )
     requires { ⌜ (0 < dim) × (0 < rowsIn (length (now frames)) dim) × (0 < rowsIn (length (now rows)) dim) × (length (now cmvn) ≡ dim + 1) × (t < 1000000000) ⌝ }
+    requires { ⌜ Placed o dim true t here high low (now frames) (now rows) ⌝ }
     ensures { λ _. ⌜ now (cmvn .exit) ≡ (if lt (o .«min_energy») (ringAt dim (now (frames .entry)) t 0) then windowed o dim (ringFrames dim accepted (now (frames .entry)) (now (rows .entry))) t else now (cmvn .entry)) ⌝ }
 {
-    let raw = frame(frames, dim, t);
+    let raw = frame(frames, dim, here);
     if raw[0] > o.min_energy {
         let lo = less(t + 1, o.cmn_window);
-        let high = prefix(rows, dim, t + 1);
-        let low = prefix(rows, dim, lo);
-        difference(high, low, dim, cmvn);
+        difference(prefix(rows, dim, high), prefix(rows, dim, low), dim, cmvn);
         cmvn[dim] = std::num::nearest_u64_to_f64((t + 1 - lo) as u64);
     }
 }
@@ -96,11 +97,14 @@ fn raw_less_mean(raw: &[f32], cmvn: &[f64], dim: usize, out: &mut [f32])
 
 // The normalised frame t. The window is taken anew only for a frame whose raw c0 is above `min_energy`; a quieter
 // one goes by what the fetch before it left, and smooths that again.
-pub fn cmvn_frame(
+fn cmvn_frame(
     o: IvectorOptions,
     dim: usize,
     accepted: usize,
     t: usize,
+    here: usize,
+    high: usize,
+    low: usize,
     global: &[f64],
     frames: &[f32],
     rows: &[f64],
@@ -108,31 +112,31 @@ pub fn cmvn_frame(
     out: &mut [f32],
 )
     requires { ⌜ Lent dim accepted (now global) (now frames) (now rows) (now cmvn) ⌝ }
-    requires { ⌜ (t < accepted) × (length (now out) ≡ dim) ⌝ }
+    requires { ⌜ (t < accepted) × (length (now out) ≡ dim) × Placed o dim true t here high low (now frames) (now rows) ⌝ }
     ensures { λ _. ⌜ (now (cmvn .exit) ≡ cmvnState o dim (now (global .entry)) (ringFrames dim accepted (now (frames .entry)) (now (rows .entry))) t (now (cmvn .entry)))
         × (now (out .exit) ≡ cmvnFrame dim (ringFrames dim accepted (now (frames .entry)) (now (rows .entry))) t (now (cmvn .exit))) ⌝ }
 {
-    cmvn_window(o, dim, accepted, t, frames, rows, cmvn);
+    cmvn_window(o, dim, accepted, t, here, high, low, frames, rows, cmvn);
     cmvn_smooth(o, dim, global, cmvn);
-    let raw = frame(frames, dim, t);
+    let raw = frame(frames, dim, here);
     raw_less_mean(raw, cmvn, dim, out);
 }
 
-// What frame t adds to a spliced row: a part of the raw store, or of the normalised row.
+// What a frame adds to a spliced row: a part of the raw store, from `here` on, or of the normalised row.
 fn spliced_row<'a>(
     frames: &'a [f32],
     view: &'a [f32],
     normalized: bool,
     dim: usize,
-    t: usize,
+    here: usize,
 ) -> &'a [f32]
-    requires { ⌜ (0 < dim) × (0 < rowsIn (length (now frames)) dim) × (length (now view) ≡ dim) ⌝ }
-    ensures { λ r. ⌜ (now r ≡ (if normalized then take dim (now (view .entry)) else build dim (ringAt dim (now (frames .entry)) t))) × (length (now r) ≡ dim) ⌝ }
+    requires { ⌜ (here + dim ≤ length (now frames)) × (0 < rowsIn (length (now frames)) dim) × (length (now view) ≡ dim) ⌝ }
+    ensures { λ r. ⌜ ((t : ℕ) → here ≡ place (length (now (frames .entry))) dim t → now r ≡ (if normalized then take dim (now (view .entry)) else build dim (ringAt dim (now (frames .entry)) t))) × (length (now r) ≡ dim) ⌝ }
 {
     if normalized {
         return &view[..dim];
     }
-    frame(frames, dim, t)
+    frame(frames, dim, here)
 }
 
 // Frame t, if it is to be normalised: the CMVN state that its fetch leaves, and its view.
@@ -141,6 +145,9 @@ fn fetch_frame(
     dim: usize,
     accepted: usize,
     t: usize,
+    here: usize,
+    high: usize,
+    low: usize,
     normalized: bool,
     global: &[f64],
     frames: &[f32],
@@ -149,12 +156,25 @@ fn fetch_frame(
     view: &mut [f32],
 )
     requires { ⌜ Lent dim accepted (now global) (now frames) (now rows) (now cmvn) ⌝ }
-    requires { ⌜ (t < accepted) × (length (now view) ≡ dim) ⌝ }
+    requires { ⌜ (t < accepted) × (length (now view) ≡ dim) × Placed o dim normalized t here high low (now frames) (now rows) ⌝ }
     ensures { λ _. ⌜ (now (cmvn .exit) ≡ fetched o dim (now (global .entry)) (ringFrames dim accepted (now (frames .entry)) (now (rows .entry))) normalized t (now (cmvn .entry)))
         × (normalized ≡ true → now (view .exit) ≡ cmvnFrame dim (ringFrames dim accepted (now (frames .entry)) (now (rows .entry))) t (now (cmvn .exit))) ⌝ }
 {
     if normalized {
-        cmvn_frame(o, dim, accepted, t, global, frames, rows, cmvn, view);
+        cmvn_frame(
+            o,
+            dim,
+            accepted,
+            t,
+            here,
+            high,
+            low,
+            global,
+            frames,
+            rows,
+            cmvn,
+            view,
+        );
     }
 }
 
@@ -164,6 +184,9 @@ fn add_frame(
     dim: usize,
     accepted: usize,
     t: usize,
+    here: usize,
+    high: usize,
+    low: usize,
     normalized: bool,
     global: &[f64],
     frames: &[f32],
@@ -174,7 +197,7 @@ fn add_frame(
     out: &mut [f32],
 )
     requires { ⌜ Lent dim accepted (now global) (now frames) (now rows) (now cmvn) ⌝ }
-    requires { ⌜ (t < accepted) × (length (now view) ≡ dim) × (dim * length (now out) ≤ length (now part)) ⌝ }
+    requires { ⌜ (t < accepted) × (length (now view) ≡ dim) × (dim * length (now out) ≤ length (now part)) × Placed o dim normalized t here high low (now frames) (now rows) ⌝ }
     ensures { λ _. ⌜ (now (cmvn .exit) ≡ fetched o dim (now (global .entry)) (ringFrames dim accepted (now (frames .entry)) (now (rows .entry))) normalized t (now (cmvn .entry)))
         × (now (out .exit) ≡ fill (length (now (out .entry))) (λ r. sum₃₂ (at (now (out .entry)) r) dim (λ c. at (now (part .entry)) (c * length (now (out .entry)) + r) *₃₂ at (viewed dim (ringFrames dim accepted (now (frames .entry)) (now (rows .entry))) normalized t (now (cmvn .exit))) c)) (now (out .entry))) ⌝ }
 {
@@ -183,6 +206,9 @@ fn add_frame(
         dim,
         accepted,
         t,
+        here,
+        high,
+        low,
         normalized,
         global,
         frames,
@@ -190,7 +216,7 @@ fn add_frame(
         cmvn,
         view,
     );
-    let row = spliced_row(frames, view, normalized, dim, t);
+    let row = spliced_row(frames, view, normalized, dim, here);
     table_sums::add_rows(part, row, false, dim, out);
 }
 
@@ -212,8 +238,50 @@ fn copy_offset(offset: &[f32], n: usize, out: &mut [f32])
     }
 }
 
+// Where the prefix row `back` rows before the one after frame u begins; any place where the frame is not to be normalised.
+fn first_prefix(normalized: bool, back: usize, numbers: usize, dim: usize, u: usize) -> usize
+    requires { ⌜ (0 < dim) × (0 < rowsIn numbers dim) × (u < 1000000000) ⌝ }
+    ensures { λ r. ⌜ (normalized ≡ true → r ≡ place numbers dim (u + 1 - back)) ⌝ }
+{
+    if normalized {
+        return row_place(numbers, dim, less(u + 1, back));
+    }
+    0
+}
+
+// From where row t begins to where row v does, which is t or the one after it: a step and a wrap, or none.
+fn next_place(numbers: usize, dim: usize, here: usize, t: usize, v: usize) -> usize
+    requires { ⌜ (0 < dim) × (dim ≤ 64) × (0 < rowsIn numbers dim) × (t ≤ v) × (v ≤ t + 1) × (here ≡ place numbers dim t) ⌝ }
+    ensures { λ r. ⌜ r ≡ place numbers dim v ⌝ }
+{
+    if v > t {
+        return row_after(numbers, dim, here);
+    }
+    here
+}
+
+// The same from frame u's prefix row to frame v's.
+fn next_prefix(
+    normalized: bool,
+    back: usize,
+    numbers: usize,
+    dim: usize,
+    here: usize,
+    u: usize,
+    v: usize,
+) -> usize
+    requires { ⌜ (0 < dim) × (dim ≤ 64) × (0 < rowsIn numbers dim) × (u ≤ v) × (v ≤ u + 1) × (v < 1000000000) × (normalized ≡ true → here ≡ place numbers dim (u + 1 - back)) ⌝ }
+    ensures { λ r. ⌜ (normalized ≡ true → r ≡ place numbers dim (v + 1 - back)) ⌝ }
+{
+    if normalized {
+        return next_place(numbers, dim, here, less(u + 1, back), less(v + 1, back));
+    }
+    here
+}
+
 // The spliced and LDA-transformed frame t, from raw frames or from normalised ones. The spliced row is nowhere put together: at
-// each place of it, the frame's numbers are added where they lie. A repeated frame is fetched again.
+// each place of it, the frame's numbers are added where they lie. A repeated frame is fetched again. Where the frames and their windows begin in
+// the rings is found once, for the first place; from place to place it is a step and a wrap.
 pub fn lda_frame(
     o: IvectorOptions,
     dim: usize,
@@ -239,8 +307,12 @@ pub fn lda_frame(
     let size = dim * d;
     let mut view = [0.0f32; 64];
     copy_offset(lda_offset, d, out);
+    let window = o.cmn_window;
+    let mut u = less(t, o.left_context);
+    let mut here = row_place(frames.len(), dim, u);
+    let mut high = first_prefix(normalized, 0, rows.len(), dim, u);
+    let mut low = first_prefix(normalized, window, rows.len(), dim, u);
     for n in 0..width {
-        let u = splice_at(o, accepted, t, n);
         let start = n * size;
         let end = start + size;
         add_frame(
@@ -248,6 +320,9 @@ pub fn lda_frame(
             dim,
             accepted,
             u,
+            here,
+            high,
+            low,
             normalized,
             global,
             frames,
@@ -257,5 +332,10 @@ pub fn lda_frame(
             &mut view[..dim],
             out,
         );
+        let v = splice_at(o, accepted, t, n + 1);
+        here = next_place(frames.len(), dim, here, u, v);
+        high = next_prefix(normalized, 0, rows.len(), dim, high, u, v);
+        low = next_prefix(normalized, window, rows.len(), dim, low, u, v);
+        u = v;
     }
 }

@@ -6,6 +6,15 @@ use Rattle.frame_views.proofs.SplicedRows.{fetched-true, fetched-false}
 use Rattle.frame_views.proofs.fetch_frame.Statement.{statement}
 use Rattle.frame_views.proofs.fetch_frame.Tie as tie
 
+cmvn-frame-requires : tie.Need-cmvn-frame-requires
+cmvn-frame-requires c κs =
+    let at-if1 = c .before .before in
+    let start = at-if1 .before .before .before .before .before .before in
+    let q = start .pre in
+    let placed = q .1 .2 in
+    let normal = at-if1 .if1 .taken in
+    (q .0, (q .1 .0, q .1 .1, record { frame = placed .frame; last = λ e. placed .last normal; first = λ e. placed .first normal }))
+
 returns : tie.Need-returns
 returns c =
     let at-cmvn-frame = c .before .before .before .before in
@@ -19,4 +28,4 @@ returns-2 c = (fetched-false _ _ _ _ _ _ (c .if1 .left), λ e. absurd (true≢fa
 pub fetch-frame-spec : {M : Type 1} → statement M
 fetch-frame-spec =
     tie.close
-    (tie.spec (λ c κs. search needs) (λ c. search needs) (λ c. search needs) returns returns-2)
+    (tie.spec cmvn-frame-requires (λ c. search needs) (λ c. search needs) returns returns-2)

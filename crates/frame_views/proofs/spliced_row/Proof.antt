@@ -11,10 +11,10 @@ slice-aggregate-result : tie.Need-slice-aggregate-result
 slice-aggregate-result c = sym (length-take-le _ _ (omega arith))
 
 returns : tie.Need-returns
-returns c = (choose-true _ (c .before .if1 .taken) refl, length-take-le _ _ (omega arith))
+returns c = (λ t e. choose-true _ (c .before .if1 .taken) refl, length-take-le _ _ (omega arith))
 
 returns-2 : tie.Need-returns-2
-returns-2 c = (choose-false _ (c .before .if1 .left) (c .frame .ensures .0), c .frame .ensures .1)
+returns-2 c = (λ t e. choose-false _ (c .before .if1 .left) (c .frame .ensures .is t (c .before .before .before .before .pre .1) e), c .frame .ensures .long)
 
 pub spliced-row-spec : {M : Type 1} → statement M
 spliced-row-spec =
