@@ -1,5 +1,4 @@
--- Laws of the exported answers, and of the walks of calls on records behind a reference.
-pub mod Answered
+-- Laws of a load with settings, and of the walks of calls on records behind a reference.
 pub mod Left
 pub mod WithSettings
 pub mod Lent

@@ -13,8 +13,9 @@ use Rattle.definition.specs.Model.{Files, Model, load}
 use Rattle.ivector_info.specs.Load.{scratchKept}
 use Rattle.settings.specs.declared.Settings.the-variants as S
 use Rattle.settings.specs.Settings.{plain, settingsOf, settingsRead, loadWith}
+use Rattle.answers.specs.Answers.{noOptions}
 use Rattle.exports.specs.declared.SettingsAnswer.{SettingsAnswer}
-use Rattle.exports.specs.Answers.{noOptions, settingsAnswer}
+use Rattle.exports.specs.Answers.{settingsAnswer}
 
 -- ---- the settings' answer as a record
 

@@ -1,2 +1,2 @@
--- The exported answers: records in place of enums.
+-- The exported answers of the settings and of calls on a silence table: records in place of enums.
 pub mod Answers

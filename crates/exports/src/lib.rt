@@ -2,22 +2,18 @@
 // is the plain call's. A record stays where the host keeps it: a call on it takes it behind a reference and stores the numbers that can
 // change, and its contract says the whole record at exit. Enums stay inside: an answer is a record with the refusal's number.
 // The C side is include/shofrakin.h.
+use answers::LoadAnswer;
+use answers::NewTableAnswer;
 use definition::DecoderFrame;
 use definition::Dimensions;
-use definition::EstimateLengths;
 use definition::InputFrame;
 use definition::IvectorInfo;
 use definition::IvectorOptions;
 use definition::IvectorStream;
 use definition::Loaded;
-use definition::NewStream;
-use definition::NewTable;
-use definition::RingLengths;
-use definition::RoomLengths;
 use definition::SilenceWeighting;
 use definition::StreamAnswer;
 use definition::StreamCall;
-use definition::TableLengths;
 use memory::DimensionsAnswer;
 use memory::RoomsAnswer;
 use memory::TablesAnswer;
@@ -47,21 +43,8 @@ ghost use Rattle.settings.specs.Settings.{settingsOf, loadWith};
 ghost use Rattle.memory.specs.Memory.{dimensionsOf, dimensionsAnswer, tablesNeeded, roomsNeeded};
 ghost use Rattle.trigger.specs.Round.{Utterance, Voices, Bench, bench, Round, round as roundOf, worked, roundOutcome};
 ghost use Rattle.ivector_info.specs.Load.{filesOf, scratchKept};
-ghost use Rattle.exports.specs.Answers.{loadAnswer, noInfo, noOptions, settingsAnswer, answered, newStreamAnswer, newTableAnswer, counted, noStream, noTable};
-
-// The answer of a load: the record where the refusal is 0, else one that no fresh stream takes.
-#[repr(C)]
-pub struct LoadAnswer {
-    pub refusal: usize,
-    pub info: IvectorInfo,
-}
-
-// The answer where a silence table is made: the record where the refusal is 0, else one that every call refuses with 10.
-#[repr(C)]
-pub struct NewTableAnswer {
-    pub refusal: usize,
-    pub silence: SilenceWeighting,
-}
+ghost use Rattle.answers.specs.Answers.{loadAnswer, answered, newStreamAnswer, newTableAnswer};
+ghost use Rattle.exports.specs.Answers.{settingsAnswer, counted};
 
 // The answer of a call on a silence table: the refusal, and how many changes it gives.
 #[repr(C)]
@@ -77,48 +60,6 @@ pub struct StepAnswer {
 }
 
 // ---- load
-
-// The record beside a refusal: it has no dimension.
-fn no_info(opts: IvectorOptions) -> IvectorInfo
-    ensures { λ r. ⌜ r ≡ noInfo opts ⌝ }
-{
-    IvectorInfo {
-        opts,
-        dims: Dimensions {
-            num_gauss: 0,
-            ext_gauss: 0,
-            feat_dim: 0,
-            ivector_dim: 0,
-            base_dim: 0,
-            lda_cols: 0,
-        },
-        prior_offset: 0.0,
-        tables: TableLengths {
-            gconsts: 0,
-            means_invvars_t: 0,
-            inv_vars_t: 0,
-            sigma_inv_m: 0,
-            u: 0,
-            lda_t: 0,
-            lda_offset: 0,
-            global_mean_stats: 0,
-        },
-    }
-}
-
-fn load_answer(opts: IvectorOptions, a: Loaded) -> LoadAnswer
-    ensures { λ r. ⌜ r ≡ loadAnswer opts a ⌝ }
-{
-    match a {
-        Loaded::Model(info) => {
-            return LoadAnswer { refusal: 0, info };
-        }
-        Loaded::Refused(refusal) => {
-            let info = no_info(opts);
-            return LoadAnswer { refusal, info };
-        }
-    }
-}
 
 // `ivector_info::load`.
 #[no_mangle]
@@ -163,7 +104,7 @@ pub extern "C" fn shofrakin_load(
         global_mean_stats,
         scratch,
     );
-    load_answer(opts, a)
+    answers::load_answer(opts, a)
 }
 
 // ---- the maker's settings
@@ -173,23 +114,6 @@ pub extern "C" fn shofrakin_load(
 pub struct SettingsAnswer {
     pub refusal: usize,
     pub opts: IvectorOptions,
-}
-
-fn no_options() -> IvectorOptions
-    ensures { λ r. ⌜ r ≡ noOptions ⌝ }
-{
-    IvectorOptions {
-        left_context: 0,
-        right_context: 0,
-        cmn_window: 0,
-        global_frames: 0,
-        num_gselect: 0,
-        num_cg_iters: 0,
-        min_post: 0.0,
-        posterior_scale: 0.0,
-        max_count: 0.0,
-        min_energy: 0.0,
-    }
 }
 
 // `settings::read_settings`.
@@ -202,7 +126,7 @@ pub extern "C" fn shofrakin_settings(splice: &[u8], online_cmvn: &[u8]) -> Setti
             return SettingsAnswer { refusal: 0, opts };
         }
         Settings::Refused(refusal) => {
-            let opts = no_options();
+            let opts = answers::no_options();
             return SettingsAnswer { refusal, opts };
         }
     }
@@ -241,7 +165,7 @@ pub extern "C" fn shofrakin_load_with_settings(
     let a = shofrakin_settings(splice, online_cmvn);
     let opts = a.opts;
     if a.refusal != 0 {
-        return load_answer(opts, Loaded::Refused(a.refusal));
+        return answers::load_answer(opts, Loaded::Refused(a.refusal));
     }
     shofrakin_load(
         opts,
@@ -300,65 +224,6 @@ pub extern "C" fn shofrakin_rooms_needed(
 
 // ---- a fresh stream
 
-// The record beside a refusal: no room fits it.
-fn no_stream(info: IvectorInfo) -> IvectorStream
-    ensures { λ r. ⌜ r ≡ noStream info ⌝ }
-{
-    let o = info.opts;
-    IvectorStream {
-        info,
-        lengths: RoomLengths {
-            rings: RingLengths {
-                frames: 0,
-                rows: 0,
-                waiting_frames: 0,
-                waiting_weights: 0,
-            },
-            estimate: EstimateLengths {
-                cmvn_stats: 0,
-                linear: 0,
-                quadratic: 0,
-                current: 0,
-                scratch: 0,
-            },
-        },
-        accepted: 0,
-        num_frames_stats: 0,
-        mark: 0,
-        waiting: 0,
-        past_highest: 0,
-        delta_weights_provided: false,
-        input_finished: false,
-        num_frames: 0.0,
-        floor: 0,
-        window: o.cmn_window,
-        longest: o.cmn_window,
-    }
-}
-
-fn stream_answer(info: IvectorInfo, a: NewStream) -> StreamCall
-    ensures { λ r. ⌜ r ≡ newStreamAnswer info a ⌝ }
-{
-    match a {
-        NewStream::Stream(call) => {
-            return call;
-        }
-        NewStream::Refused(refusal) => {
-            let stream = no_stream(info);
-            return StreamCall {
-                answer: StreamAnswer {
-                    refusal,
-                    frames_held: 0,
-                    rows_held: 0,
-                    not_finite: 0,
-                    nan_likelihoods: 0,
-                },
-                stream,
-            };
-        }
-    }
-}
-
 // `ivector_stream::new`.
 #[no_mangle]
 pub extern "C" fn shofrakin_new_stream(
@@ -411,7 +276,7 @@ pub extern "C" fn shofrakin_new_stream(
         current,
         scratch,
     );
-    stream_answer(info, a)
+    answers::stream_answer(info, a)
 }
 
 // ---- calls on a stream
@@ -640,36 +505,6 @@ pub extern "C" fn shofrakin_num_frames_stats(s: &IvectorStream) -> usize
 
 // ---- the silence table
 
-// The record beside a refusal: its subsampling is none.
-fn no_table() -> SilenceWeighting
-    ensures { λ r. ⌜ r ≡ noTable ⌝ }
-{
-    SilenceWeighting {
-        silence_weight: 0.0,
-        subsampling: 0,
-        phones: 0,
-        table: 0,
-        length: DecoderFrame(0),
-    }
-}
-
-fn table_answer(a: NewTable) -> NewTableAnswer
-    ensures { λ r. ⌜ r ≡ newTableAnswer a ⌝ }
-{
-    match a {
-        NewTable::Table(silence) => {
-            return NewTableAnswer {
-                refusal: 0,
-                silence,
-            };
-        }
-        NewTable::Refused(refusal) => {
-            let silence = no_table();
-            return NewTableAnswer { refusal, silence };
-        }
-    }
-}
-
 // `silence_weighting::new`: a table of no frames yet, for rooms of `table` places each.
 #[no_mangle]
 pub extern "C" fn shofrakin_new_silence_weighting(
@@ -681,7 +516,7 @@ pub extern "C" fn shofrakin_new_silence_weighting(
     ensures { λ r. ⌜ r ≡ newTableAnswer (newTable (length (now («silence_phones» .entry))) «silence_weight» subsampling table) ⌝ }
 {
     let a = silence_weighting::new(silence_phones, silence_weight, subsampling, table);
-    table_answer(a)
+    answers::table_answer(a)
 }
 
 // Whether the weighting changes anything.

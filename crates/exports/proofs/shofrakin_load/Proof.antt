@@ -1,7 +1,7 @@
 -- The plain load, and its answer as a record: every equation is that of `load`.
 use borrow.Author.Needs.{needs}
 use mathlib.Core.Path.{ap, _∙_}
-use Rattle.exports.specs.Answers.{loadAnswer}
+use Rattle.answers.specs.Answers.{loadAnswer}
 use Rattle.exports.proofs.shofrakin_load.Statement.{statement}
 use Rattle.exports.proofs.shofrakin_load.Tie as tie
 

@@ -8,7 +8,8 @@ use Rattle.definition.specs.Reader.{Got}
 use Rattle.definition.specs.Model.{Model, tablesFrom, tableLengthsOf, load, loadedOf, loadedTables}
 use Rattle.settings.specs.Settings.{settingsOf}
 use Rattle.ivector_info.specs.Load.{filesOf, scratchKept}
-use Rattle.exports.specs.Answers.{loadAnswer, settingsAnswer}
+use Rattle.answers.specs.Answers.{loadAnswer}
+use Rattle.exports.specs.Answers.{settingsAnswer}
 use Rattle.exports.proofs.WithSettings.{same-options, not-loaded, is-loaded, kept-with}
 use Rattle.exports.proofs.shofrakin_load_with_settings.Statement.{statement}
 use Rattle.exports.proofs.shofrakin_load_with_settings.Tie as tie

@@ -1,7 +1,7 @@
 -- The plain `new` of a silence table, and its answer as a record: the one equation is that of `new` under `newTableAnswer`.
 use borrow.Author.Needs.{needs}
 use mathlib.Core.Path.{ap, _∙_}
-use Rattle.exports.specs.Answers.{newTableAnswer}
+use Rattle.answers.specs.Answers.{newTableAnswer}
 use Rattle.exports.proofs.shofrakin_new_silence_weighting.Statement.{statement}
 use Rattle.exports.proofs.shofrakin_new_silence_weighting.Tie as tie
 

@@ -1,7 +1,7 @@
 -- The plain call, and its answer as a record: every equation is that of `new`.
 use borrow.Author.Needs.{needs}
 use mathlib.Core.Path.{ap, _∙_}
-use Rattle.exports.specs.Answers.{newStreamAnswer}
+use Rattle.answers.specs.Answers.{newStreamAnswer}
 use Rattle.exports.proofs.shofrakin_new_stream.Statement.{statement}
 use Rattle.exports.proofs.shofrakin_new_stream.Tie as tie
 

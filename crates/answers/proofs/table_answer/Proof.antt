@@ -1,8 +1,8 @@
 -- The record with the refusal's number beside a silence table, case by case: made or refused (`table-made`, `table-refused` in Answered.antt).
 use borrow.Author.Needs.{needs}
-use Rattle.exports.proofs.Answered.{table-made, table-refused}
-use Rattle.exports.proofs.table_answer.Statement.{statement}
-use Rattle.exports.proofs.table_answer.Tie as tie
+use Rattle.answers.proofs.Answered.{table-made, table-refused}
+use Rattle.answers.proofs.table_answer.Statement.{statement}
+use Rattle.answers.proofs.table_answer.Tie as tie
 
 enum-known-a : tie.Need-enum-known-a
 enum-known-a c = search needs

@@ -1,8 +1,8 @@
 -- The record with the refusal's number, case by case (Answered.antt).
 use borrow.Author.Needs.{needs}
-use Rattle.exports.proofs.Answered.{load-made, load-refused}
-use Rattle.exports.proofs.load_answer.Statement.{statement}
-use Rattle.exports.proofs.load_answer.Tie as tie
+use Rattle.answers.proofs.Answered.{load-made, load-refused}
+use Rattle.answers.proofs.load_answer.Statement.{statement}
+use Rattle.answers.proofs.load_answer.Tie as tie
 
 enum-known-a : tie.Need-enum-known-a
 enum-known-a c = search needs

@@ -12,9 +12,9 @@ use Rattle.definition.specs.declared.StreamCall.{StreamCall}
 use Rattle.definition.specs.declared.SilenceWeighting.{SilenceWeighting}
 use Rattle.definition.specs.declared.NewTable.{NewTable}
 use Rattle.definition.specs.declared.NewTable.the-variants as T
-use Rattle.exports.specs.declared.LoadAnswer.{LoadAnswer}
-use Rattle.exports.specs.declared.NewTableAnswer.{NewTableAnswer}
-use Rattle.exports.specs.Answers.{noInfo, loadAnswer, answered, noStream, newStreamAnswer, noTable, newTableAnswer}
+use Rattle.answers.specs.declared.LoadAnswer.{LoadAnswer}
+use Rattle.answers.specs.declared.NewTableAnswer.{NewTableAnswer}
+use Rattle.answers.specs.Answers.{noInfo, loadAnswer, answered, noStream, newStreamAnswer, noTable, newTableAnswer}
 
 abbrev pub infoBeside : ℕ → IvectorInfo → LoadAnswer
 infoBeside n i = record { refusal = n; info = i }

@@ -1,8 +1,8 @@
 -- The record beside a refusal is `noStream`: a fresh one over rooms of no length.
 use mathlib.Core.Path.{refl}
 use Rattle.program.specs.Calls.{freshStream}
-use Rattle.exports.proofs.no_stream.Statement.{statement}
-use Rattle.exports.proofs.no_stream.Tie as tie
+use Rattle.answers.proofs.no_stream.Statement.{statement}
+use Rattle.answers.proofs.no_stream.Tie as tie
 
 returns : tie.Need-returns
 unfolding freshStream

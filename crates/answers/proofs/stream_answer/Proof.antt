@@ -1,8 +1,8 @@
 -- What a fresh stream answers, case by case (Answered.antt).
 use borrow.Author.Needs.{needs}
-use Rattle.exports.proofs.Answered.{stream-made, stream-refused}
-use Rattle.exports.proofs.stream_answer.Statement.{statement}
-use Rattle.exports.proofs.stream_answer.Tie as tie
+use Rattle.answers.proofs.Answered.{stream-made, stream-refused}
+use Rattle.answers.proofs.stream_answer.Statement.{statement}
+use Rattle.answers.proofs.stream_answer.Tie as tie
 
 enum-known-a : tie.Need-enum-known-a
 enum-known-a c = search needs

@@ -1,0 +1,2 @@
+-- The exported answers: records in place of enums.
+pub mod Answers
