@@ -30,9 +30,9 @@ use Rattle.definition.proofs.DecoderFrame.Laws as G′
 use Rattle.definition.proofs.InputFrame as I
 use Rattle.definition.proofs.InputFrame.Laws as I′
 use Rattle.exports.specs.declared.SilenceCounts.{SilenceCounts}
-use Rattle.registers.specs.declared.BoardAnswer.{BoardAnswer}
-use Rattle.registers.proofs.BoardAnswer as B
-use Rattle.registers.proofs.BoardAnswer.Laws as B′
+use Rattle.register_bytes.specs.declared.BoardAnswer.{BoardAnswer}
+use Rattle.register_bytes.proofs.BoardAnswer as B
+use Rattle.register_bytes.proofs.BoardAnswer.Laws as B′
 use Rattle.exports.specs.declared.StepAnswer.{StepAnswer}
 use Rattle.exports.proofs.StepAnswer as P
 use Rattle.exports.proofs.StepAnswer.Laws as P′

@@ -38,7 +38,7 @@ ghost use Rattle.program.specs.Calls.{newAnswer, freshRooms, ringCall, doneOn, 
 ghost use Rattle.model_bytes.specs.Written.{Params, paramsFrom, written, writtenOut, writtenAnswer};
 ghost use Rattle.nearest_voice.specs.Voice.{nearestVoice, voiceAnswer};
 ghost use Rattle.program.specs.Session.{program};
-ghost use Rattle.registers.specs.Board.{Board, board, blockRefusal, boardStep, FetchTaken};
+ghost use Rattle.register_bytes.specs.Board.{Board, board, blockRefusal, boardStep, FetchTaken};
 ghost use Rattle.settings.specs.Settings.{settingsOf, loadWith};
 ghost use Rattle.memory.specs.Memory.{dimensionsOf, dimensionsAnswer, tablesNeeded, roomsNeeded};
 ghost use Rattle.trigger.specs.Round.{Utterance, Voices, Bench, bench, Round, round as roundOf, worked, roundOutcome};

@@ -21,9 +21,9 @@ use Rattle.program.specs.Rooms.{Rooms, ringLengthsOf, roomLengthsOf}
 use Rattle.program.specs.Calls.{Step, newAnswer, freshRooms, pushFrame}
 use Rattle.program.specs.Session.{Program, program, stepped, reply, stepOf, programAfter, programAnswers}
 use Rattle.program.proofs.Keeps.{keeps}
-use Rattle.registers.specs.Board.{byte, frameNumber, bit, heldCount, roomForPush, commandOf, callFlags, rewritten, Board, board, settled, blockRefusal, performed, boardStep, HostStep, lentTo, callsOf, commands, bufferOf, vectorsOf, boardAfter, boardVectors, BoardKeeps, Proper, RoomExact, BoardMachine}
-use Rattle.registers.proofs.Bytes.{flags-low, third-bit}
-use Rattle.registers.proofs.Room.{room-taken, taken-room}
+use Rattle.register_bytes.specs.Board.{byte, frameNumber, bit, heldCount, roomForPush, commandOf, callFlags, rewritten, Board, board, settled, blockRefusal, performed, boardStep, HostStep, lentTo, callsOf, commands, bufferOf, vectorsOf, boardAfter, boardVectors, BoardKeeps, Proper, RoomExact, BoardMachine}
+use Rattle.register_bytes.proofs.Bytes.{flags-low, third-bit}
+use Rattle.register_bytes.proofs.Room.{room-taken, taken-room}
 
 -- ---- one call or none
 

@@ -50,7 +50,7 @@ use definition::IvectorInfo;
 use definition::IvectorStream;
 use definition::NewStream;
 use definition::StreamCall;
-use registers::BoardAnswer;
+use register_bytes::BoardAnswer;
 
 // ---- `s FL RL WF WW c0 .. c4`
 

@@ -27,8 +27,8 @@ use denote.Triple.Clauses.{Lasts}
 use Rattle.definition.specs.Model.{Tables, tablesFrom}
 use Rattle.program.specs.Rooms.{ringsFrom, estimateFrom, Rooms, roomsFrom}
 use Rattle.program.specs.Session.{program}
-use Rattle.registers.specs.Board.{Board, board, blockRefusal, boardStep, FetchTaken}
-use Rattle.registers.specs.declared.BoardAnswer.{BoardAnswer}
+use Rattle.register_bytes.specs.Board.{Board, board, blockRefusal, boardStep, FetchTaken}
+use Rattle.register_bytes.specs.declared.BoardAnswer.{BoardAnswer}
 use Rattle.registers.proofs.step as plain-call
 use Rattle.registers.proofs.step.Symbol as plain-call-def
 use Rattle.registers.proofs.step.Symbol.{name as #plain-call}

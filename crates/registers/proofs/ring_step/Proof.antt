@@ -1,10 +1,10 @@
--- `registers::ring_step` meets its contract: each command by the contract of its call, and what `told` writes of it (Commands.antt).
+-- `registers::ring_step` meets its contract: each command by the contract of its call, and what `told` writes of it (`register_bytes`, Commands.antt).
 use borrow.Author.Needs.{needs}
 use native.Mathlib.Nat.{mod-lt}
 use native.Mathlib.Omega.{arith}
 use Rattle.program.specs.Rooms.{Rings, ringsFrom}
 use Rattle.program.specs.Calls.{pushFrame, setInputFinished, forgetBefore}
-use Rattle.registers.proofs.Commands.{push-small, finish-small, forget-small, ring-small, no-command, push-done, finish-done, forget-done, none-done}
+use Rattle.register_bytes.proofs.Commands.{push-small, finish-small, forget-small, ring-small, no-command, push-done, finish-done, forget-done, none-done}
 use Rattle.registers.proofs.ring_step.Statement.{statement}
 use Rattle.registers.proofs.ring_step.Tie as tie
 

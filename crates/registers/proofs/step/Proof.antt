@@ -1,13 +1,13 @@
 -- `registers::step` meets its contract: a block of another length is left, a fetch is `get_frame` and what `told` writes of it, any other command is
--- `ring_step` (Commands.antt).
+-- `ring_step` (`register_bytes`, Commands.antt).
 use borrow.Author.Needs.{needs}
 use mathlib.Core.Path.{refl, _∙_}
 use lib.ListN.{length}
 use Rattle.definition.specs.Model.{Tables, tablesFrom}
 use Rattle.program.specs.Rooms.{ringsFrom, EstimateRooms, estimateFrom, Rooms, roomsFrom}
 use Rattle.program.specs.Session.{program}
-use Rattle.registers.specs.Board.{Board, board}
-use Rattle.registers.proofs.Commands.{block-long, block-whole, fetch-byte, fetch-done, scratch-kept, step-whole, step-refused}
+use Rattle.register_bytes.specs.Board.{Board, board}
+use Rattle.register_bytes.proofs.Commands.{block-long, block-whole, fetch-byte, fetch-done, scratch-kept, step-whole, step-refused}
 use Rattle.registers.proofs.step.Statement.{statement}
 use Rattle.registers.proofs.step.Tie as tie
 

@@ -22,7 +22,7 @@ use Rattle.program.specs.Rooms.{Rings}
 use Rattle.program.specs.Calls.{answerFrom, answerOf, RingCall, ringCall, doneOn, withFinished, recordTests, pushFrame, setInputFinished}
 use Rattle.stream_refusals.proofs.Records.{Passed, plain-passed}
 use Rattle.stream_refusals.proofs.Refusals.{push-tests, push-already, push-first, push-none}
-use Rattle.registers.specs.Board.{heldCount, roomForPush, Proper}
+use Rattle.register_bytes.specs.Board.{heldCount, roomForPush, Proper}
 
 -- the number of an answer
 pub told-number : (r : ℕ) (s : IvectorStream) (n m : ℕ) → answerOf r s n m .refusal ≡ r

@@ -8,8 +8,8 @@ use Rattle.definition.specs.declared.IvectorStream.{IvectorStream}
 use Rattle.definition.specs.Model.{Tables}
 use Rattle.program.specs.Rooms.{Rings, EstimateRooms, roomsFrom}
 use Rattle.program.specs.Session.{program}
-use Rattle.registers.specs.Board.{heldCount, roomForPush, rewritten, commandOf, board, performed}
-use Rattle.registers.specs.declared.BoardAnswer.{BoardAnswer}
+use Rattle.register_bytes.specs.Board.{heldCount, roomForPush, rewritten, commandOf, board, performed}
+use Rattle.register_bytes.specs.declared.BoardAnswer.{BoardAnswer}
 
 -- a block b rewritten for a stream with record s and rings z
 pub record Settled (b : List ℕ) (s : IvectorStream) (z : Rings) (low number : ℕ) (r : BoardAnswer) (b′ : List ℕ) : Type 0 where

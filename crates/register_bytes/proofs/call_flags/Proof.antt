@@ -1,10 +1,10 @@
--- `registers::call_flags` meets its contract.
+-- `register_bytes::call_flags` meets its contract.
 use native.Mathlib.Omega.{arith}
 use mathlib.Core.Path.{sym, ap, _∙_}
-use Rattle.registers.specs.Board.{bit}
-use Rattle.registers.proofs.Bytes.{flags-refused, flags-taken}
-use Rattle.registers.proofs.call_flags.Statement.{statement}
-use Rattle.registers.proofs.call_flags.Tie as tie
+use Rattle.register_bytes.specs.Board.{bit}
+use Rattle.register_bytes.proofs.Bytes.{flags-refused, flags-taken}
+use Rattle.register_bytes.proofs.call_flags.Statement.{statement}
+use Rattle.register_bytes.proofs.call_flags.Tie as tie
 
 returns : tie.Need-returns
 returns c = (flags-refused _ _ (c .if1 .taken), omega arith)

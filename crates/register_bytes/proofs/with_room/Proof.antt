@@ -1,9 +1,9 @@
--- `registers::with_room` meets its contract.
+-- `register_bytes::with_room` meets its contract.
 use mathlib.Core.Path.{sym, ap}
 use native.Mathlib.Omega.{arith}
-use Rattle.registers.specs.Board.{bit}
-use Rattle.registers.proofs.with_room.Statement.{statement}
-use Rattle.registers.proofs.with_room.Tie as tie
+use Rattle.register_bytes.specs.Board.{bit}
+use Rattle.register_bytes.proofs.with_room.Statement.{statement}
+use Rattle.register_bytes.proofs.with_room.Tie as tie
 
 add-result : tie.Need-add-result
 add-result c = omega (arith, c .before .pre)

@@ -10,7 +10,7 @@ use borrow.Author.Tests.{eq-eqb, ne-eqb}
 use Rattle.loops.specs.Lists.{build}
 use Rattle.loops.proofs.Build.{build-list}
 use Rattle.loops.proofs.Choose.{or-first, or-second, or-none, and-first}
-use Rattle.registers.specs.Board.{byte, littleEndian, bytesOf, bit, odd, interruptOf, callFlags, rewritten}
+use Rattle.register_bytes.specs.Board.{byte, littleEndian, bytesOf, bit, odd, interruptOf, callFlags, rewritten}
 
 -- ---- bits
 

@@ -1,7 +1,7 @@
--- `registers::both_odd` meets its contract.
-use Rattle.registers.proofs.Bytes.{both-no, both-yes}
-use Rattle.registers.proofs.both_odd.Statement.{statement}
-use Rattle.registers.proofs.both_odd.Tie as tie
+-- `register_bytes::both_odd` meets its contract.
+use Rattle.register_bytes.proofs.Bytes.{both-no, both-yes}
+use Rattle.register_bytes.proofs.both_odd.Statement.{statement}
+use Rattle.register_bytes.proofs.both_odd.Tie as tie
 
 returns : tie.Need-returns
 returns c = let start = c .before in both-no (start .args .a) (start .args .b) (c .if1 .taken)

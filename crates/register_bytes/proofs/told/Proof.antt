@@ -1,12 +1,12 @@
--- `registers::told` meets its contract: the flags of the call, and its number in a byte.
+-- `register_bytes::told` meets its contract: the flags of the call, and its number in a byte.
 use borrow.Author.Needs.{needs}
 use mathlib.Core.Path.{refl, ap, _∙_}
 use Prim.Native.Nat.{ℕ}
 use native.Mathlib.Omega.{arith}
 use Rattle.program.specs.Rooms.{Rings, ringsFrom}
-use Rattle.registers.specs.Board.{heldCount, roomForPush, rewritten}
-use Rattle.registers.proofs.told.Statement.{statement}
-use Rattle.registers.proofs.told.Tie as tie
+use Rattle.register_bytes.specs.Board.{heldCount, roomForPush, rewritten}
+use Rattle.register_bytes.proofs.told.Statement.{statement}
+use Rattle.register_bytes.proofs.told.Tie as tie
 
 call-flags-requires : tie.Need-call-flags-requires
 call-flags-requires c κs = search needs

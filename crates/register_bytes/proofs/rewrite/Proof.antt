@@ -1,10 +1,10 @@
--- `registers::rewrite` meets its contract: its eleven stores are the block that `rewritten` has (Bytes.antt).
+-- `register_bytes::rewrite` meets its contract: its eleven stores are the block that `rewritten` has (Bytes.antt).
 use borrow.Author.Needs.{needs}
 use native.Mathlib.Omega.{arith}
 use lib.ListN.{length-set}
-use Rattle.registers.proofs.Bytes.{rewritten-is}
-use Rattle.registers.proofs.rewrite.Statement.{statement}
-use Rattle.registers.proofs.rewrite.Tie as tie
+use Rattle.register_bytes.proofs.Bytes.{rewritten-is}
+use Rattle.register_bytes.proofs.rewrite.Statement.{statement}
+use Rattle.register_bytes.proofs.rewrite.Tie as tie
 
 with-room-requires : tie.Need-with-room-requires
 with-room-requires c κs = search needs

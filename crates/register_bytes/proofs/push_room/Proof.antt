@@ -1,10 +1,10 @@
--- `registers::push_room` meets its contract: what a finish on the record answers is judged as a push of a frame of zeros is (Room.antt).
+-- `register_bytes::push_room` meets its contract: what a finish on the record answers is judged as a push of a frame of zeros is (Room.antt).
 use borrow.Author.Needs.{needs}
 use native.Mathlib.Omega.{arith}
 use Rattle.program.specs.Rooms.{Rings, ringsFrom}
-use Rattle.registers.proofs.Room.{Judged, judged, held-none, held-is, known, under-ten, full-count, full-frames, full-rows, room-left}
-use Rattle.registers.proofs.push_room.Statement.{statement}
-use Rattle.registers.proofs.push_room.Tie as tie
+use Rattle.register_bytes.proofs.Room.{Judged, judged, held-none, held-is, known, under-ten, full-count, full-frames, full-rows, room-left}
+use Rattle.register_bytes.proofs.push_room.Statement.{statement}
+use Rattle.register_bytes.proofs.push_room.Tie as tie
 
 -- ---- places: the finish, from behind each test
 

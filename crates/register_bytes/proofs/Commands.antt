@@ -19,10 +19,10 @@ use Rattle.program.specs.Rooms.{Rings, EstimateRooms, Rooms, roomsFrom}
 use Rattle.program.specs.Calls.{RingStep, RingCall, ringCall, doneOn, recordTests, pushFrame, setInputFinished, forgetBefore, Step, FetchCall, fetchCall, fetchedOn, fetchRefusal, getFrame}
 use Rattle.program.specs.Session.{Program, program, onRings, stepped, stepOf}
 use Rattle.stream_refusals.proofs.Refusals.{push-tests}
-use Rattle.registers.specs.declared.BoardAnswer.{BoardAnswer}
-use Rattle.registers.specs.Board.{byte, frameNumber, heldCount, roomForPush, commandOf, callFlags, rewritten, Board, board, settled, blockRefusal, performed, boardStep, FetchTaken}
-use Rattle.registers.specs.Steps.{Settled, RingDone}
-use Rattle.registers.proofs.Room.{told-number}
+use Rattle.register_bytes.specs.declared.BoardAnswer.{BoardAnswer}
+use Rattle.register_bytes.specs.Board.{byte, frameNumber, heldCount, roomForPush, commandOf, callFlags, rewritten, Board, board, settled, blockRefusal, performed, boardStep, FetchTaken}
+use Rattle.register_bytes.specs.Steps.{Settled, RingDone}
+use Rattle.register_bytes.proofs.Room.{told-number}
 
 -- ---- the block's length
 

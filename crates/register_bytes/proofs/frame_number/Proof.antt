@@ -1,8 +1,8 @@
--- `registers::frame_number` meets its contract.
+-- `register_bytes::frame_number` meets its contract.
 use borrow.Author.Needs.{needs}
-use Rattle.registers.specs.Board.{littleEndian}
-use Rattle.registers.proofs.frame_number.Statement.{statement}
-use Rattle.registers.proofs.frame_number.Tie as tie
+use Rattle.register_bytes.specs.Board.{littleEndian}
+use Rattle.register_bytes.proofs.frame_number.Statement.{statement}
+use Rattle.register_bytes.proofs.frame_number.Tie as tie
 
 shared-slice-read-wide : tie.Need-shared-slice-read-wide
 shared-slice-read-wide c = search needs

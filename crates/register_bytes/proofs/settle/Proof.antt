@@ -1,9 +1,9 @@
--- `registers::settle` meets its contract: what `push_room` tells of the stream is written by `rewrite`.
+-- `register_bytes::settle` meets its contract: what `push_room` tells of the stream is written by `rewrite`.
 use borrow.Author.Needs.{needs}
 use mathlib.Core.Path.{refl, ap₂, _∙_}
-use Rattle.registers.specs.Board.{rewritten}
-use Rattle.registers.proofs.settle.Statement.{statement}
-use Rattle.registers.proofs.settle.Tie as tie
+use Rattle.register_bytes.specs.Board.{rewritten}
+use Rattle.register_bytes.proofs.settle.Statement.{statement}
+use Rattle.register_bytes.proofs.settle.Tie as tie
 
 push-room-requires : tie.Need-push-room-requires
 push-room-requires c κs = search needs

@@ -1,8 +1,8 @@
--- `registers::interrupt` meets its contract: by the first of the three bits that is 1 in both bytes (Bytes.antt).
+-- `register_bytes::interrupt` meets its contract: by the first of the three bits that is 1 in both bytes (Bytes.antt).
 use borrow.Author.Needs.{needs}
-use Rattle.registers.proofs.Bytes.{by-first, by-second, by-third, by-none}
-use Rattle.registers.proofs.interrupt.Statement.{statement}
-use Rattle.registers.proofs.interrupt.Tie as tie
+use Rattle.register_bytes.proofs.Bytes.{by-first, by-second, by-third, by-none}
+use Rattle.register_bytes.proofs.interrupt.Statement.{statement}
+use Rattle.register_bytes.proofs.interrupt.Tie as tie
 
 both-odd-requires : tie.Need-both-odd-requires
 both-odd-requires c κs = search needs
