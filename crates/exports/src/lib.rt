@@ -41,7 +41,7 @@ ghost use Rattle.program.specs.Session.{program};
 ghost use Rattle.register_bytes.specs.Board.{Board, board, blockRefusal, boardStep, FetchTaken};
 ghost use Rattle.settings.specs.Settings.{settingsOf, loadWith};
 ghost use Rattle.memory.specs.Memory.{dimensionsOf, dimensionsAnswer, tablesNeeded, roomsNeeded};
-ghost use Rattle.trigger.specs.Round.{Utterance, Voices, Bench, bench, Round, round as roundOf, worked, roundOutcome};
+ghost use Rattle.trigger_steps.specs.Round.{Utterance, Voices, Bench, bench, Round, round as roundOf, worked, roundOutcome};
 ghost use Rattle.ivector_info.specs.Load.{filesOf, scratchKept};
 ghost use Rattle.answers.specs.Answers.{loadAnswer, answered, newStreamAnswer, newTableAnswer};
 ghost use Rattle.exports.specs.Answers.{settingsAnswer, counted};

@@ -44,8 +44,8 @@ use super::session::Table;
 use super::session::after_round;
 use definition::IvectorStream;
 use definition::SilenceWeighting;
-use trigger::RoundResult;
 use trigger::TriggerRound;
+use trigger_steps::RoundResult;
 
 // n floats as bits, into a room as far as it has places; the place after them.
 fn read_bits(text: &[u8], at: usize, n: usize, items: &mut [u32]) -> usize {

@@ -1,2 +1,2 @@
--- The trigger's definitions.
-pub mod Round
+-- What a round returns, as a record for hosts. To be believed.
+pub mod Answer

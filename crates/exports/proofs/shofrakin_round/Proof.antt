@@ -8,7 +8,7 @@ use lib.Ieee.{Float}
 use Rattle.definition.specs.Silence.{TableRooms}
 use Rattle.program.specs.Rooms.{Rooms}
 use Rattle.trigger.specs.declared.RoundAnswer.{RoundAnswer}
-use Rattle.trigger.specs.Round.{bench, Round, worked, roundOutcome}
+use Rattle.trigger_steps.specs.Round.{bench, Round, worked, roundOutcome}
 use Rattle.exports.proofs.shofrakin_round.Statement.{statement}
 use Rattle.exports.proofs.shofrakin_round.Tie as tie
 

@@ -1,13 +1,13 @@
 -- `decide` meets its contract: with no ready frame nothing is done (`no-vector`); a fetch that is refused ends the round at step 6 (`fetch-refused`); one that is
--- taken is followed by the nearest voice (`fetch-taken`). Scratch is used by a fetch that is taken alone (`fetch-number`, `found-worked`). The laws are those of Steps.antt.
+-- taken is followed by the nearest voice (`fetch-taken`). Scratch is used by a fetch that is taken alone (`fetch-number`, `found-worked`). The laws are those of Steps.antt in `trigger_steps`.
 use borrow.Author.Needs.{needs}
 use mathlib.Core.Path.{refl, sym, _∙_}
 use mathlib.Core.Bool.{true≢false}
 use lib.ListN.{length}
 use Rattle.definition.specs.Model.{Tables, tablesFrom}
 use Rattle.program.specs.Rooms.{ringsFrom, estimateFrom, Rooms, roomsFrom}
-use Rattle.trigger.specs.Round.{Voices}
-use Rattle.trigger.proofs.Steps.{no-vector, fetch-refused, fetch-taken, fetch-number, found-is, found-worked}
+use Rattle.trigger_steps.specs.Round.{Voices}
+use Rattle.trigger_steps.proofs.Steps.{no-vector, fetch-refused, fetch-taken, fetch-number, found-is, found-worked}
 use Rattle.trigger.proofs.decide.Statement.{statement}
 use Rattle.trigger.proofs.decide.Tie as tie
 

@@ -1,8 +1,8 @@
 -- `hear` meets its contract: a forget that is refused ends the round at step 1 (`not-forgotten`); else the pushes go on from what it left (`then-pushed`). The laws are
--- those of Steps.antt.
+-- those of Steps.antt in `trigger_steps`.
 use borrow.Author.Needs.{needs}
 use mathlib.Core.Path.{refl}
-use Rattle.trigger.proofs.Steps.{not-forgotten, then-pushed}
+use Rattle.trigger_steps.proofs.Steps.{not-forgotten, then-pushed}
 use Rattle.trigger.proofs.hear.Statement.{statement}
 use Rattle.trigger.proofs.hear.Tie as tie
 

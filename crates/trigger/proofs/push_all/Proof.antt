@@ -1,13 +1,13 @@
 -- `push_all` meets its contract: what is left of the numbers, pushed on what the pushes so far left, is what all of them pushed give (`push-taken`); the first
--- refusal ends them (`push-refused`). The laws are those of Steps.antt.
+-- refusal ends them (`push-refused`). The laws are those of Steps.antt in `trigger_steps`.
 use borrow.Author.Needs.{needs}
 use mathlib.Core.Path.{_≡_, refl, sym, ap, _∙_}
 use Prim.Native.Nat.{ℕ, _+_, _-_, _≤_, _<_}
 use native.Mathlib.Omega.{arith}
 use lib.ListN.{length, drop}
 use Rattle.program.specs.Rooms.{ringsFrom}
-use Rattle.trigger.specs.Round.{cut, pushAll}
-use Rattle.trigger.proofs.Steps.{push-refused, push-taken, push-none}
+use Rattle.trigger_steps.specs.Round.{cut, pushAll}
+use Rattle.trigger_steps.proofs.Steps.{push-refused, push-taken, push-none}
 use Rattle.trigger.proofs.push_all.Statement.{statement}
 use Rattle.trigger.proofs.push_all.Tie as tie
 

@@ -1,5 +1,5 @@
 -- `round` meets its contract: each of its four calls says what its steps are, and the round ends where one is refused (`ends-hearing`, `ends-weighing`, `ends-changing`) or
--- with what `decide` answers (`ends-full`). The laws are those of Steps.antt.
+-- with what `decide` answers (`ends-full`). The laws are those of Steps.antt in `trigger_steps`.
 use borrow.Author.Needs.{needs}
 use mathlib.Core.Path.{refl, sym, _∙_}
 use Prim.Native.Nat.{_≤_}
@@ -7,8 +7,8 @@ use native.Mathlib.Omega.{arith}
 use lib.ListN.{length}
 use lib.Seq.{length-take-le}
 use Rattle.definition.specs.Model.{Tables, tablesFrom}
-use Rattle.trigger.specs.Round.{Voices}
-use Rattle.trigger.proofs.Steps.{ends-hearing, ends-weighing, ends-changing, ends-full}
+use Rattle.trigger_steps.specs.Round.{Voices}
+use Rattle.trigger_steps.proofs.Steps.{ends-hearing, ends-weighing, ends-changing, ends-full}
 use Rattle.trigger.proofs.round.Statement.{statement}
 use Rattle.trigger.proofs.round.Tie as tie
 

@@ -1,7 +1,7 @@
 -- `trigger::round_answer` meets its contract: the end as its record, and what it returns besides as it stands.
 use borrow.Author.Needs.{needs}
 use mathlib.Core.Path.{ap}
-use Rattle.trigger.specs.Round.{roundAnswerFrom}
+use Rattle.trigger.specs.Answer.{roundAnswerFrom}
 use Rattle.trigger.proofs.round_answer.Statement.{statement}
 use Rattle.trigger.proofs.round_answer.Tie as tie
 

@@ -4,10 +4,10 @@ use borrow.Author.Needs.{needs}
 use mathlib.Core.Path.{refl, _∙_}
 use mathlib.Core.List.{List}
 use lib.Ieee.{Float}
-use Rattle.trigger.specs.Round.{Utterance}
-use Rattle.trigger.proofs.Steps.{not-noted, then-weighed, changes-fit}
-use Rattle.trigger.proofs.weigh_path.Statement.{statement}
-use Rattle.trigger.proofs.weigh_path.Tie as tie
+use Rattle.trigger_steps.specs.Round.{Utterance}
+use Rattle.trigger_steps.proofs.Steps.{not-noted, then-weighed, changes-fit}
+use Rattle.trigger_steps.proofs.weigh_path.Statement.{statement}
+use Rattle.trigger_steps.proofs.weigh_path.Tie as tie
 
 -- places
 abbrev begun : tie.After-decoded → tie.Start

@@ -9,7 +9,7 @@ use lib.ListN.{length, take, drop, length-drop, drop-of-length-le}
 use lib.Seq.{take-all, drop-drop, drop-nil}
 use Rattle.loops.specs.Lists.{build}
 use Rattle.loops.proofs.Build.{build-ext}
-use Rattle.trigger.specs.Round.{cut}
+use Rattle.trigger_steps.specs.Round.{cut}
 
 module _ {A : Type 0} (n : ℕ) (some : 0 < n) where
   -- no numbers make no frame

@@ -1,9 +1,9 @@
--- `trigger::result_of` meets its contract: each arm knows which answer it has.
+-- `trigger_steps::result_of` meets its contract: each arm knows which answer it has.
 use borrow.Author.Needs.{needs}
 use mathlib.Core.Path.{sym, ap}
-use Rattle.trigger.specs.Round.{resultOf}
-use Rattle.trigger.proofs.result_of.Statement.{statement}
-use Rattle.trigger.proofs.result_of.Tie as tie
+use Rattle.trigger_steps.specs.Round.{resultOf}
+use Rattle.trigger_steps.proofs.result_of.Statement.{statement}
+use Rattle.trigger_steps.proofs.result_of.Tie as tie
 
 enum-known-v : tie.Need-enum-known-v
 enum-known-v c = search needs

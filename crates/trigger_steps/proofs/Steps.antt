@@ -26,10 +26,10 @@ use Rattle.program.specs.Calls.{answerFrom, answerOf, ringCall, doneOn, fetchCa
 use Rattle.nearest_voice.specs.declared.NearestVoice.{NearestVoice}
 use Rattle.nearest_voice.specs.declared.NearestVoice.the-variants as N
 use Rattle.nearest_voice.specs.Voice.{nearestVoice}
-use Rattle.trigger.specs.declared.RoundResult.{RoundResult}
-use Rattle.trigger.specs.declared.RoundResult.the-variants as R
-use Rattle.trigger.specs.Round.{Utterance, Voices, Bench, bench, withRings, withTable, withFetch, Round, roundFrom, done, ended, after, forgets, cut, pushed, pushAll, frameLength, pushes, decoded, notes, ready, weighs, changes, fetches, resultOf, finds, lastSteps, round, worked}
-use Rattle.trigger.proofs.Frames.{cut-none, cut-next, lent-frame, left-behind}
+use Rattle.trigger_steps.specs.declared.RoundResult.{RoundResult}
+use Rattle.trigger_steps.specs.declared.RoundResult.the-variants as R
+use Rattle.trigger_steps.specs.Round.{Utterance, Voices, Bench, bench, withRings, withTable, withFetch, Round, roundFrom, done, ended, after, forgets, cut, pushed, pushAll, frameLength, pushes, decoded, notes, ready, weighs, changes, fetches, resultOf, finds, lastSteps, round, worked}
+use Rattle.trigger_steps.proofs.Frames.{cut-none, cut-next, lent-frame, left-behind}
 
 -- ---- going on, and not
 

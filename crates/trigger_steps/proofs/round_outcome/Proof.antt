@@ -1,9 +1,9 @@
--- `trigger::round_outcome` meets its contract: each arm knows which end it has.
+-- `trigger_steps::round_outcome` meets its contract: each arm knows which end it has.
 use borrow.Author.Needs.{needs}
 use mathlib.Core.Path.{sym, ap}
-use Rattle.trigger.specs.Round.{roundOutcome}
-use Rattle.trigger.proofs.round_outcome.Statement.{statement}
-use Rattle.trigger.proofs.round_outcome.Tie as tie
+use Rattle.trigger_steps.specs.Round.{roundOutcome}
+use Rattle.trigger_steps.proofs.round_outcome.Statement.{statement}
+use Rattle.trigger_steps.proofs.round_outcome.Tie as tie
 
 enum-known-a : tie.Need-enum-known-a
 enum-known-a c = search needs

@@ -1,4 +1,4 @@
--- `trigger::decoded` meets its contract: the fold over what is left of the ends, from the largest so far, is the fold over all of them.
+-- `trigger_steps::decoded` meets its contract: the fold over what is left of the ends, from the largest so far, is the fold over all of them.
 use borrow.Author.Needs.{needs}
 use mathlib.Core.Path.{_≡_, refl}
 use mathlib.Core.List.{foldl}
@@ -6,9 +6,9 @@ use Prim.Native.Nat.{_≤_, _<_, _-_, max}
 use native.Mathlib.Omega.{arith}
 use lib.ListN.{length, drop}
 use Rattle.loops.proofs.Folds.{fold-turn, fold-end}
-use Rattle.trigger.specs.Round.{decoded}
-use Rattle.trigger.proofs.decoded.Statement.{statement}
-use Rattle.trigger.proofs.decoded.Tie as tie
+use Rattle.trigger_steps.specs.Round.{decoded}
+use Rattle.trigger_steps.proofs.decoded.Statement.{statement}
+use Rattle.trigger_steps.proofs.decoded.Tie as tie
 
 abbrev Inv-loop : tie.InvT-loop
 Inv-loop ends last₀ i₀ i-end last i = (i-end ≡ length ends) × (i ≤ length ends) × (foldl max last (drop i ends) ≡ foldl max 0 ends)

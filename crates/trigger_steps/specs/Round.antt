@@ -19,11 +19,9 @@ use Rattle.program.specs.Calls.{RingCall, doneOn, FetchCall, fetchedOn, pushFra
 use Rattle.nearest_voice.specs.declared.NearestVoice.{NearestVoice}
 use Rattle.nearest_voice.specs.declared.NearestVoice.the-variants as N
 use Rattle.nearest_voice.specs.Voice.{nearestVoice}
-use Rattle.trigger.specs.declared.RoundResult.{RoundResult}
-use Rattle.trigger.specs.declared.RoundResult.the-variants as R
-use Rattle.trigger.specs.declared.RoundOutcome.{RoundOutcome}
-use Rattle.trigger.specs.declared.RoundAnswer.{RoundAnswer}
-use Rattle.trigger.specs.declared.TriggerRound.{TriggerRound}
+use Rattle.trigger_steps.specs.declared.RoundResult.{RoundResult}
+use Rattle.trigger_steps.specs.declared.RoundResult.the-variants as R
+use Rattle.trigger_steps.specs.declared.RoundOutcome.{RoundOutcome}
 
 -- ---- what a round is given, and what it works on
 
@@ -195,9 +193,3 @@ roundOutcome (R.Voice i d) = record { refusal = 0; step = 0; full = true; found 
 roundOutcome R.Nobody = record { refusal = 0; step = 0; full = true; found = false; index = 0; distance = zero₃₂ }
 roundOutcome R.NoVector = record { refusal = 0; step = 0; full = false; found = false; index = 0; distance = zero₃₂ }
 roundOutcome (R.Refused r k) = record { refusal = r; step = k; full = false; found = false; index = 0; distance = zero₃₂ }
-
-abbrev pub roundAnswerFrom : RoundOutcome → ℕ → IvectorStream → SilenceWeighting → RoundAnswer
-roundAnswerFrom o n s q = record { outcome = o; changes = n; stream = s; silence = q }
-
-abbrev pub roundAnswer : TriggerRound → RoundAnswer
-roundAnswer a = roundAnswerFrom (roundOutcome (a .result)) (a .changes) (a .stream) (a .silence)

@@ -1,3 +1,0 @@
--- The laws that the proofs of the functions cite.
-mod Frames
-mod Steps

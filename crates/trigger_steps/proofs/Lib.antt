@@ -1,0 +1,3 @@
+-- The laws that the proofs of the functions cite, here and of the round.
+mod Frames
+pub mod Steps
