@@ -19,10 +19,11 @@ use Rattle.run_calls.specs.declared.CodedCall.{CodedCall}
 use Rattle.try_load.specs.Draws.{draw, Drawing, drawing, callIn, drawingAt, drawnCalls}
 use Rattle.try_load.specs.Steps.{Placed}
 use Rattle.try_load.specs.declared.Place.{Place}
+use Rattle.try_notes.specs.Steps.{counted, Tally, tally, noted}
+use Rattle.try_notes.proofs.Counted.{length-counted, counted-few}
 use Rattle.try_play.specs.Totals.{kindOf, refusalOf, heldOf}
-use Rattle.try_play.specs.Steps.{counted, Tally, tally, noted, tallied}
-use Rattle.try_play.proofs.Tallies.{length-counted, counted-few}
-use Rattle.try_play.proofs.Drawn.{kind-of-drawn}
+use Rattle.try_play.specs.Steps.{tallied}
+use Rattle.try_play.proofs.DrawnKind.{kind-of-drawn}
 
 -- ---- no room has changed its length
 

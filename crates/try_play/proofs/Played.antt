@@ -20,8 +20,9 @@ use Rattle.program.specs.Session.{Program, program, programAfter, programAnswer
 use Rattle.program.proofs.Fresh.{made-stream}
 use Rattle.program.proofs.Keeps.{keeps}
 use Rattle.try_load.specs.Draws.{sizeRefusal, drawnCalls}
+use Rattle.try_notes.specs.Steps.{Tally, tally}
 use Rattle.try_play.specs.Totals.{totalsFrom, totals, noTotals, playRefusal}
-use Rattle.try_play.specs.Steps.{Tally, tally, tallied}
+use Rattle.try_play.specs.Steps.{tallied}
 use Rattle.try_play.specs.declared.Totals.{Totals}
 use Rattle.try_play.proofs.Tallies.{totals-are}
 

@@ -8,7 +8,7 @@ use Rattle.definition.specs.Model.{tablesFrom}
 use Rattle.program.specs.Rooms.{ringsFrom, estimateFrom, roomsFrom}
 use Rattle.program.specs.Session.{program}
 use Rattle.try_load.proofs.Places.{placed-none, placed-next}
-use Rattle.try_play.specs.Steps.{tally}
+use Rattle.try_notes.specs.Steps.{tally}
 use Rattle.try_play.proofs.Tallies.{from-zeros}
 use Rattle.try_play.proofs.Going.{Going, going-first, going-again, going-last, zeros-few}
 use Rattle.try_play.proofs.play_calls.Statement.{statement}

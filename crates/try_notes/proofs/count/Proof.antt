@@ -2,9 +2,9 @@
 use borrow.Author.Needs.{needs}
 use mathlib.Core.Path.{refl}
 use native.Mathlib.Omega.{arith}
-use Rattle.try_play.proofs.Tallies.{counted-set, counted-out}
-use Rattle.try_play.proofs.count.Statement.{statement}
-use Rattle.try_play.proofs.count.Tie as tie
+use Rattle.try_notes.proofs.Counted.{counted-set, counted-out}
+use Rattle.try_notes.proofs.count.Statement.{statement}
+use Rattle.try_notes.proofs.count.Tie as tie
 
 mul-counts : tie.Need-mul-counts
 mul-counts c = search needs

@@ -1,9 +1,9 @@
 -- `note` meets its contract: one more by kind, one more by refusal, the greater of two (`noted-is`).
 use borrow.Author.Needs.{needs}
 use native.Mathlib.Omega.{arith}
-use Rattle.try_play.proofs.Tallies.{noted-is}
-use Rattle.try_play.proofs.note.Statement.{statement}
-use Rattle.try_play.proofs.note.Tie as tie
+use Rattle.try_notes.proofs.Counted.{noted-is}
+use Rattle.try_notes.proofs.note.Statement.{statement}
+use Rattle.try_notes.proofs.note.Tie as tie
 
 wide-requires : tie.Need-wide-requires
 wide-requires c κs = search needs

@@ -1,7 +1,7 @@
--- The call that is drawn: what `draw_call` codes is the drawing's call, by its kind; and the kind of a call.
+-- The call that is drawn: what `draw_call` codes is the drawing's call, by its kind.
 use mathlib.Core.Path.{_≡_, refl, sym, ap, ap₂, _∙_}
 use mathlib.Core.List.{List, [], _∷_}
-use Prim.Native.Nat.{ℕ, zero, suc, _+_, _*_, _%_, _≤_, _<_}
+use Prim.Native.Nat.{ℕ, _+_, _*_, _%_, _≤_, _<_}
 use native.Mathlib.Nat.{mod-lt, sub-zero}
 use native.Mathlib.Omega.{arith}
 use lib.ListN.{length, take, drop, set}
@@ -12,9 +12,8 @@ use Rattle.definition.specs.Machine.{Call, push, finish, change, forget, fetch}
 use Rattle.run_calls.specs.Listed.{part, ofKind}
 use Rattle.run_calls.specs.Turns.{decoded}
 use Rattle.run_calls.specs.declared.CodedCall.{CodedCall}
-use Rattle.try_load.specs.Draws.{draw, numbersOf, frameOf, weightOf, callOf, Drawing, kindIn, callIn}
+use Rattle.try_load.specs.Draws.{draw, numbersOf, frameOf, weightOf, callOf, Drawing, callIn}
 use Rattle.try_load.proofs.Steps.{wide-0}
-use Rattle.try_play.specs.Totals.{kindOf}
 
 abbrev coded : ℕ → ℕ → ℕ → ℕ → ℕ → CodedCall
 coded k a b c d = record { kind = k; a = a; b = b; c = c; d = d }
@@ -41,18 +40,6 @@ module _ (k : ℕ) (x : List Float) (f : ℕ) (w : Float) where
   a-fetch : k ≡ 4 → fetch f 1 ≡ callOf k x f w
   unfolding callOf
   a-fetch e = rw e
-
-kind-of-call : (k : ℕ) (x : List Float) (f : ℕ) (w : Float) → k < 5 → kindOf (callOf k x f w) ≡ k
-unfolding kindOf callOf
-kind-of-call zero x f w h = refl
-kind-of-call (suc zero) x f w h = refl
-kind-of-call (suc (suc zero)) x f w h = refl
-kind-of-call (suc (suc (suc zero))) x f w h = refl
-kind-of-call (suc (suc (suc (suc zero)))) x f w h = refl
-kind-of-call (suc (suc (suc (suc (suc k))))) x f w h = absurd (omega arith)
-
-pub kind-of-drawn : (dim : ℕ) (d : Drawing) → kindOf (callIn dim d) ≡ kindIn d
-kind-of-drawn dim d = kind-of-call (kindIn d) _ _ _ (mod-lt (draw (d .state)) {m = 5} (omega arith))
 
 -- ---- parts of the lists
 

@@ -6,9 +6,9 @@ use native.Mathlib.Omega.{arith}
 use lib.ListN.{length-set}
 use Rattle.try_load.specs.Draws.{Drawing, drawing}
 use Rattle.try_load.proofs.Steps.{wide-0}
-use Rattle.try_play.proofs.Drawn.{push-coded, finish-coded, change-coded, forget-coded, fetch-coded, last-kind}
-use Rattle.try_play.proofs.draw_call.Statement.{statement}
-use Rattle.try_play.proofs.draw_call.Tie as tie
+use Rattle.try_notes.proofs.Drawn.{push-coded, finish-coded, change-coded, forget-coded, fetch-coded, last-kind}
+use Rattle.try_notes.proofs.draw_call.Statement.{statement}
+use Rattle.try_notes.proofs.draw_call.Tie as tie
 
 draw-requires : tie.Need-draw-requires
 draw-requires c κs = search needs

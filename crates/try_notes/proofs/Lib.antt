@@ -1,0 +1,3 @@
+-- Counts with one more; the call that is drawn.
+pub mod Counted
+mod Drawn
