@@ -39,7 +39,3 @@ module _ (n w t v : ℕ) {a : ℕ} (some : 0 < w) (p : 0 < rowsIn n w) (low : t 
 
   pub steps : {b : ℕ} → t < v → b ≡ (if leb (w + w) (n - a) then a + w else 0) → b ≡ place n w v
   steps h f = let i : v ≡ t + 1 = omega arith in rw i (place-turned n w t some p e f)
-
--- no row back
-pub none-back : (n w t : ℕ) → place n w (t - 0) ≡ place n w t
-none-back n w t = let e : t - 0 ≡ t = omega arith in ap (place n w) e

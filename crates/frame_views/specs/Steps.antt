@@ -17,11 +17,14 @@ pub record RowAt (dim start : ℕ) (room row : List Float) : Type 0 where
   pub long : length row ≡ dim
   pub is : (t : ℕ) → 0 < rowsIn (length room) dim → start ≡ place (length room) dim t → row ≡ build dim (ringAt dim room t)
 
--- where frame t begins in its ring, and where the prefix rows at the ends of its window do, if it is to be normalised
-pub record Placed (o : IvectorOptions) (dim : ℕ) (normalized : Bool) (t here high low : ℕ) (frames rows : List Float) : Type 0 where
-  pub frame : here ≡ place (length frames) dim t
-  pub last : normalized ≡ true → high ≡ place (length rows) dim (t + 1)
-  pub first : normalized ≡ true → low ≡ place (length rows) dim (t + 1 - o .«cmn_window»)
+-- where frame t begins in a ring of so many numbers, and where the prefix rows at the ends of its window do in another, if it is to be normalised
+pub record Begins (window dim : ℕ) (normalized : Bool) (t here high low frames rows : ℕ) : Type 0 where
+  pub frame : here ≡ place frames dim t
+  pub last : normalized ≡ true → high ≡ place rows dim (t + 1)
+  pub first : normalized ≡ true → low ≡ place rows dim (t + 1 - window)
+
+abbrev pub Placed : IvectorOptions → ℕ → Bool → ℕ → ℕ → ℕ → ℕ → List Float → List Float → Type 0
+Placed o dim normalized t here high low frames rows = Begins (o .«cmn_window») dim normalized t here high low (length frames) (length rows)
 
 -- a fetch of frame t for a spliced row: the CMVN state that it leaves, and what it adds to the row
 unfoldable pub fetched : IvectorOptions → ℕ → List Float → Frames → Bool → ℕ → List Float → List Float

@@ -22,7 +22,7 @@ ghost use Rattle.definition.specs.Options.{width};
 ghost use Rattle.definition.specs.Views.{smoothed, windowed, cmvnState, cmvnFrame, spliceAt, ldaFrame};
 ghost use Rattle.program.specs.Rooms.{ringAt, ringFrames};
 ghost use Rattle.frame_views.specs.Rows.{Lent, splicedRow};
-ghost use Rattle.frame_views.specs.Steps.{RowAt, Placed, fetched, viewed};
+ghost use Rattle.frame_views.specs.Steps.{RowAt, Begins, Placed, fetched, viewed};
 
 // The frame that begins at `start`.
 fn frame(frames: &[f32], dim: usize, start: usize) -> &[f32]
@@ -238,45 +238,78 @@ fn copy_offset(offset: &[f32], n: usize, out: &mut [f32])
     }
 }
 
-// Where the prefix row `back` rows before the one after frame u begins; any place where the frame is not to be normalised.
-fn first_prefix(normalized: bool, back: usize, numbers: usize, dim: usize, u: usize) -> usize
-    requires { ⌜ (0 < dim) × (0 < rowsIn numbers dim) × (u < 1000000000) ⌝ }
-    ensures { λ r. ⌜ (normalized ≡ true → r ≡ place numbers dim (u + 1 - back)) ⌝ }
-{
-    if normalized {
-        return row_place(numbers, dim, less(u + 1, back));
-    }
-    0
-}
-
-// From where row t begins to where row v does, which is t or the one after it: a step and a wrap, or none.
-fn next_place(numbers: usize, dim: usize, here: usize, t: usize, v: usize) -> usize
-    requires { ⌜ (0 < dim) × (dim ≤ 64) × (0 < rowsIn numbers dim) × (t ≤ v) × (v ≤ t + 1) × (here ≡ place numbers dim t) ⌝ }
-    ensures { λ r. ⌜ r ≡ place numbers dim v ⌝ }
-{
-    if v > t {
-        return row_after(numbers, dim, here);
-    }
-    here
-}
-
-// The same from frame u's prefix row to frame v's.
-fn next_prefix(
-    normalized: bool,
-    back: usize,
-    numbers: usize,
-    dim: usize,
+// Where a frame begins in its ring, and the prefix rows at the ends of its window in theirs.
+struct Places {
     here: usize,
+    high: usize,
+    low: usize,
+}
+
+// The places of frame u, of whose window only a frame to be normalised has need.
+fn first_places(
+    normalized: bool,
+    window: usize,
+    frames: usize,
+    rows: usize,
+    dim: usize,
+    u: usize,
+) -> Places
+    requires { ⌜ (0 < dim) × (0 < rowsIn frames dim) × (0 < rowsIn rows dim) × (u < 1000000000) ⌝ }
+    ensures { λ r. ⌜ Begins window dim normalized u (r .here) (r .high) (r .low) frames rows ⌝ }
+{
+    let here = row_place(frames, dim, u);
+    if normalized {
+        return Places {
+            here,
+            high: row_place(rows, dim, u + 1),
+            low: row_place(rows, dim, less(u + 1, window)),
+        };
+    }
+    Places {
+        here,
+        high: 0,
+        low: 0,
+    }
+}
+
+// From the places of frame u to those of frame v, which is the same or the one after it: a step and a wrap each, or none.
+fn next_places(
+    normalized: bool,
+    window: usize,
+    frames: usize,
+    rows: usize,
+    dim: usize,
+    p: Places,
     u: usize,
     v: usize,
-) -> usize
-    requires { ⌜ (0 < dim) × (dim ≤ 64) × (0 < rowsIn numbers dim) × (u ≤ v) × (v ≤ u + 1) × (v < 1000000000) × (normalized ≡ true → here ≡ place numbers dim (u + 1 - back)) ⌝ }
-    ensures { λ r. ⌜ (normalized ≡ true → r ≡ place numbers dim (v + 1 - back)) ⌝ }
+) -> Places
+    requires { ⌜ (0 < dim) × (dim ≤ 64) × (0 < rowsIn frames dim) × (0 < rowsIn rows dim) × (u ≤ v) × (v ≤ u + 1) × Begins window dim normalized u (p .here) (p .high) (p .low) frames rows ⌝ }
+    ensures { λ r. ⌜ Begins window dim normalized v (r .here) (r .high) (r .low) frames rows ⌝ }
 {
-    if normalized {
-        return next_place(numbers, dim, here, less(u + 1, back), less(v + 1, back));
+    if v > u {
+        let here = row_after(frames, dim, p.here);
+        if normalized {
+            let high = row_after(rows, dim, p.high);
+            if v >= window {
+                return Places {
+                    here,
+                    high,
+                    low: row_after(rows, dim, p.low),
+                };
+            }
+            return Places {
+                here,
+                high,
+                low: p.low,
+            };
+        }
+        return Places {
+            here,
+            high: p.high,
+            low: p.low,
+        };
     }
-    here
+    p
 }
 
 // The spliced and LDA-transformed frame t, from raw frames or from normalised ones. The spliced row is nowhere put together: at
@@ -309,9 +342,7 @@ pub fn lda_frame(
     copy_offset(lda_offset, d, out);
     let window = o.cmn_window;
     let mut u = less(t, o.left_context);
-    let mut here = row_place(frames.len(), dim, u);
-    let mut high = first_prefix(normalized, 0, rows.len(), dim, u);
-    let mut low = first_prefix(normalized, window, rows.len(), dim, u);
+    let mut p = first_places(normalized, window, frames.len(), rows.len(), dim, u);
     for n in 0..width {
         let start = n * size;
         let end = start + size;
@@ -320,9 +351,9 @@ pub fn lda_frame(
             dim,
             accepted,
             u,
-            here,
-            high,
-            low,
+            p.here,
+            p.high,
+            p.low,
             normalized,
             global,
             frames,
@@ -333,9 +364,7 @@ pub fn lda_frame(
             out,
         );
         let v = splice_at(o, accepted, t, n + 1);
-        here = next_place(frames.len(), dim, here, u, v);
-        high = next_prefix(normalized, 0, rows.len(), dim, high, u, v);
-        low = next_prefix(normalized, window, rows.len(), dim, low, u, v);
+        p = next_places(normalized, window, frames.len(), rows.len(), dim, p, u, v);
         u = v;
     }
 }

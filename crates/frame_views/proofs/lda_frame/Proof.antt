@@ -1,6 +1,6 @@
 -- `frame_views::lda_frame` meets its contract. The loop's invariant: the state is that after the first n frames of the row, and the sums are the LDA's over
 -- their numbers (`lda-start`, `spliced-turn`, `lda-place`, `spliced-end`, `lda-end` in SplicedRows.antt); u is the frame at place n, and it and its window
--- begin where `here`, `high` and `low` say (`splice-first`, `splice-next`). A place's part lies in the table (`row-in` in loops/proofs/Cells.antt).
+-- begin where p says (`splice-first`, `splice-next`). A place's part lies in the table (`row-in` in loops/proofs/Cells.antt).
 use borrow.Author.Needs.{needs}
 use mathlib.Core.Path.{_≡_, refl, sym, _∙_}
 use Prim.Native.Nat.{_+_, _*_, _-_, _≤_}
@@ -15,13 +15,12 @@ use Rattle.definition.specs.Options.{width}
 use Rattle.definition.specs.Views.{spliceAt, ldaFrame}
 use Rattle.program.specs.Rooms.{ringFrames}
 use Rattle.frame_views.specs.Steps.{Placed, splicedTo}
-use Rattle.frame_views.proofs.Rings.{none-back}
 use Rattle.frame_views.proofs.SplicedRows.{splice-first, splice-next, splice-under, spliced-none, lda-start, spliced-turn, lda-place, spliced-end, lda-end}
 use Rattle.frame_views.proofs.lda_frame.Statement.{statement}
 use Rattle.frame_views.proofs.lda_frame.Tie as tie
 
 abbrev Inv-loop : tie.InvT-loop
-Inv-loop o dim d accepted t normalized global frames rows lda-t lda-offset cmvn₀ out₀ wide size view₀ window u₀ here₀ high₀ low₀ n₀ cmvn out view u here high low n =
+Inv-loop o dim d accepted t normalized global frames rows lda-t lda-offset cmvn₀ out₀ wide size view₀ window u₀ p₀ n₀ cmvn out view u p n =
     (n ≤ wide)
     × (length cmvn ≡ dim + 1)
     × (length out ≡ d)
@@ -29,10 +28,10 @@ Inv-loop o dim d accepted t normalized global frames rows lda-t lda-offset cmvn�
     × (cmvn ≡ splicedTo o dim global (ringFrames dim accepted frames rows) normalized t n cmvn₀ .0)
     × (out ≡ ldaFrame d lda-t lda-offset (splicedTo o dim global (ringFrames dim accepted frames rows) normalized t n cmvn₀ .1))
     × (u ≡ spliceAt o accepted t n)
-    × Placed o dim normalized u here high low frames rows
+    × Placed o dim normalized u (p .here) (p .high) (p .low) frames rows
 
 abbrev μ-loop : tie.MeasureT-loop
-μ-loop o dim d accepted t normalized global frames rows lda-t lda-offset cmvn₀ out₀ wide size view₀ window u₀ here₀ high₀ low₀ n₀ cmvn out view u here high low n = wide - n
+μ-loop o dim d accepted t normalized global frames rows lda-t lda-offset cmvn₀ out₀ wide size view₀ window u₀ p₀ n₀ cmvn out view u p n = wide - n
 
 -- ---- places in the code, each from the next that is named
 
@@ -43,7 +42,7 @@ abbrev before-less : tie.After-less Inv-loop μ-loop → tie.Start Inv-loop μ-l
 before-less c = before-copy-offset (c .before .before .before)
 
 abbrev before-loop : tie.At-loop Inv-loop μ-loop → tie.Start Inv-loop μ-loop
-before-loop c = before-less (c .before .before .before .before)
+before-loop c = before-less (c .before .before)
 
 abbrev before-add-frame : tie.After-add-frame Inv-loop μ-loop → tie.In-loop Inv-loop μ-loop
 before-add-frame c = c .before .before .before .before .before
@@ -76,25 +75,15 @@ mul-size c =
     let a = start .args in
     omega (arith, start .good, row-in 0 (width (a .o)) (a .dim * a .d) _ (table-long start) (omega arith))
 
-row-place-requires : tie.Need-row-place-requires Inv-loop μ-loop
-row-place-requires c κs =
-    let p = before-less c .pre .0 in
-    (p .some, p .frame-room)
-
-first-prefix-requires : tie.Need-first-prefix-requires Inv-loop μ-loop
-first-prefix-requires c κs =
-    let start = before-less (c .before) in
+first-places-requires : tie.Need-first-places-requires Inv-loop μ-loop
+first-places-requires c κs =
+    let start = before-less c in
     let p = start .pre .0 in
-    (p .some, p .row-room, omega (arith, c .before .less .ensures, start .pre .1 .0, p .few))
-
-first-prefix-requires-2 : tie.Need-first-prefix-requires-2 Inv-loop μ-loop
-first-prefix-requires-2 c κs = first-prefix-requires (c .before) κs
+    (p .some, p .frame-room, p .row-room, omega (arith, c .less .ensures, start .pre .1 .0, p .few))
 
 loop-holds : tie.Need-loop-holds Inv-loop μ-loop
 loop-holds c =
-    let at-first-prefix = c .before in
-    let at-row-place = at-first-prefix .before in
-    let at-less = at-row-place .before in
+    let at-less = c .before in
     let at-copy-offset = at-less .before .before .before in
     let start = before-copy-offset at-copy-offset in
     let a = start .args in
@@ -106,7 +95,7 @@ loop-holds c =
       spliced-none _ _ _ _ _ _ _,
       lda-start _ _ _ _ _ _ _ (a .d) (a .lda-t .now) (a .lda-offset .now) (a .out .now) (q .6) (at-copy-offset .copy-offset .ensures),
       splice-first (a .o) (a .accepted) (a .t) (q .0) (at-less .less .ensures),
-      record { frame = at-row-place .row-place .ensures; last = λ e. at-first-prefix .first-prefix .ensures e ∙ none-back _ _ _; first = λ e. c .first-prefix2 .ensures e },
+      c .first-places .ensures,
     )
 
 -- ---- a turn
@@ -172,37 +161,19 @@ apart c =
     let a = before-loop at-loop .args in
     splice-next (a .o) (a .accepted) (a .t) (at-loop .loop .n) (at-loop .loop .inv .6) (c .splice-at .ensures .0)
 
-next-place-requires : tie.Need-next-place-requires Inv-loop μ-loop
-next-place-requires c κs =
+next-places-requires : tie.Need-next-places-requires Inv-loop μ-loop
+next-places-requires c κs =
     let at-loop = before-splice-at c .before in
     let start = before-loop at-loop in
     let p = start .pre .0 in
-    (p .some, start .pre .1 .3, p .frame-room, apart c .0, apart c .1, at-loop .loop .inv .7 .frame)
-
-next-prefix-requires : tie.Need-next-prefix-requires Inv-loop μ-loop
-next-prefix-requires c κs =
-    let at-splice-at = c .before in
-    let at-loop = before-splice-at at-splice-at .before in
-    let start = before-loop at-loop in
-    let p = start .pre .0 in
-    (p .some, start .pre .1 .3, p .row-room, apart at-splice-at .0, apart at-splice-at .1, omega (arith, at-splice-at .splice-at .ensures .1, p .few), λ e. at-loop .loop .inv .7 .last e ∙ sym (none-back _ _ _))
-
-next-prefix-requires-2 : tie.Need-next-prefix-requires-2 Inv-loop μ-loop
-next-prefix-requires-2 c κs =
-    let at-splice-at = c .before .before in
-    let at-loop = before-splice-at at-splice-at .before in
-    let start = before-loop at-loop in
-    let p = start .pre .0 in
-    (p .some, start .pre .1 .3, p .row-room, apart at-splice-at .0, apart at-splice-at .1, omega (arith, at-splice-at .splice-at .ensures .1, p .few), at-loop .loop .inv .7 .first)
+    (p .some, start .pre .1 .3, p .frame-room, p .row-room, apart c .0, apart c .1, at-loop .loop .inv .7)
 
 add-n : tie.Need-add-n Inv-loop μ-loop
-add-n c = omega (arith, short-row (before-splice-at (c .before .before .before)))
+add-n c = omega (arith, short-row (before-splice-at (c .before)))
 
 loop-again : tie.Need-loop-again Inv-loop μ-loop
 loop-again c =
-    let at-next-prefix = c .before in
-    let at-next-place = at-next-prefix .before in
-    let at-splice-at = at-next-place .before in
+    let at-splice-at = c .before in
     let at-add-frame = at-splice-at .before .before .before .before .before .before in
     let in-loop = before-add-frame at-add-frame in
     let at-loop = in-loop .before in
@@ -218,7 +189,7 @@ loop-again c =
       spliced-turn _ _ _ _ _ _ _ (loop .n) (h .6) (h .4) (r .ensures .0),
       lda-place _ _ _ _ _ _ _ (loop .n) (h .6) (h .4) (r .ensures .0) (a .d) (a .lda-t .now) (a .lda-offset .now) refl refl refl (h .5) (r .ensures .1),
       at-splice-at .splice-at .ensures .0,
-      record { frame = at-next-place .next-place .ensures; last = λ e. at-next-prefix .next-prefix .ensures e ∙ none-back _ _ _; first = λ e. c .next-prefix2 .ensures e },
+      c .next-places .ensures,
     )
 
 same-length : tie.Need-same-length Inv-loop μ-loop
@@ -239,6 +210,6 @@ returns c =
 pub lda-frame-spec : {M : Type 1} → statement M
 lda-frame-spec =
     tie.close
-    (tie.spec Inv-loop μ-loop (λ c. search needs) (λ c. search needs) mul-size (λ c κs. search needs) (λ c κs. search needs) row-place-requires first-prefix-requires first-prefix-requires-2
+    (tie.spec Inv-loop μ-loop (λ c. search needs) (λ c. search needs) mul-size (λ c κs. search needs) (λ c κs. search needs) first-places-requires
     loop-holds mul-start add-end mul-add-frame sub-add-frame (λ c. search needs) part-add-frame-end array-borrow-prefix-view slice-aggregate-add-frame add-frame-requires
-    add-splice-at splice-at-requires next-place-requires next-prefix-requires next-prefix-requires-2 add-n (λ c. search needs) loop-again same-length same-length-2 returns)
+    add-splice-at splice-at-requires next-places-requires add-n (λ c. search needs) loop-again same-length same-length-2 returns)
