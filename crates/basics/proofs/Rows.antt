@@ -5,11 +5,10 @@ use mathlib.Core.List.{List}
 use Prim.Native.Nat.{ℕ, ◌*◌}
 use native.Mathlib.Nat.{mul_comm}
 use lib.ListN.{length}
-use lib.Ieee.{Float, nan, inf, fin, Format, mul, round, up, down, unlike}
+use lib.Ieee.{Float, nan, inf, fin, Format, mul, up, down, unlike}
 use Rattle.loops.specs.Lists.{build}
 use Rattle.loops.specs.Steps.{fill}
-use Rattle.loops.proofs.Fill.{fill_whole, fill_ext}
-use Rattle.floats.specs.Operators.{◌+₆₄◌, ◌*₆₄◌, at}
+use Rattle.loops.proofs.Fill.{fill_whole}
 
 unlike_comm : (s t : Bool) → unlike s t ≡ unlike t s
 unlike_comm true true = refl

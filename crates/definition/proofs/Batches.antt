@@ -1,5 +1,5 @@
 -- A batch in two parts: the second is fetched from the CMVN state that the first leaves, and its entries come behind the first's.
-use mathlib.Core.Path.{◌≡◌, refl, ap}
+use mathlib.Core.Path.{◌≡◌, refl}
 use mathlib.Core.List.{List, [], ◌∷◌, ◌++◌, append_assoc}
 use lib.Ieee.{Float}
 use Rattle.definition.specs.Model.{Model}

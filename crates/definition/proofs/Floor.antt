@@ -15,7 +15,7 @@ use Rattle.loops.proofs.Choose.{by-test, or_none}
 use Rattle.loops.proofs.Tests.{none_at, at_none}
 use Rattle.definition.specs.declared.RingLengths.{RingLengths}
 use Rattle.definition.specs.Model.{Model}
-use Rattle.definition.specs.Machine.{Call, push, finish, change, forget, set_window, fetch, Answer, Machine, Move, moved, forgotten, push_tests, change_tests, window_tests, fetch_tests, fresh, caught_up, does, told_by, answer, answers_from, answers}
+use Rattle.definition.specs.Machine.{Call, push, finish, change, forget, set_window, fetch, Machine, Move, moved, forgotten, push_tests, change_tests, window_tests, fetch_tests, fresh, caught_up, does, told_by, answer, answers_from, answers}
 
 -- ---- the number of a list of tests
 

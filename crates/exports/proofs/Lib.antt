@@ -1,7 +1,3 @@
--- Laws of a load with settings, and of the walks of calls on records behind a reference.
-pub mod Left
+-- Laws of a load with settings, and of calls that store only some numbers of a record behind a reference.
 pub mod WithSettings
-pub mod Lent
-pub mod Record
-pub mod Shown
-pub mod Walk
+pub mod Stored

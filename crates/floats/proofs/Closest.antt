@@ -1,7 +1,7 @@
 -- The whole number nearest to a fraction, a tie to the even one: `closest a b`.
-use Rattle.std.proofs.Common.{◌≡◌, ℕ, zero, suc, ◌+◌, ◌-◌, ◌*◌, ◌/◌, ◌%◌, ◌^◌, ◌<◌, ◌≤◌, not, T, eqb, sym, refl, ap, ◌∙◌, subst, le_trans, lt_of_lt_of_le, lt_of_le_of_lt, add-zero, mod-lt, mod-eq_of_lt, mul_assoc, add-mul, one-mul, pow-suc, div-add-mod', le-div_iff_mul-le, div-mul-le_self, mul_left_comm, arith, lit<, eqb→eq, leb→le, pow_pos, pow_mono, pow-add, shr_lt}
+use Rattle.std.proofs.Common.{◌≡◌, ℕ, zero, suc, ◌+◌, ◌-◌, ◌*◌, ◌/◌, ◌%◌, ◌^◌, ◌<◌, ◌≤◌, not, T, eqb, sym, refl, ap, ◌∙◌, subst, le_trans, add-zero, mod-lt, mod-eq_of_lt, mul_assoc, add-mul, one-mul, pow-suc, div-add-mod', le-div_iff_mul-le, mul_left_comm, arith, lit<, eqb→eq, leb→le, pow_pos, pow_mono, pow-add, shr_lt}
 use Prim.Native.Nat.{compare, Ordering}
-use native.Mathlib.Nat.{mod-eq-sub-div-mul, div-eq_of_lt}
+use native.Mathlib.Nat.{div-eq_of_lt}
 use native.Mathlib.Numerals.{suc-eq-add-one}
 use lib.Dec.{is_le, compare_is_eq, nleb→lt, eqb_refl}
 use lib.Arith.{lt_of_le-ne, digits_div, digits_mod}

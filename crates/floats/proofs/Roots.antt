@@ -6,7 +6,6 @@ use lib.Dec.{nleb→lt}
 use lib.Ieee.{size}
 use lib.Ieee.Digits.{size-lt}
 use lib.Ieee.Nearest.{closest, closest_same}
-use borrow.Author.Rules.{zero≤}
 use Rattle.floats.specs.Sqrt.{root_by, whole_root, twice_root}
 use Rattle.floats.specs.Steps.{IsRooted}
 use Rattle.floats.proofs.Closest.{between}
@@ -34,7 +33,7 @@ next_digit n s h = go (leb (suc (2 * s) * suc (2 * s)) n) (leb→le (suc (2 * s)
 
 root_by_is : (d n : ℕ) → n < 4 ^ d → IsRoot n (root_by d n)
 unfolding root_by
-root_by_is zero n h = record { under = zero≤; over = h }
+root_by_is zero n h = record { under = omega arith; over = h }
 root_by_is (suc d) n h = next_digit n (root_by d (n / 4)) (root_by_is d (n / 4) ((div-lt_iff_lt-mul (lit< tt)).1 (subst (λ (x : ℕ). n < x) (pow-suc 4 d) h)))
 
 pub whole_root_is : (n : ℕ) → IsRoot n (whole_root n)

@@ -5,9 +5,8 @@ use Rattle.definition.specs.declared.IvectorOptions.{IvectorOptions}
 use Rattle.definition.specs.declared.Dimensions.{Dimensions}
 use Rattle.definition.specs.declared.TableLengths.{TableLengths}
 use Rattle.definition.specs.Options.{max_feat, max_columns, options_in_range, spliced}
-use Rattle.definition.specs.Reader.{Got, read, refused, Parser, ◌>>=◌, give}
-use Rattle.definition.specs.Kaldi.{gmm, extractor, lda}
-use Rattle.definition.specs.Text.{cmvn, line}
+use Rattle.definition.specs.Reader.{Got, read, refused}
+use Rattle.definition.specs.Text.{line}
 use Rattle.definition.specs.Model.{Contents, Files, Model, reading, model_of, tables_fit, load_scratch}
 use Rattle.kaldi_io.specs.Answers.{width, MatrixIn}
 use Rattle.kaldi_files.specs.Answers.{GmmIn, ExtractorIn, means, inverses, items}

@@ -1,10 +1,7 @@
 -- What a fill reads again, once the bytes are checked, and what it makes of it.
-use Rattle.std.specs.Prelude.{◌≡◌, ℕ, ◌+◌, ◌*◌, Bool, false, List, [], drop, slice_index_or, Float, if◌then◌else◌}
+use Rattle.std.specs.Prelude.{◌≡◌, ℕ, ◌*◌, Bool, false, List, [], drop, slice_index_or, Float}
 use Rattle.std.specs.Float.{binary32, binary64}
-use Rattle.std.specs.Float.Ieee.{neg}
 use Rattle.loops.specs.Lists.{flat}
-use Rattle.floats.specs.Operators.{◌*₆₄◌, f64, zero₃₂, half₆₄, as_f64, at}
-use Rattle.floats.specs.Ln.{ln_of}
 use Rattle.definition.specs.Options.{max_feat, max_ivector}
 use Rattle.definition.specs.Reader.{Got, read, refused, numbers}
 use Rattle.definition.specs.Kaldi.{Matrix, Packed, Gmm, matrix, packed_matrix, matrix_at}

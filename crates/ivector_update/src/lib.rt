@@ -69,10 +69,10 @@ fn update_batch(
         let M : Model = model info (tables_from gconsts.now means_invvars_t.now inv_vars_t.now sigma_inv_m.now u.now lda_t.now lda_offset.now global.now) in
         let F : Frames = ring_frames info.dims.base_dim accepted frames.now rows.now in
         let bs : Batch = batch_of info.opts called next f (waiting_in n waiting_frames.now waiting_weights.now) in
-        let e₀ : Estimate = record { cmvn = cmvn.entry.now; stats = stats_in num_frames linear.old quadratic.old; current = current.old } in
+        let e₀ : Estimate = record { cmvn = cmvn.old; stats = stats_in num_frames linear.old quadratic.old; current = current.old } in
         let e : Estimate = updated M F bs e₀ in
-        (cmvn.exit.now ≡ e.cmvn) × (stats_in result.num_frames linear.new quadratic.new ≡ e.stats) × (current.new ≡ e.current)
-        × (result.nans ≡ nans_over M F bs cmvn.entry.now)) }
+        (cmvn.new ≡ e.cmvn) × (stats_in result.num_frames linear.new quadratic.new ≡ e.stats) × (current.new ≡ e.current)
+        × (result.nans ≡ nans_over M F bs cmvn.old)) }
 {
     let o = info.opts;
     let dims = info.dims;
@@ -176,10 +176,10 @@ pub fn update_stats_until(
         let M : Model = model info (tables_from gconsts.now means_invvars_t.now inv_vars_t.now sigma_inv_m.now u.now lda_t.now lda_offset.now global.now) in
         let F : Frames = ring_frames info.dims.base_dim accepted frames.now rows.now in
         let bs : Batch = batch_of info.opts called next f (waiting_in n waiting_frames.now waiting_weights.now) in
-        let e₀ : Estimate = record { cmvn = cmvn.entry.now; stats = stats_in num_frames linear.old quadratic.old; current = current.old } in
+        let e₀ : Estimate = record { cmvn = cmvn.old; stats = stats_in num_frames linear.old quadratic.old; current = current.old } in
         let e : Estimate = updated M F bs e₀ in
-        (cmvn.exit.now ≡ e.cmvn) × (stats_in result.num_frames linear.new quadratic.new ≡ e.stats) × (current.new ≡ e.current)
-        × (result.nans ≡ nans_over M F bs cmvn.entry.now)) }
+        (cmvn.new ≡ e.cmvn) × (stats_in result.num_frames linear.new quadratic.new ≡ e.stats) × (current.new ≡ e.current)
+        × (result.nans ≡ nans_over M F bs cmvn.old)) }
 {
     let o = info.opts;
     let dims = info.dims;

@@ -2,4 +2,3 @@
 pub mod Chain
 pub mod Bytes
 pub mod Numbers
-pub mod Readers

@@ -1,5 +1,5 @@
 -- Lists made by index or by a test.
-use Rattle.std.specs.Prelude.{Bool, true, false, ◌||◌, ◌&&◌, cond, List, [], ◌∷◌, ◌++◌, ℕ, zero, suc, length, drop, if◌then◌else◌}
+use Rattle.std.specs.Prelude.{Bool, true, false, ◌||◌, ◌&&◌, List, [], ◌∷◌, ◌++◌, ℕ, zero, suc, length, drop, if◌then◌else◌}
 
 -- the list f 0, f 1, .., f (n - 1)
 unfoldable pub build : {A : Type 0} → ℕ → (ℕ → A) → List A

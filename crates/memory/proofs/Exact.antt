@@ -1,9 +1,9 @@
 -- Lengths that are enough, and that none shorter are: `tables_exact` and `rooms_exact`, of every model and every stream.
 use Rattle.std.specs.Prelude.{if◌then◌else◌}
-use mathlib.Core.Path.{◌≡◌, refl, sym, ap, ◌∙◌, subst}
+use mathlib.Core.Path.{◌≡◌, refl, ap, subst}
 use mathlib.Core.Bool.{Bool, true, false, not, ◌&&◌}
 use mathlib.Core.List.{List, [], ◌∷◌}
-use Prim.Native.Nat.{ℕ, zero, suc, ◌+◌, ◌-◌, ◌*◌, ◌/◌, ◌≤◌, ◌<◌, min}
+use Prim.Native.Nat.{ℕ, zero, suc, ◌*◌, ◌/◌, ◌≤◌, ◌<◌, min}
 use native.Mathlib.Nat.{le_refl, mul-div_cancel}
 use native.Mathlib.Omega.{arith}
 use lib.Dec.{leb}
@@ -11,7 +11,6 @@ use lib.ListN.{get_or}
 use borrow.Author.Tests.{le-leb, lt-leb}
 use Rattle.loops.specs.Lists.{pairwise}
 use Rattle.loops.specs.Refusal.{first_of}
-use Rattle.loops.specs.Ring.{rows_in}
 use Rattle.loops.proofs.Choose.{and_first, and_second, and_both, and_holds}
 use Rattle.loops.proofs.Tests.{same-pair, of_each, at_fail}
 use Rattle.definition.specs.declared.IvectorOptions.{IvectorOptions}
@@ -20,8 +19,8 @@ use Rattle.definition.specs.declared.Dimensions.{Dimensions}
 use Rattle.definition.specs.declared.TableLengths.{TableLengths}
 use Rattle.definition.specs.declared.RoomLengths.{RoomLengths}
 use Rattle.definition.specs.Options.{options_in_range, dims_in_range}
-use Rattle.definition.specs.Reader.{Got, read}
-use Rattle.definition.specs.Model.{Files, Model, table_sizes, table_lengths, tables_fit, load_scratch, load}
+use Rattle.definition.specs.Reader.{read}
+use Rattle.definition.specs.Model.{Files, table_sizes, table_lengths, tables_fit, load_scratch, load}
 use Rattle.definition.specs.Stream.{info_sound, same_tables, estimate_lengths, estimate_sizes, rooms_fit, new_refusal, record_sound}
 use Rattle.definition.proofs.Ranges.{info_sound_lem, dim-ranges}
 use Rattle.limits.proofs.Rows.{rows_under}

@@ -1,13 +1,11 @@
 -- The ways out of the three calls.
 use mathlib.Core.Path.{◌≡◌, refl, sym, ap, ◌∙◌, subst}
-use mathlib.Core.Bool.{Bool, true, false, ◌&&◌}
-use mathlib.Core.List.{List, [], ◌∷◌}
+use mathlib.Core.Bool.{true, false, ◌&&◌}
 use Prim.Native.Nat.{ℕ, ◌+◌, ◌*◌, ◌≤◌}
 use native.Mathlib.Omega.{arith}
 use lib.Dec.{leb}
 use borrow.Author.Tests.{le-leb}
-use Rattle.loops.specs.Lists.{pairwise}
-use Rattle.loops.proofs.Choose.{by-test, and_both}
+use Rattle.loops.proofs.Choose.{and_both}
 use Rattle.definition.specs.declared.IvectorOptions.{IvectorOptions}
 use Rattle.definition.specs.declared.Dimensions.{Dimensions}
 use Rattle.definition.specs.declared.TableLengths.{TableLengths}
@@ -15,12 +13,11 @@ use Rattle.definition.specs.declared.RoomLengths.{RoomLengths}
 use Rattle.definition.specs.Options.{within, options_in_range, dims_in_range, dims_agree, spliced}
 use Rattle.definition.specs.Reader.{Got, read, refused}
 use Rattle.definition.specs.Kaldi.{triangle}
-use Rattle.definition.specs.Model.{Model, Files, lengths_from, table_sizes, table_lengths, tables_fit, load_scratch, load}
+use Rattle.definition.specs.Model.{Model, Files, lengths_from, table_sizes, tables_fit, load_scratch, load}
 use Rattle.definition.proofs.Ranges.{DimRanges, DimProducts, SplicedRanges, dim-ranges, dim_products, spliced-ranges}
 use Rattle.kaldi_io.proofs.Chain.{not-read, same-value, same_refusal}
-use Rattle.memory.specs.declared.DimensionsAnswer.{DimensionsAnswer}
 use Rattle.memory.specs.Memory.{dimensions_of, dimensions_answer, no_dimensions, tables_answer, no_tables, tables_needed, room_sizes, rooms_answer, no_rooms, rooms_needed}
-use Rattle.memory.proofs.Sized.{Found, Follows, follows}
+use Rattle.memory.proofs.Sized.{Follows, follows}
 use Rattle.memory.proofs.Exact.{dims_sound}
 
 -- ---- a model's dimensions, judged with the longest lengths that there are

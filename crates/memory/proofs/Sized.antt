@@ -1,7 +1,7 @@
 -- A load beside the dimensions of its files: both judge the files alike, and then the load judges what it is lent.
-use mathlib.Core.Path.{◌≡◌, refl, sym, ap, ◌∙◌, subst}
+use mathlib.Core.Path.{◌≡◌, refl, subst}
 use mathlib.Core.Bool.{Bool, true, false, ◌&&◌}
-use mathlib.Core.List.{List, []}
+use mathlib.Core.List.{[]}
 use Prim.Native.Nat.{ℕ}
 use lib.Dec.{leb}
 use Rattle.loops.proofs.Choose.{by-test}
@@ -11,7 +11,6 @@ use Rattle.definition.specs.declared.TableLengths.{TableLengths}
 use Rattle.definition.specs.Options.{options_in_range}
 use Rattle.definition.specs.Reader.{Got, read, refused, after, give, need}
 use Rattle.definition.specs.Model.{Model, Contents, Files, contents_agree, dims_of, model_of, tables_fit, load_scratch, reading, judged, loading, load}
-use Rattle.kaldi_io.proofs.Chain.{not-read, same-value}
 use Rattle.memory.specs.Memory.{dimensions_of}
 
 -- a model with these options and dimensions was loaded

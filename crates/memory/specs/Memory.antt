@@ -10,7 +10,7 @@ use Rattle.definition.specs.declared.RoomLengths.{RoomLengths}
 use Rattle.definition.specs.Options.{within, options_in_range, dims_in_range, dims_agree}
 use Rattle.definition.specs.Reader.{Got, read, refused, Parser, ◌>>=◌, ◌>>◌, give, need}
 use Rattle.definition.specs.Kaldi.{triangle}
-use Rattle.definition.specs.Model.{Model, Files, contents_agree, dims_of, lengths_from, table_sizes, table_lengths, load_scratch, reading, load}
+use Rattle.definition.specs.Model.{Files, contents_agree, dims_of, lengths_from, table_sizes, table_lengths, load_scratch, reading, load}
 use Rattle.definition.specs.Machine.{waiting_room}
 use Rattle.definition.specs.Stream.{stream_scratch, estimate_lengths, estimate_sizes, new_refusal}
 use Rattle.memory.specs.declared.DimensionsAnswer.{DimensionsAnswer}

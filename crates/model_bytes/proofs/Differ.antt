@@ -3,25 +3,22 @@
 use mathlib.Core.Path.{◌≡◌, refl, sym, ap, ◌∙◌}
 use mathlib.Core.Bool.{Bool, true}
 use mathlib.Core.List.{List, [], ◌∷◌, ◌++◌, append_assoc, append-nil}
-use Prim.Native.Nat.{ℕ, zero, suc, ◌+◌, ◌*◌, ◌≤◌, ◌<◌, ◌^◌}
+use Prim.Native.Nat.{ℕ, zero, suc, ◌*◌, ◌<◌}
 use native.Mathlib.Omega.{arith}
-use lib.ListN.{length, take, drop, get_or, length-take, length-drop}
-use lib.Ieee.{Float, nan, Format, binary32, binary64, fits}
-use Rattle.loops.specs.Lists.{flat, all_of, all_true}
-use Rattle.loops.proofs.Choose.{and_both, and_holds}
+use lib.ListN.{get_or}
+use lib.Ieee.{Float, nan, Format, fits}
+use Rattle.loops.specs.Lists.{flat, all_of}
+use Rattle.loops.proofs.Choose.{and_both}
 use Rattle.loops.proofs.Flat.{flat_ext}
-use Rattle.loops.proofs.Tests.{each_of, each_at, at_each}
-use Rattle.loops.proofs.Parts.{length_part, at_part}
-use Rattle.loops.proofs.Cells.{row_in_lem}
+use Rattle.loops.proofs.Tests.{each_of}
 use Rattle.definition.specs.declared.IvectorOptions.{IvectorOptions}
-use Rattle.definition.specs.Options.{max_gauss}
 use Rattle.definition.specs.Kaldi.{matrix_tag, packed_tag, triangle}
 use Rattle.model_bytes.specs.declared.ModelSizes.{ModelSizes}
 use Rattle.model_bytes.specs.Written.{size_bytes, numbers_bytes, ended, token_bytes, line_bytes, table_bytes, matrix_bytes, packed_bytes, Params, params_from, part, gmm_bytes, extractor_bytes, lda_bytes, model_bytes}
 use Rattle.model_bytes.specs.Theorems.{of_width, Accepted, Differ}
 use Rattle.model_bytes.proofs.Encoding.{past, size-apart, numbers_apart}
 use Rattle.model_bytes.specs.Pieces.{weights_head, means_head, vars_head, mHead, offset_head, lda_head, mBlocks, sigma_blocks}
-use Rattle.model_bytes.proofs.Shapes.{gmm_is, extractor_is, lda_is, parts_whole, fit-part, long-part, Small, Fit, line_apart, table_apart}
+use Rattle.model_bytes.proofs.Shapes.{gmm_is, extractor_is, lda_is, parts_whole, fit-part, long-part, Fit, line_apart, table_apart}
 use Rattle.model_bytes.proofs.Sound.{Sound, sound}
 
 -- ---- one block for each Gaussian

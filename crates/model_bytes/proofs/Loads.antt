@@ -4,16 +4,16 @@ use Rattle.std.specs.Prelude.{if◌then◌else◌}
 use mathlib.Core.Path.{◌≡◌, refl, sym, ap, ◌∙◌, subst}
 use mathlib.Core.Bool.{Bool, true, false, ◌&&◌}
 use mathlib.Core.List.{List, [], ◌∷◌, ◌++◌, map, append_assoc, append-nil, map-id}
-use Prim.Native.Nat.{ℕ, zero, suc, ◌+◌, ◌-◌, ◌*◌, ◌≤◌, ◌<◌, ◌^◌}
+use Prim.Native.Nat.{ℕ, zero, suc, ◌+◌, ◌-◌, ◌*◌, ◌<◌, ◌^◌}
 use native.Mathlib.Omega.{arith}
 use borrow.Author.Tests.{le-leb, eq-eqb}
 use lib.Dec.{leb, eqb}
-use lib.ListN.{length, take, drop, get_or, length-map}
+use lib.ListN.{length, take, drop, length-map}
 use lib.Seq.{take_at, drop_at, drop-drop}
 use lib.Ieee.{Float, Format, binary32, binary64, fits}
 use lib.Ieee.Scale.{finite}
-use Rattle.loops.specs.Lists.{flat, build, all_of, all_true, over}
-use Rattle.loops.proofs.Choose.{by-test, and_both}
+use Rattle.loops.specs.Lists.{flat, build, all_of, over}
+use Rattle.loops.proofs.Choose.{and_both}
 use Rattle.loops.proofs.Refusal.{taken_new}
 use Rattle.loops.proofs.Build.{at_build}
 use Rattle.loops.proofs.Tests.{each_of}
@@ -21,16 +21,16 @@ use Rattle.definition.specs.declared.IvectorOptions.{IvectorOptions}
 use Rattle.definition.specs.declared.TableLengths.{TableLengths}
 use Rattle.definition.specs.Options.{within, max_gauss, max_feat, max_ivector, max_columns, options_in_range, dims_agree}
 use Rattle.definition.specs.Reader.{Got, read, refused, Parser, after, ◌>>=◌, ◌>>◌, give, need, times, text, same, byte_width, kept_as, kept}
-use Rattle.definition.specs.Kaldi.{binary, blank, word, token, dim, matrix_tag, block_width, vector, skipped, Matrix, matrix, triangle, Packed, packed_matrix, Gmm, weights_heading, gmm, Extractor, rowless, extractor_heading, single, matrix_at, alike, extractor, lda}
+use Rattle.definition.specs.Kaldi.{blank, token, dim, matrix_tag, skipped, Matrix, matrix, triangle, Packed, packed_matrix, Gmm, weights_heading, gmm, Extractor, rowless, extractor_heading, single, matrix_at, alike, extractor, lda}
 use Rattle.definition.specs.Model.{Contents, Files, Model, dims_of, contents_agree, model_of, tables_fit, load_scratch, judged, loading, load}
 use Rattle.definition.specs.Text.{cmvn}
-use Rattle.model_bytes.specs.Written.{numbers_bytes, size_bytes, mark, ended, token_bytes, vector_bytes, matrix_bytes, packed_bytes, Params, part, gmm_bytes, extractor_bytes, lda_bytes, model_bytes, dims_with, written, written_out}
+use Rattle.model_bytes.specs.Written.{numbers_bytes, size_bytes, mark, token_bytes, vector_bytes, matrix_bytes, packed_bytes, Params, part, gmm_bytes, extractor_bytes, lda_bytes, model_bytes, dims_with, written, written_out}
 use Rattle.model_bytes.specs.declared.Written.TheVariants as W
-use Rattle.model_bytes.specs.Theorems.{of_width, Accepted, files_in, row_of, contents_of, Loads}
+use Rattle.model_bytes.specs.Theorems.{files_in, row_of, contents_of, Loads}
 use Rattle.model_bytes.proofs.Differ.{Known, known}
 use Rattle.model_bytes.proofs.Shapes.{fit-part, long-part}
-use Rattle.model_bytes.proofs.Reading.{Reads, reads_none, reads_need, reads_give, reads_then, reads_end, reads_as, reads_value, reads_times, Solid, reads_word, reads_token, reads_mark, reads_dim, matrix-told, reads_width, Written, reads_vector, reads_matrix, reads_packed, reads_skipped, reads_single}
-use Rattle.model_bytes.proofs.Sound.{Sized, Listed, Sound, TextFits}
+use Rattle.model_bytes.proofs.Reading.{Reads, reads_need, reads_give, reads_then, reads_end, reads_as, reads_value, reads_times, reads_word, reads_token, reads_mark, reads_dim, matrix-told, reads_width, Written, reads_vector, reads_matrix, reads_packed, reads_skipped, reads_single}
+use Rattle.model_bytes.proofs.Sound.{Sized, Listed, Sound}
 
 -- one parser after another, where the first gives nothing
 seq : {A B : Type 0} {p : Parser A} {q : Parser B} {x y : List ℕ} {a : A} {b : B} → Reads p x a → Reads q y b → Reads (p >> q) (x ++ y) b

@@ -5,7 +5,6 @@ use mathlib.Core.Bool.{Bool, true, false, not, ◌&&◌}
 use mathlib.Core.List.{List, [], ◌∷◌, ◌++◌, map, append_assoc, append-nil, map-id}
 use Prim.Native.Nat.{ℕ, zero, suc, ◌+◌, ◌-◌, ◌*◌, ◌≤◌, ◌<◌, ◌^◌}
 use native.Mathlib.Nat.{add-zero, zero-mul}
-use native.Mathlib.Numerals.{add-one}
 use native.Mathlib.Omega.{arith}
 use borrow.Author.Tests.{not-true, le-leb, lt-ltb}
 use lib.ListN.{length, take, drop, length-append}
@@ -13,10 +12,10 @@ use lib.Seq.{take_at, drop_at}
 use lib.Ieee.{Float, Format, binary32, binary64, of_bits, to_bits, fits}
 use lib.Ieee.Scale.{finite}
 use Rattle.loops.specs.Lists.{flat, build, all_of}
-use Rattle.loops.proofs.Choose.{and_both, and_holds}
+use Rattle.loops.proofs.Choose.{and_holds}
 use Rattle.loops.proofs.Tests.{each_of, same-pair}
 use Rattle.definition.specs.Options.{within, max_feat}
-use Rattle.definition.specs.Reader.{Got, read, refused, Parser, after, ◌>>=◌, ◌>>◌, give, need, times, bytes, run, same, little_endian, byte_width, kept_as, numbers, kept, floats}
+use Rattle.definition.specs.Reader.{Got, read, Parser, after, ◌>>=◌, ◌>>◌, give, need, times, bytes, run, same, little_endian, byte_width, kept_as, numbers, kept, floats}
 use Rattle.definition.specs.Kaldi.{binary, blank, word, token, dim, vector_tag, matrix_tag, packed_tag, width_by, block_width, vector, skipped, Matrix, matrix, triangle, Packed, packed_matrix, single}
 use Rattle.model_bytes.specs.Written.{low_bytes, numbers_bytes, size_bytes, mark, ended, vector_bytes, matrix_bytes, packed_bytes}
 use Rattle.model_bytes.proofs.Encoding.{length-low, low_back, number_back, length-numbers, numbers_back}

@@ -1,7 +1,7 @@
 -- The files are their pieces, one after the other; blocks that come apart again.
 use mathlib.Core.Path.{◌≡◌, refl, sym, ap, ◌∙◌}
 use mathlib.Core.Bool.{Bool, true}
-use mathlib.Core.List.{List, [], ◌∷◌, ◌++◌, append_assoc}
+use mathlib.Core.List.{List, ◌++◌, append_assoc}
 use Prim.Native.Nat.{ℕ, zero, suc, ◌+◌, ◌*◌, ◌<◌, ◌^◌}
 use native.Mathlib.Nat.{zero-mul, suc-mul}
 use native.Mathlib.Omega.{arith}
@@ -15,7 +15,7 @@ use Rattle.loops.proofs.Parts.{length_part, at_part}
 use Rattle.loops.proofs.Cells.{row_in_lem}
 use Rattle.model_bytes.specs.Written.{low_bytes, numbers_bytes, size_bytes, line_bytes, table_bytes, Params, part, gmm_bytes, extractor_bytes, lda_bytes}
 use Rattle.model_bytes.specs.Pieces.{lda_head, gmm_pieces, extractor_pieces}
-use Rattle.model_bytes.proofs.Encoding.{apart, past, numbers_apart, size-apart}
+use Rattle.model_bytes.proofs.Encoding.{past, numbers_apart, size-apart}
 
 module _ (p : Params) where
   abbrev g : ℕ

@@ -1,15 +1,13 @@
 -- What a set that is not refused meets: its sizes are in range, its lists have their lengths, and their numbers are ones to keep.
-use mathlib.Core.Path.{◌≡◌, refl, sym, ap, ◌∙◌}
+use mathlib.Core.Path.{◌≡◌, refl}
 use mathlib.Core.Bool.{Bool, true, false, not, true≢false}
 use mathlib.Core.List.{List, [], ◌∷◌, ◌++◌}
-use Prim.Native.Nat.{ℕ, ◌+◌, ◌-◌, ◌*◌, ◌≤◌, ◌<◌, ◌^◌}
-use native.Mathlib.Omega.{arith}
+use Prim.Native.Nat.{ℕ, ◌-◌, ◌*◌, ◌≤◌}
 use borrow.Author.Tests.{not-false, leb-true, eqb-true, ltb-false}
 use lib.Dec.{ltb}
 use lib.ListN.{length}
-use lib.Ieee.{Float, Format, binary32, binary64, fits}
+use lib.Ieee.{Float, Format, binary32, binary64}
 use Rattle.loops.specs.Lists.{all_of}
-use Rattle.loops.specs.Refusal.{first_of}
 use Rattle.loops.proofs.Choose.{and_holds}
 use Rattle.loops.proofs.Refusal.{NoneFirst, Numbered, none_first}
 use Rattle.definition.specs.declared.IvectorOptions.{IvectorOptions}

@@ -1,13 +1,13 @@
 -- What is claimed of the calls that write a model: two statements, each over both widths.
 use Rattle.std.specs.Prelude.{◌≡◌, ℕ, ◌+◌, ◌*◌, Bool, true, ◌&&◌, List, [], ◌∷◌, map, length, take, drop, leb, Float, if◌then◌else◌}
-use Rattle.std.specs.Float.{Format, binary32, binary64}
+use Rattle.std.specs.Float.{Format, binary32}
 use Rattle.std.specs.Float.Ieee.{fits}
 use Rattle.loops.specs.Lists.{all_of, all_true, build}
 use Rattle.definition.specs.declared.IvectorOptions.{IvectorOptions}
 use Rattle.definition.specs.declared.TableLengths.{TableLengths}
 use Rattle.definition.specs.Reader.{Got, read, refused, kept_as}
 use Rattle.definition.specs.Kaldi.{triangle}
-use Rattle.definition.specs.Model.{Contents, Files, Model, dims_of, model_of, tables_fit, load_scratch, load}
+use Rattle.definition.specs.Model.{Contents, Files, dims_of, model_of, tables_fit, load_scratch, load}
 use Rattle.definition.specs.Text.{cmvn}
 use Rattle.model_bytes.specs.declared.Written.{Written}
 use Rattle.model_bytes.specs.declared.Written.TheVariants as W

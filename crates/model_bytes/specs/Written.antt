@@ -1,6 +1,6 @@
 -- Request 5, a model written back: the bytes of the GMM's, the extractor's and the LDA's file, from parameters that all have one width, f32 or f64; and what the
 -- call refuses. The bytes are those of Kaldi's own writers.
-use Rattle.std.specs.Prelude.{ℕ, zero, suc, ◌+◌, ◌-◌, ◌*◌, ◌/◌, ◌%◌, Bool, true, false, not, List, [], ◌∷◌, ◌++◌, length, take, drop, ltb, eqb, Float}
+use Rattle.std.specs.Prelude.{ℕ, zero, suc, ◌-◌, ◌*◌, ◌/◌, ◌%◌, Bool, true, false, not, List, [], ◌∷◌, ◌++◌, length, take, drop, ltb, eqb, Float}
 use Prim.Native.String.{String}
 use Rattle.std.specs.Float.{Format, binary32, binary64}
 use Rattle.std.specs.Float.Ieee.{to_bits}

@@ -1,14 +1,12 @@
 -- How long the files are, at each width; and that no product of sizes passes 64 bits.
 use mathlib.Core.Path.{◌≡◌, refl, sym, ap, ◌∙◌}
 use mathlib.Core.List.{List, [], ◌∷◌, ◌++◌}
-use Prim.Native.Nat.{ℕ, suc, ◌+◌, ◌*◌, ◌/◌, ◌≤◌, ◌<◌}
+use Prim.Native.Nat.{ℕ, suc, ◌+◌, ◌*◌, ◌≤◌}
 use native.Mathlib.Nat.{mul-add, mul-le-mul}
 use native.Mathlib.Omega.{arith}
 use lib.ListN.{length, length-append}
 use lib.Ieee.{Float, Format, binary32, binary64}
-use Rattle.loops.specs.Lists.{flat}
 use Rattle.loops.proofs.Flat.{length_flat}
-use Rattle.definition.specs.Options.{max_gauss, max_feat, max_ivector, max_columns}
 use Rattle.definition.specs.Reader.{byte_width}
 use Rattle.definition.specs.Kaldi.{matrix_tag, packed_tag, triangle}
 use Rattle.model_bytes.specs.declared.ModelSizes.{ModelSizes}
@@ -16,7 +14,7 @@ use Rattle.model_bytes.specs.Written.{numbers_bytes, size_bytes, ended, token_by
 use Rattle.model_bytes.specs.Pieces.{weights_head, means_head, vars_head, mHead, offset_head, lda_head, mBlocks, sigma_blocks, gmm_pieces, extractor_pieces}
 use Rattle.model_bytes.proofs.Encoding.{length-low, length-numbers}
 use Rattle.model_bytes.proofs.Shapes.{gmm_is, extractor_is, lda_is, long-part}
-use Rattle.model_checks.specs.Steps.{InRange, gmm_length, extractor_length, lda_length, total_length}
+use Rattle.model_checks.specs.Steps.{InRange, total_length}
 
 -- ---- blocks
 

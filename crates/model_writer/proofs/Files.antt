@@ -1,6 +1,5 @@
 -- The pieces of a block and of a file, one after the other: where the whole has room, each piece has in its turn, and what the last one leaves is the whole.
 use mathlib.Core.Path.{sym}
-use mathlib.Core.Bool.{true}
 use mathlib.Core.List.{List, [], ◌∷◌, ◌++◌}
 use Prim.Native.Nat.{ℕ, ◌+◌, ◌≤◌}
 use native.Mathlib.Omega.{arith}

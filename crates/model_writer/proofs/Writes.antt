@@ -6,9 +6,9 @@ use mathlib.Core.List.{List, [], ◌∷◌, ◌++◌, append_assoc, append-nil}
 use Prim.Native.Nat.{ℕ, zero, suc, ◌+◌, ◌-◌, ◌*◌, ◌/◌, ◌%◌, ◌≤◌, ◌<◌}
 use native.Mathlib.Nat.{suc-mul, add-zero, mul-le-mul, mul-le-mul_right}
 use native.Mathlib.Omega.{arith}
-use lib.ListN.{length, take, drop, get_or, length-append, length-take, take-append-drop}
+use lib.ListN.{length, take, drop, get_or, length-append, take-append-drop}
 use lib.Seq.{length-take-le, take_all}
-use lib.Ieee.{Float, nan, inf, fin, Format, binary32, binary64, to_bits, is_nan}
+use lib.Ieee.{Float, nan, inf, fin, Format, binary64, to_bits, is_nan}
 use lib.Ieee.Scale.{finite}
 use Rattle.loops.specs.Lists.{all_of, build, flat, over}
 use Rattle.loops.proofs.Build.{build_list}
@@ -24,12 +24,12 @@ use Rattle.definition.specs.declared.IvectorOptions.{IvectorOptions}
 use Rattle.model_checks.proofs.Order.{all-finite}
 use Rattle.definition.specs.Reader.{byte_width}
 use Rattle.definition.specs.Kaldi.{triangle}
-use Rattle.model_bytes.specs.Written.{low_bytes, numbers_bytes, size_bytes, table_bytes, Params, part, gmm_bytes, extractor_bytes, lda_bytes, model_bytes, write_refusal, written, written_out}
+use Rattle.model_bytes.specs.Written.{low_bytes, numbers_bytes, table_bytes, Params, part, gmm_bytes, extractor_bytes, lda_bytes, model_bytes, write_refusal, written, written_out}
 use Rattle.model_bytes.specs.declared.ModelSizes.{ModelSizes}
 use Rattle.model_bytes.specs.declared.Written.TheVariants as W
 use Rattle.model_bytes.specs.Pieces.{lda_head, gmm_pieces, extractor_pieces}
-use Rattle.model_bytes.proofs.Encoding.{length-low, length-numbers}
-use Rattle.model_bytes.proofs.Shapes.{gmm_is, extractor_is, lda_is, fit-part, long-part}
+use Rattle.model_bytes.proofs.Encoding.{length-numbers}
+use Rattle.model_bytes.proofs.Shapes.{gmm_is, extractor_is, lda_is, fit-part}
 use Rattle.model_bytes.proofs.Sound.{Sound, sound, Listed}
 use Rattle.model_writer.specs.Steps.{Wrote, Full}
 

@@ -1,11 +1,11 @@
 -- Counting the NaN of a list element by element: what is counted, and what is left from i on, are together what the whole list has.
-use mathlib.Core.Path.{◌≡◌, refl, sym, ap, ◌∙◌}
+use mathlib.Core.Path.{◌≡◌, sym, ◌∙◌}
 use mathlib.Core.Bool.{Bool, true, false}
 use mathlib.Core.List.{List}
 use Prim.Native.Nat.{ℕ, ◌+◌, ◌≤◌, ◌<◌}
 use native.Mathlib.Omega.{arith}
 use lib.ListN.{length, drop, drop_of_length-le}
-use lib.Ieee.{Float, nan, is_nan, ne}
+use lib.Ieee.{Float, nan, ne}
 use mir.Val.{bool_byte}
 use Rattle.loops.specs.Lists.{those}
 use Rattle.loops.proofs.Choose.{by-test}

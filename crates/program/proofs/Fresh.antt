@@ -1,6 +1,6 @@
 -- A fresh stream matches a fresh machine: `Inv` at the start.
 use mathlib.Core.Path.{◌≡◌, refl, ap, ap₂, ◌∙◌}
-use Prim.Native.Nat.{ℕ, zero, suc, ◌+◌, ◌-◌, ◌≤◌, ◌<◌}
+use Prim.Native.Nat.{ℕ, zero, suc, ◌+◌, ◌≤◌, ◌<◌}
 use native.Mathlib.Nat.{zero-mul, one-mul, mul-le-mul_right, div-mul-le_self, zero-mod}
 use native.Mathlib.Omega.{arith}
 use mathlib.Core.List.{List, []}

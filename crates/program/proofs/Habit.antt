@@ -3,14 +3,14 @@
 -- makes it the program's.
 use Rattle.std.specs.Prelude.{if◌then◌else◌}
 use mathlib.Core.Path.{◌≡◌, refl, sym, ap, subst, ◌∙◌}
-use mathlib.Core.Bool.{Bool, true, false, ◌&&◌}
-use Prim.Native.Nat.{ℕ, zero, suc, ◌+◌, ◌-◌, ◌≤◌, ◌<◌, min, max}
+use mathlib.Core.Bool.{Bool, true, false}
+use Prim.Native.Nat.{ℕ, zero, suc, ◌+◌, ◌-◌, ◌≤◌, min}
 use native.Mathlib.Omega.{arith}
-use mathlib.Core.List.{List, [], ◌∷◌, ◌++◌, map, foldl}
+use mathlib.Core.List.{List, [], ◌∷◌, map, foldl}
 use lib.ListN.{length, take, get_or, length-append}
 use lib.Dec.{eqb, leb, ltb}
 use lib.Ieee.{Float}
-use borrow.Author.Tests.{eqb-true, eqb-false, leb-true, leb-false, ltb-true, ltb-false, le-ltb, ne_eqb}
+use borrow.Author.Tests.{eqb-true, eqb-false, leb-true, ltb-true, ltb-false, le-ltb, ne_eqb}
 use Rattle.loops.specs.Lists.{build, those, any_of, all_of}
 use Rattle.loops.specs.Refusal.{first_of, taken}
 use Rattle.loops.specs.Ring.{rows_in}
@@ -23,11 +23,11 @@ use Rattle.definition.specs.declared.IvectorInfo.{IvectorInfo}
 use Rattle.definition.specs.declared.RingLengths.{RingLengths}
 use Rattle.definition.specs.declared.RoomLengths.{RoomLengths}
 use Rattle.definition.specs.Model.{Tables, Model, model_in}
-use Rattle.definition.specs.Changes.{Change, insert_change, changed, reached}
-use Rattle.definition.specs.Machine.{Call, push, finish, change, forget, set_window, fetch, Answer, Machine, moved, accepted, frames_held, rows_held, forgotten, longest_from, push_tests, change_tests, window_tests, fetch_tests, fresh, caught_up, does, told_by, answer, answers_from, answers, machine_after}
+use Rattle.definition.specs.Changes.{Change, changed, reached}
+use Rattle.definition.specs.Machine.{Call, push, finish, change, forget, set_window, fetch, Machine, moved, accepted, frames_held, rows_held, forgotten, longest_from, push_tests, change_tests, window_tests, fetch_tests, fresh, caught_up, does, told_by, answer, answers_from, answers, machine_after}
 use Rattle.definition.proofs.Floor.{first-not, lowest_under}
-use Rattle.program.specs.Rooms.{Rooms, frames_of, ring_lengths_of, room_lengths_of}
-use Rattle.program.specs.Session.{Program, program, stepped, step_of, program_after}
+use Rattle.program.specs.Rooms.{frames_of, ring_lengths_of, room_lengths_of}
+use Rattle.program.specs.Session.{Program, program, program_after}
 use Rattle.program.specs.Played.{Played, ended, answered, took}
 use Rattle.program.specs.Habit.{EnoughRows, EnoughFrames, Never, window_of, RowsEnough, HeldAfterForget, Ledger, ledger, entered, may_come, in_habit, FramesEnough}
 use Rattle.program.proofs.Waiting.{inserts_none, lowest_at}

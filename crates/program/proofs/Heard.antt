@@ -3,26 +3,24 @@
 use Rattle.std.specs.Prelude.{if◌then◌else◌}
 use mathlib.Core.Path.{◌≡◌, refl, sym, ap, ◌∙◌}
 use mathlib.Core.Bool.{Bool, true, false, not, ◌&&◌}
-use Prim.Native.Nat.{ℕ, zero, suc, ◌+◌, ◌-◌, ◌≤◌, ◌<◌, min, max}
+use Prim.Native.Nat.{ℕ, ◌+◌, ◌-◌, ◌≤◌, ◌<◌, min}
 use native.Mathlib.Omega.{arith}
 use mathlib.Core.List.{List, [], ◌∷◌, ◌++◌, map, foldl, flatten, append-nil, append_assoc}
 use lib.ListN.{length, length-append}
 use lib.Dec.{eqb, leb, ltb}
 use lib.Ieee.{Float}
 use lib.Ieee.Scale.{finite}
-use borrow.Author.Tests.{eqb-true, leb-true, leb-false, ne_eqb, lt-leb, eq-eqb, not-true}
+use borrow.Author.Tests.{leb-true, leb-false, ne_eqb, eq-eqb, not-true}
 use Rattle.loops.specs.Lists.{those, any_of, all_of}
-use Rattle.loops.specs.Refusal.{first_of, taken}
+use Rattle.loops.specs.Refusal.{first_of}
 use Rattle.loops.specs.Ring.{rows_in}
-use Rattle.loops.proofs.Choose.{by-test, and_holds, and_first}
+use Rattle.loops.proofs.Choose.{by-test, and_holds}
 use Rattle.loops.proofs.Refusal.{first-none, first_past, first-here, taken_new, taken_old}
-use Rattle.definition.specs.declared.IvectorInfo.{IvectorInfo}
 use Rattle.definition.specs.declared.RingLengths.{RingLengths}
-use Rattle.definition.specs.Model.{Tables, Model, model_in}
+use Rattle.definition.specs.Model.{Model, model_in}
 use Rattle.definition.specs.Changes.{Change, Changes, reached}
 use Rattle.definition.specs.Machine.{Call, push, forget, fetch, Machine, moved, accepted, frames_held, rows_held, frames_ready, forgotten, longest_from, push_tests, fetch_tests, fresh, caught_up, does, machine_after}
 use Rattle.program.specs.Rooms.{ring_lengths_of}
-use Rattle.program.specs.Played.{Played, took}
 use Rattle.program.specs.Habit.{hears, proper, AllTaken}
 use Rattle.program.proofs.Keeps as keeps
 

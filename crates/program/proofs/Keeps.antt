@@ -14,7 +14,7 @@ use Rattle.definition.specs.declared.NewStream.TheVariants as N
 use Rattle.definition.specs.Model.{Tables, Model, table_lengths_of, model_in}
 use Rattle.definition.specs.Statistics.{new_stats}
 use Rattle.definition.specs.Stream.{new_refusal}
-use Rattle.definition.specs.Machine.{Call, Answer, Machine, accepted, all_frames, frames_held, fresh, told_by, answer, machine_after, answers}
+use Rattle.definition.specs.Machine.{Call, Answer, Machine, all_frames, frames_held, fresh, told_by, machine_after, answers}
 use Rattle.definition.proofs.Floor.{never-18 as machine-never-18}
 use Rattle.program.specs.Rooms.{Rooms, ring_lengths_of, room_lengths_of}
 use Rattle.program.specs.Calls.{answer_of, call_of, fresh_stream, new_answer, fresh_rooms}

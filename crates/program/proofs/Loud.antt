@@ -17,11 +17,11 @@ use Rattle.definition.specs.Views.{Frames, smoothed, windowed, cmvn_state, cmvn_
 use Rattle.definition.specs.Machine.{Machine, all_frames, fresh, machine_after}
 use Rattle.definition.proofs.Agree.{Agree, agree_shorter, windowed_ext, view_ext}
 use Rattle.program.specs.Rooms.{frames_in, ring_lengths_of, room_lengths_of}
-use Rattle.program.specs.Session.{Program, program}
-use Rattle.program.specs.Played.{Played, begun, ended, took}
+use Rattle.program.specs.Session.{Program}
+use Rattle.program.specs.Played.{Played, ended, took}
 use Rattle.program.specs.Loud.{is_loud, loud_view, view_by, view_on, LoudHeld, LoudAfter, LoudAlike}
 use Rattle.program.proofs.Facts.{ranges}
-use Rattle.program.proofs.Sound.{stream_of, Inv}
+use Rattle.program.proofs.Sound.{stream_of}
 use Rattle.program.proofs.Keeps as keeps
 
 -- frames F that agree with a history h on what is held, and a loud frame of it

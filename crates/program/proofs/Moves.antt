@@ -1,7 +1,7 @@
 -- Any call, refused or not, keeps `Inv` (`moved_on`) and is answered alike (`reply_same`); so is any list, by induction (`keeps_from`, `inv_after`).
 -- The machine's history is what the pushes taken brought (`history_is`).
 use mathlib.Core.Path.{◌≡◌, refl, sym, ap, ap₂, subst, ◌∙◌}
-use Prim.Native.Nat.{ℕ, zero, suc, ◌+◌, ◌-◌}
+use Prim.Native.Nat.{ℕ, zero, suc}
 use native.Mathlib.Omega.{arith}
 use mathlib.Core.List.{List, [], ◌∷◌, ◌++◌, append-nil, append_assoc}
 use lib.Dec.{leb}
@@ -9,12 +9,11 @@ use borrow.Author.Tests.{ne_eqb}
 use Rattle.loops.specs.Refusal.{taken}
 use Rattle.loops.proofs.Choose.{by-test}
 use Rattle.loops.proofs.Refusal.{taken_new, taken_old}
-use Rattle.floats.specs.Operators.{at}
 use Rattle.definition.specs.declared.IvectorInfo.{IvectorInfo}
 use Rattle.definition.specs.declared.RingLengths.{RingLengths}
 use Rattle.definition.specs.declared.RoomLengths.{RoomLengths}
 use Rattle.definition.specs.Model.{Tables, Model, model_in}
-use Rattle.definition.specs.Machine.{Call, push, finish, change, forget, set_window, fetch, Answer, Machine, Move, moved, push_tests, change_tests, window_tests, fetch_tests, not_finite, caught_up, does, told_by, answer, machine_after, answers_from, answers}
+use Rattle.definition.specs.Machine.{Call, push, finish, change, forget, set_window, fetch, Answer, Machine, Move, moved, push_tests, change_tests, window_tests, fetch_tests, not_finite, caught_up, does, told_by, answer, machine_after, answers_from}
 use Rattle.definition.proofs.Floor.{first-not}
 use Rattle.program.specs.Rooms.{Rooms}
 use Rattle.program.specs.Calls.{answer_of, Step}

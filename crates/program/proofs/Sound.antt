@@ -14,7 +14,6 @@ use Rattle.loops.proofs.Tests.{of_none, same-pair}
 use Rattle.loops.proofs.Refusal.{first_past}
 use Rattle.definition.specs.declared.IvectorInfo.{IvectorInfo}
 use Rattle.definition.specs.declared.IvectorStream.{IvectorStream}
-use Rattle.definition.specs.declared.RingLengths.{RingLengths}
 use Rattle.definition.specs.declared.RoomLengths.{RoomLengths}
 use Rattle.definition.specs.Model.{Tables, table_lengths_of, model_in}
 use Rattle.definition.specs.Machine.{Call, push, finish, change, forget, set_window, fetch, Machine, accepted, all_frames, frames_held, rows_held, waiting_room, does}

@@ -2,7 +2,7 @@
 -- With F = 2 + 1 + 1 = 4 and R = 4 + 2 = 6 every call is taken; with a frame less a push is 14, with a row less 15. Computed from the definitions, on
 -- the program's rooms.
 use mathlib.Core.Path.{◌≡◌, refl}
-use mathlib.Core.Bool.{Bool, true}
+use mathlib.Core.Bool.{true}
 use Prim.Native.Nat.{ℕ}
 use mathlib.Core.List.{List, [], ◌∷◌, map}
 use lib.ListN.{replicate}

@@ -1,6 +1,6 @@
 -- Waiting changes: that they stay in order and above the mark, and which frames a batch has.
 use mathlib.Core.Path.{◌≡◌, refl}
-use Prim.Native.Nat.{ℕ, zero, suc, ◌-◌, ◌≤◌, ◌<◌, min}
+use Prim.Native.Nat.{ℕ, zero, suc, ◌≤◌, ◌<◌, min}
 use native.Mathlib.Nat.{not-suc-le-zero}
 use native.Mathlib.Omega.{arith}
 use mathlib.Core.Bool.{Bool, true, false}
@@ -11,7 +11,6 @@ use borrow.Author.Tests.{leb-true, le-leb}
 use lib.Ieee.{Float, nan}
 use Rattle.loops.specs.Lists.{those, any_of}
 use Rattle.loops.proofs.Choose.{by-test, and_holds, and_both, or_fails, or_none}
-use Rattle.floats.specs.Operators.{at}
 use Rattle.definition.specs.Changes.{Change, insert_change, merged_from, merged}
 use Rattle.definition.specs.Stream.{rising}
 use Rattle.definition.proofs.Floor.{lowest_under}

@@ -4,7 +4,6 @@ use Rattle.loops.specs.Lists.{any_of}
 use Rattle.loops.specs.Refusal.{taken}
 use Rattle.floats.specs.Operators.{zero₆₄, at, sum₆₄}
 use Rattle.definition.specs.declared.IvectorInfo.{IvectorInfo}
-use Rattle.definition.specs.declared.IvectorStream.{IvectorStream}
 use Rattle.definition.specs.declared.StreamCall.{StreamCall}
 use Rattle.definition.specs.declared.NewStream.TheVariants as N
 use Rattle.definition.specs.Model.{Tables, table_lengths_of, model_in}

@@ -4,7 +4,7 @@ use Rattle.loops.specs.Refusal.{taken}
 use Rattle.definition.specs.declared.IvectorStream.{IvectorStream}
 use Rattle.definition.specs.Model.{Tables}
 use Rattle.definition.specs.Machine.{Call, push, finish, change, forget, set_window, fetch, Answer, bits_of, not_finite}
-use Rattle.program.specs.Rooms.{Rings, Rooms, rooms_from}
+use Rattle.program.specs.Rooms.{Rooms, rooms_from}
 use Rattle.program.specs.Calls.{answer_of, RingStep, Step, push_frame, set_input_finished, update_frame_weights, forget_before, set_cmn_window, get_frame}
 
 -- the program's state: its record, and what the lent rooms hold

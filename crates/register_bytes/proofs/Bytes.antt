@@ -1,9 +1,9 @@
 -- The block's bytes and bits: the interrupt, the flags of a call, and eleven stores that rewrite a block.
-use mathlib.Core.Path.{◌≡◌, refl, sym, ap, ◌∙◌}
+use mathlib.Core.Path.{◌≡◌, sym, ap, ◌∙◌}
 use mathlib.Core.Bool.{Bool, true, false, ◌&&◌, ◌||◌}
 use mathlib.Core.List.{List, [], ◌∷◌}
 use Prim.Native.Nat.{ℕ, zero, suc, ◌+◌, ◌*◌, ◌/◌, ◌%◌, ◌<◌}
-use native.Mathlib.Nat.{mod-lt, mod-add-div', add-mul-div_right, div-eq_of_lt}
+use native.Mathlib.Nat.{mod-add-div', add-mul-div_right, div-eq_of_lt}
 use native.Mathlib.Omega.{arith}
 use lib.ListN.{length, set}
 use borrow.Author.Tests.{eq-eqb, ne_eqb}

@@ -20,7 +20,7 @@ use Rattle.program.specs.Calls.{RingStep, RingCall, ring_call, done_on, record_t
 use Rattle.program.specs.Session.{Program, program, on_rings, stepped, step_of}
 use Rattle.stream_refusals.proofs.Refusals.{push_tests_is}
 use Rattle.register_bytes.specs.declared.BoardAnswer.{BoardAnswer}
-use Rattle.register_bytes.specs.Board.{byte, frame_number, held_count, room_for_push, command_of, call_flags, rewritten, Board, board, settled, block_refusal, performed, board_step, FetchTaken}
+use Rattle.register_bytes.specs.Board.{byte, frame_number, command_of, call_flags, Board, board, settled, block_refusal, performed, board_step, FetchTaken}
 use Rattle.register_bytes.specs.Steps.{Settled, RingDone}
 use Rattle.register_bytes.proofs.Room.{told-number}
 

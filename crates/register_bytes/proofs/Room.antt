@@ -12,14 +12,14 @@ use borrow.Author.Tests.{eqb-true, eq-eqb, ne_eqb}
 use Rattle.loops.specs.Lists.{any_of, all_of}
 use Rattle.loops.specs.Refusal.{first_of, taken}
 use Rattle.loops.proofs.Choose.{and_holds, and_both, or_none, choose_map, choose_same}
-use Rattle.loops.proofs.Refusal.{NoneFirst, FirstAt, number_at, taken_new, taken_old}
+use Rattle.loops.proofs.Refusal.{taken_new, taken_old}
 use Rattle.floats.specs.Operators.{zero₃₂}
 use Rattle.definition.specs.declared.IvectorStream.{IvectorStream}
 use Rattle.definition.specs.declared.StreamAnswer.{StreamAnswer}
 use Rattle.definition.specs.declared.StreamCall.{StreamCall}
-use Rattle.definition.specs.Machine.{frames_held, push_tests}
+use Rattle.definition.specs.Machine.{push_tests}
 use Rattle.program.specs.Rooms.{Rings}
-use Rattle.program.specs.Calls.{answer_from, answer_of, RingCall, ring_call, done_on, with_finished, record_tests, push_frame, set_input_finished}
+use Rattle.program.specs.Calls.{answer_of, RingCall, ring_call, done_on, with_finished, record_tests, push_frame, set_input_finished}
 use Rattle.stream_refusals.proofs.Records.{Passed, plain_passed}
 use Rattle.stream_refusals.proofs.Refusals.{push_tests_is, push_already, push_first, push-none}
 use Rattle.register_bytes.specs.Board.{held_count, room_for_push, Proper}

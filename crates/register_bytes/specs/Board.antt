@@ -1,6 +1,6 @@
 -- Request 11, a board with registers: sixteen bytes between a host and a stream.
 --   0 command   1 flags   2 mask   3 interrupt   4 to 7 frame number   8 to 11 frames held   12 refusal number   13 to 15 zero
-use Rattle.std.specs.Prelude.{◌≡◌, ◌↔◌, ℕ, zero, suc, ◌+◌, ◌*◌, ◌/◌, ◌%◌, Bool, true, false, not, ◌&&◌, ◌||◌, List, [], ◌∷◌, ◌++◌, length, get_or, drop, replicate, eqb, Float, if◌then◌else◌}
+use Rattle.std.specs.Prelude.{◌≡◌, ◌↔◌, ℕ, zero, suc, ◌+◌, ◌*◌, ◌/◌, ◌%◌, Bool, true, not, ◌&&◌, ◌||◌, List, [], ◌∷◌, ◌++◌, length, get_or, drop, replicate, eqb, Float, if◌then◌else◌}
 use Rattle.std.specs.Float.Ieee.Scale.{finite}
 use Rattle.loops.specs.Lists.{all_of, over}
 use Rattle.loops.specs.Refusal.{first_of, taken}
@@ -10,7 +10,7 @@ use Rattle.definition.specs.declared.IvectorStream.{IvectorStream}
 use Rattle.definition.specs.declared.StreamCall.{StreamCall}
 use Rattle.definition.specs.declared.NewStream.TheVariants as N
 use Rattle.definition.specs.Model.{Tables, table_lengths_of, model_in}
-use Rattle.definition.specs.Machine.{Call, push, finish, change, forget, fetch, Answer, answers, frames_held, bits_of}
+use Rattle.definition.specs.Machine.{Call, push, finish, forget, fetch, Answer, answers, frames_held, bits_of}
 use Rattle.program.specs.Rooms.{Rings, Rooms, ring_lengths_of, room_lengths_of}
 use Rattle.program.specs.Calls.{new_answer, fresh_rooms, record_tests, push_frame}
 use Rattle.program.specs.Session.{Program, program, stepped, step_of, program_after, program_answers}

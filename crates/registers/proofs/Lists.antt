@@ -10,19 +10,14 @@ use native.Mathlib.Omega.{arith}
 use lib.ListN.{length, drop}
 use lib.Dec.{eqb}
 use lib.Ieee.{Float}
-use Rattle.loops.specs.Lists.{over, those}
+use Rattle.loops.specs.Lists.{over}
 use Rattle.loops.specs.Refusal.{taken}
-use Rattle.loops.proofs.Refusal.{taken_new}
-use Rattle.definition.specs.declared.IvectorInfo.{IvectorInfo}
-use Rattle.definition.specs.declared.StreamCall.{StreamCall}
-use Rattle.definition.specs.declared.NewStream.TheVariants as N
-use Rattle.definition.specs.Model.{Tables, table_lengths_of, model_in}
-use Rattle.definition.specs.Machine.{Call, push, finish, forget, fetch, Answer, answers, bits_of}
-use Rattle.program.specs.Rooms.{Rooms, ring_lengths_of, room_lengths_of}
-use Rattle.program.specs.Calls.{Step, new_answer, fresh_rooms, push_frame}
+use Rattle.definition.specs.Model.{Tables}
+use Rattle.definition.specs.Machine.{Call, push, finish, forget, fetch, bits_of}
+use Rattle.program.specs.Calls.{Step, fresh_rooms}
 use Rattle.program.specs.Session.{Program, program, stepped, reply, step_of, program_after, program_answers}
 use Rattle.program.proofs.Keeps.{keeps}
-use Rattle.register_bytes.specs.Board.{byte, frame_number, bit, held_count, room_for_push, command_of, call_flags, rewritten, Board, board, settled, block_refusal, performed, board_step, HostStep, lent_to, calls_of, commands, buffer_of, vectors_of, board_after, board_vectors, BoardKeeps, Proper, RoomExact, BoardMachine}
+use Rattle.register_bytes.specs.Board.{byte, frame_number, bit, held_count, room_for_push, command_of, call_flags, rewritten, Board, settled, block_refusal, performed, board_step, HostStep, lent_to, calls_of, commands, buffer_of, vectors_of, board_after, board_vectors, BoardKeeps, RoomExact, BoardMachine}
 use Rattle.register_bytes.proofs.Bytes.{flags_low, third-bit}
 use Rattle.register_bytes.proofs.Room.{room_taken, taken_room}
 

@@ -14,6 +14,7 @@ use definition::{Dimensions, IvectorOptions, Loaded};
 use kaldi_files::{Extractor, Gmm};
 use kaldi_io::Matrix;
 use kaldi_text::Cmvn;
+use std::io::{self, Write};
 
 // ---- files
 
@@ -32,8 +33,7 @@ pub(crate) fn read_bytes(text: &[u8], at: usize, bytes: &mut [u8], from: usize) 
     let n = script::number(text, at, 10);
     let mut place = from;
     let mut next = n.next;
-    let mut left = n.value;
-    while 0 < left {
+    for _ in 0..n.value {
         if bytes.len() <= place {
             return place;
         }
@@ -43,7 +43,6 @@ pub(crate) fn read_bytes(text: &[u8], at: usize, bytes: &mut [u8], from: usize) 
         next = script::step(text, next);
         bytes[place] = high * 16 + low;
         place = place + 1;
-        left = left - 1;
     }
     place
 }
@@ -176,6 +175,7 @@ fn load_in(
 }
 
 fn load_from(
+    writer: &mut impl Write,
     text: &[u8],
     at: usize,
     session: Session,
@@ -189,7 +189,7 @@ fn load_from(
     lda_t: &mut Lda,
     lda_offset: &mut LdaOffset,
     global_mean_stats: &mut GlobalRow,
-) -> Session {
+) -> io::Result<Session> {
     let gmm = part(bytes, 0, ends.gmm);
     let extractor = part(bytes, ends.gmm, ends.extractor);
     let lda = part(bytes, ends.extractor, ends.lda);
@@ -218,10 +218,11 @@ fn load_from(
         lda_offset,
         global_mean_stats,
     );
-    loaded(session, answer, z, fit(z, 0, 8))
+    loaded(writer, session, answer, z, fit(z, 0, 8))
 }
 
 pub(crate) fn load_line(
+    writer: &mut impl Write,
     text: &[u8],
     at: usize,
     session: Session,
@@ -233,15 +234,16 @@ pub(crate) fn load_line(
     lda_t: &mut Lda,
     lda_offset: &mut LdaOffset,
     global_mean_stats: &mut GlobalRow,
-) -> Session {
+) -> io::Result<Session> {
     let mut bytes = [0u8; 262144];
     let files = session.files;
     if 262144 < file_bytes(text, files) {
-        does_not_fit();
-        return empty(session);
+        does_not_fit(writer)?;
+        return Ok(empty(session));
     }
     let ends = read_files(text, files, &mut bytes);
     load_from(
+        writer,
         text,
         at,
         session,
@@ -260,6 +262,7 @@ pub(crate) fn load_line(
 
 // `k`
 pub(crate) fn print_tables(
+    writer: &mut impl Write,
     session: Session,
     gconsts: &[f32],
     means_invvars_t: &[f32],
@@ -269,28 +272,27 @@ pub(crate) fn print_tables(
     lda_t: &[f32],
     lda_offset: &[f32],
     global_mean_stats: &[f64],
-) {
+) -> io::Result<()> {
     let held = session.held;
     let Held::Model(i) = model_of(held) else {
-        not_here();
-        return;
+        return not_here(writer);
     };
     let d = i.dims;
     let z = needs(i.opts, d);
-    print_number(d.num_gauss);
-    print_next(d.ext_gauss);
-    print_next(d.feat_dim);
-    print_next(d.ivector_dim);
-    print_next(d.base_dim);
-    print_next(d.lda_cols);
-    print_double(i.prior_offset);
-    print_floats(front_f32(gconsts, z[0]));
-    print_floats(front_f32(means_invvars_t, z[1]));
-    print_floats(front_f32(inv_vars_t, z[2]));
-    print_doubles(front_f64(sigma_inv_m, z[3]));
-    print_doubles(front_f64(u, z[4]));
-    print_floats(front_f32(lda_t, z[5]));
-    print_floats(front_f32(lda_offset, z[6]));
-    print_doubles(front_f64(global_mean_stats, z[7]));
-    say(b"\n");
+    print_number(writer, d.num_gauss)?;
+    print_next(writer, d.ext_gauss)?;
+    print_next(writer, d.feat_dim)?;
+    print_next(writer, d.ivector_dim)?;
+    print_next(writer, d.base_dim)?;
+    print_next(writer, d.lda_cols)?;
+    print_double(writer, i.prior_offset)?;
+    print_floats(writer, front_f32(gconsts, z[0]))?;
+    print_floats(writer, front_f32(means_invvars_t, z[1]))?;
+    print_floats(writer, front_f32(inv_vars_t, z[2]))?;
+    print_doubles(writer, front_f64(sigma_inv_m, z[3]))?;
+    print_doubles(writer, front_f64(u, z[4]))?;
+    print_floats(writer, front_f32(lda_t, z[5]))?;
+    print_floats(writer, front_f32(lda_offset, z[6]))?;
+    print_doubles(writer, front_f64(global_mean_stats, z[7]))?;
+    say(writer, b"\n")
 }

@@ -17,10 +17,12 @@ use rooms::{
     Quadratic, Rows, Scratch, SigmaInvM, U, WaitingFrames, WaitingWeights,
 };
 use session::{Session, advanced, ends_at, is_setting, new_session, settings};
+use std::io::{self, BufWriter, Read, Write};
 use stream::{fetch_line, is_fetch, new_line, ring_line};
 
 // One line, of a model's.
 fn line(
+    writer: &mut impl Write,
     text: &[u8],
     session: Session,
     gconsts: &Gconsts,
@@ -41,15 +43,16 @@ fn line(
     current: &mut Current,
     scratch: &mut Scratch,
     forged_frames: &mut WaitingFrames,
-) -> Session {
+) -> io::Result<Session> {
     let letter = script::byte_at(text, session.at);
     let at = script::step(text, script::step(text, session.at));
     let s = advanced(text, session);
     if is_setting(letter) {
-        return settings(letter, text, at, s);
+        return Ok(settings(letter, text, at, s));
     }
     if letter == b'k' {
         print_tables(
+            writer,
             s,
             gconsts,
             means_invvars_t,
@@ -59,14 +62,15 @@ fn line(
             lda_t,
             lda_offset,
             global_mean_stats,
-        );
-        return s;
+        )?;
+        return Ok(s);
     }
     if letter == b'x' {
-        return forge_line(text, at, s, forged_frames);
+        return Ok(forge_line(text, at, s, forged_frames));
     }
     if letter == b's' {
         return new_line(
+            writer,
             text,
             at,
             s,
@@ -92,6 +96,7 @@ fn line(
     if is_fetch(letter) {
         if s.waiting_forged {
             return fetch_line(
+                writer,
                 letter,
                 text,
                 at,
@@ -116,6 +121,7 @@ fn line(
             );
         }
         return fetch_line(
+            writer,
             letter,
             text,
             at,
@@ -141,6 +147,7 @@ fn line(
     }
     if s.waiting_forged {
         return ring_line(
+            writer,
             letter,
             text,
             at,
@@ -152,6 +159,7 @@ fn line(
         );
     }
     ring_line(
+        writer,
         letter,
         text,
         at,
@@ -165,6 +173,7 @@ fn line(
 
 // The lines up to another load or the session's end, with rooms for a stream.
 fn play(
+    writer: &mut impl Write,
     text: &[u8],
     session: Session,
     gconsts: &Gconsts,
@@ -175,7 +184,7 @@ fn play(
     lda_t: &Lda,
     lda_offset: &LdaOffset,
     global_mean_stats: &GlobalRow,
-) -> Session {
+) -> io::Result<Session> {
     let mut frames = [0.0f32; 4096];
     let mut rows = [0.0f64; 8192];
     let mut waiting_frames = [0usize; 4096];
@@ -188,12 +197,12 @@ fn play(
     let mut forged_frames = [0usize; 4096];
     let mut s = session;
     // as many turns as there are bytes are enough
-    let mut left = text.len();
-    while 0 < left {
+    for _ in 0..text.len() {
         if ends_at(text, s.at) {
-            return s;
+            return Ok(s);
         }
         s = line(
+            writer,
             text,
             s,
             gconsts,
@@ -214,14 +223,14 @@ fn play(
             &mut current,
             &mut scratch,
             &mut forged_frames,
-        );
-        left = left - 1;
+        )?;
     }
-    s
+    Ok(s)
 }
 
 // One line that needs no stream, or all lines from here to another load or the session's end.
 fn section(
+    writer: &mut impl Write,
     text: &[u8],
     session: Session,
     gconsts: &mut Gconsts,
@@ -232,18 +241,19 @@ fn section(
     lda_t: &mut Lda,
     lda_offset: &mut LdaOffset,
     global_mean_stats: &mut GlobalRow,
-) -> Session {
+) -> io::Result<Session> {
     let letter = script::byte_at(text, session.at);
     let at = script::step(text, script::step(text, session.at));
     let s = advanced(text, session);
     if is_setting(letter) {
-        return settings(letter, text, at, s);
+        return Ok(settings(letter, text, at, s));
     }
     if letter == b'z' {
-        return new_session(text, s.at);
+        return Ok(new_session(text, s.at));
     }
     if letter == b'm' {
         return load_line(
+            writer,
             text,
             at,
             s,
@@ -258,6 +268,7 @@ fn section(
         );
     }
     play(
+        writer,
         text,
         session,
         gconsts,
@@ -272,7 +283,7 @@ fn section(
 }
 
 // The whole text, with rooms for a model.
-fn replay(text: &[u8]) {
+fn replay(writer: &mut impl Write, text: &[u8]) -> io::Result<()> {
     let mut gconsts = [0.0f32; 1040];
     let mut means_invvars_t = [0.0f32; 2064];
     let mut inv_vars_t = [0.0f32; 2064];
@@ -282,12 +293,12 @@ fn replay(text: &[u8]) {
     let mut lda_offset = [0.0f32; 80];
     let mut global_mean_stats = [0.0f64; 81];
     let mut session = new_session(text, 0);
-    let mut left = text.len();
-    while 0 < left {
+    for _ in 0..text.len() {
         if text.len() <= session.at {
-            return;
+            return Ok(());
         }
         session = section(
+            writer,
             text,
             session,
             &mut gconsts,
@@ -298,27 +309,37 @@ fn replay(text: &[u8]) {
             &mut lda_t,
             &mut lda_offset,
             &mut global_mean_stats,
-        );
-        left = left - 1;
+        )?;
     }
+    Ok(())
 }
 
 // The lines that the room has, and a word where there are more.
-fn play_input(text: &mut [u8]) {
-    let n = io::read_full(0, text);
+fn play_input(reader: &mut impl Read, writer: &mut impl Write, text: &mut [u8]) -> io::Result<()> {
+    let n = script::read_full(reader, text)?;
     let e = script::whole_lines(text, n);
-    replay(&text[0..e]);
+    replay(writer, &text[0..e])?;
     if n == text.len() {
-        say(b"the script is longer than this program's room: the rest is not read\n");
+        say(
+            writer,
+            b"the script is longer than this program's room: the rest is not read\n",
+        )?;
     }
+    Ok(())
 }
 
 // The room as a slice.
-fn in_room(text: &mut [u8; 1474560]) {
-    play_input(text);
+fn in_room(
+    reader: &mut impl Read,
+    writer: &mut impl Write,
+    text: &mut [u8; 1474560],
+) -> io::Result<()> {
+    play_input(reader, writer, text)
 }
 
-fn main() {
+fn main(rt: HostRuntime) -> io::Result<()> {
     let mut text = [0u8; 1474560];
-    in_room(&mut text);
+    let mut writer = BufWriter::new(rt.alloc(), io::writer(&rt))?;
+    in_room(&mut rt.reader(), &mut writer, &mut text)?;
+    writer.flush()
 }

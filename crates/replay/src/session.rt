@@ -2,6 +2,7 @@
 use super::print::{does_not_fit, print_answer, print_line, say};
 use super::rooms::Lengths;
 use definition::{IvectorInfo, IvectorOptions, IvectorStream, Loaded, NewStream, StreamCall};
+use std::io::{self, Write};
 
 // What is open: nothing, a model, or a stream over it.
 #[derive(Clone, Copy)]
@@ -121,41 +122,52 @@ pub(crate) fn empty(s: Session) -> Session {
 // ---- answers
 
 // The answer of a load, `fit` being whether the lengths that the line asks for fit in the program's rooms.
-pub(crate) fn loaded(s: Session, answer: Loaded, z: Lengths, fit: bool) -> Session {
+pub(crate) fn loaded(
+    writer: &mut impl Write,
+    s: Session,
+    answer: Loaded,
+    z: Lengths,
+    fit: bool,
+) -> io::Result<Session> {
     match answer {
         Loaded::Model(info) => {
             if !fit {
-                does_not_fit();
-                return empty(s);
+                does_not_fit(writer)?;
+                return Ok(empty(s));
             }
-            print_line(0);
-            hold(s, Held::Model(info), z)
+            print_line(writer, 0)?;
+            Ok(hold(s, Held::Model(info), z))
         }
         Loaded::Refused(n) => {
             if n == 8 {
                 if !fit {
-                    does_not_fit();
-                    return empty(s);
+                    does_not_fit(writer)?;
+                    return Ok(empty(s));
                 }
             }
-            print_line(n);
-            empty(s)
+            print_line(writer, n)?;
+            Ok(empty(s))
         }
     }
 }
 
 // The answer of a fresh stream.
-pub(crate) fn opened(s: Session, answer: NewStream, z: Lengths) -> Session {
+pub(crate) fn opened(
+    writer: &mut impl Write,
+    s: Session,
+    answer: NewStream,
+    z: Lengths,
+) -> io::Result<Session> {
     match answer {
         NewStream::Stream(call) => {
-            print_answer(call.answer);
-            say(b"\n");
+            print_answer(writer, call.answer)?;
+            say(writer, b"\n")?;
             let stream = call.stream;
-            hold(s, Held::Stream(stream), z)
+            Ok(hold(s, Held::Stream(stream), z))
         }
         NewStream::Refused(n) => {
-            print_line(n);
-            closed(s)
+            print_line(writer, n)?;
+            Ok(closed(s))
         }
     }
 }
@@ -170,11 +182,11 @@ pub(crate) fn after(s: Session, stream: IvectorStream) -> Session {
     hold(s, Held::Stream(stream), z)
 }
 
-pub(crate) fn called(s: Session, call: StreamCall) -> Session {
-    print_answer(call.answer);
-    say(b"\n");
+pub(crate) fn called(writer: &mut impl Write, s: Session, call: StreamCall) -> io::Result<Session> {
+    print_answer(writer, call.answer)?;
+    say(writer, b"\n")?;
     let stream = call.stream;
-    after(s, stream)
+    Ok(after(s, stream))
 }
 
 // ---- settings

@@ -12,6 +12,7 @@ use super::rooms::{
 use super::session::{Held, Session, after, called, closed, model_of, opened};
 use definition::{IvectorInfo, IvectorStream, NewStream, StreamCall};
 use register_bytes::BoardAnswer;
+use std::io::{self, Write};
 
 // ---- `s FL RL WF WW c0 .. c4`
 
@@ -59,6 +60,7 @@ fn new_in(
 }
 
 pub(crate) fn new_line(
+    writer: &mut impl Write,
     text: &[u8],
     at: usize,
     session: Session,
@@ -79,16 +81,16 @@ pub(crate) fn new_line(
     quadratic: &mut Quadratic,
     current: &mut Current,
     scratch: &Scratch,
-) -> Session {
+) -> io::Result<Session> {
     let told = session.told;
     let Held::Model(info) = model_of(told) else {
-        not_here();
-        return session;
+        not_here(writer)?;
+        return Ok(session);
     };
     let z = stream_lengths(text, at, session);
     if !fit(z, 8, 17) {
-        does_not_fit();
-        return closed(session);
+        does_not_fit(writer)?;
+        return Ok(closed(session));
     }
     let answer = new_in(
         info,
@@ -111,7 +113,7 @@ pub(crate) fn new_line(
         current,
         scratch,
     );
-    opened(session, answer, z)
+    opened(writer, session, answer, z)
 }
 
 // The lengths that a fresh stream is lent: of the tables, what the script wants by now; of the rest, what the line says, against the needs
@@ -283,6 +285,7 @@ fn fetch_in(
 
 // `v F n`, and a step. An output that is longer than 160 is longer than any vector.
 pub(crate) fn fetch_line(
+    writer: &mut impl Write,
     letter: u8,
     text: &[u8],
     at: usize,
@@ -304,15 +307,16 @@ pub(crate) fn fetch_line(
     quadratic: &mut Quadratic,
     current: &mut Current,
     scratch: &mut Scratch,
-) -> Session {
+) -> io::Result<Session> {
     let told = session.told;
     let z = session.lent;
     let Held::Stream(s) = told else {
-        not_here();
-        return session;
+        not_here(writer)?;
+        return Ok(session);
     };
     if letter == b'r' {
         return step_line(
+            writer,
             text,
             at,
             session,
@@ -362,20 +366,25 @@ pub(crate) fn fetch_line(
         scratch,
         lend_u32(&mut out, n.value),
     );
-    fetched(session, call, front_u32(&out, n.value))
+    fetched(writer, session, call, front_u32(&out, n.value))
 }
 
-fn fetched(session: Session, call: StreamCall, vector: &[u32]) -> Session {
+fn fetched(
+    writer: &mut impl Write,
+    session: Session,
+    call: StreamCall,
+    vector: &[u32],
+) -> io::Result<Session> {
     let a = call.answer;
-    print_answer(a);
+    print_answer(writer, a)?;
     if a.refusal == 0 {
-        print_next(a.not_finite);
-        print_next(a.nan_likelihoods);
-        print_vector(vector);
+        print_next(writer, a.not_finite)?;
+        print_next(writer, a.nan_likelihoods)?;
+        print_vector(writer, vector)?;
     }
-    say(b"\n");
+    say(writer, b"\n")?;
     let stream = call.stream;
-    after(session, stream)
+    Ok(after(session, stream))
 }
 
 // ---- `r M n x1 .. xn N HEX`
@@ -431,6 +440,7 @@ fn step_in(
 
 // A block that is longer than this room is longer than a block may be.
 fn step_line(
+    writer: &mut impl Write,
     text: &[u8],
     at: usize,
     session: Session,
@@ -452,7 +462,7 @@ fn step_line(
     quadratic: &mut Quadratic,
     current: &mut Current,
     scratch: &mut Scratch,
-) -> Session {
+) -> io::Result<Session> {
     let mut out = [0u32; 160];
     let mut frame = [0.0f32; 128];
     let mut block = [0u8; 64];
@@ -487,6 +497,7 @@ fn step_line(
         lend_u32(&mut out, m.value),
     );
     step_answer(
+        writer,
         session,
         answer,
         command,
@@ -497,26 +508,27 @@ fn step_line(
 
 // The step's answer and the block; the vector where the command was a fetch and was taken.
 fn step_answer(
+    writer: &mut impl Write,
     session: Session,
     answer: BoardAnswer,
     command: u8,
     block: &[u8],
     vector: &[u32],
-) -> Session {
+) -> io::Result<Session> {
     let stream = answer.stream;
     if answer.refusal != 0 {
-        print_line(answer.refusal);
-        return after(session, stream);
+        print_line(writer, answer.refusal)?;
+        return Ok(after(session, stream));
     }
-    say(b"0 ");
-    print_bytes(block);
+    say(writer, b"0 ")?;
+    print_bytes(writer, block)?;
     if command == 4 {
         if script::byte_at(block, 1) % 2 == 1 {
-            print_vector(vector);
+            print_vector(writer, vector)?;
         }
     }
-    say(b"\n");
-    after(session, stream)
+    say(writer, b"\n")?;
+    Ok(after(session, stream))
 }
 
 // A call that is lent every room.
@@ -536,6 +548,7 @@ fn is_call(letter: u8) -> bool {
 
 // A call that is lent the rings alone.
 pub(crate) fn ring_line(
+    writer: &mut impl Write,
     letter: u8,
     text: &[u8],
     at: usize,
@@ -544,16 +557,16 @@ pub(crate) fn ring_line(
     rows: &mut Rows,
     waiting_frames: &mut WaitingFrames,
     waiting_weights: &mut WaitingWeights,
-) -> Session {
+) -> io::Result<Session> {
     let told = session.told;
     let z = session.lent;
     let Held::Stream(s) = told else {
-        not_here();
-        return session;
+        not_here(writer)?;
+        return Ok(session);
     };
     if !is_call(letter) {
-        not_here();
-        return session;
+        not_here(writer)?;
+        return Ok(session);
     }
     if letter == b'p' {
         let call = push_line(
@@ -566,7 +579,7 @@ pub(crate) fn ring_line(
             waiting_frames,
             waiting_weights,
         );
-        return called(session, call);
+        return called(writer, session, call);
     }
     if letter == b'w' {
         let call = change_line(
@@ -579,7 +592,7 @@ pub(crate) fn ring_line(
             waiting_frames,
             waiting_weights,
         );
-        return called(session, call);
+        return called(writer, session, call);
     }
     let call = mark_line(
         letter,
@@ -592,5 +605,5 @@ pub(crate) fn ring_line(
         waiting_frames,
         waiting_weights,
     );
-    called(session, call)
+    called(writer, session, call)
 }

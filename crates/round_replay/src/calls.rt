@@ -9,6 +9,7 @@ use super::rooms::{
 };
 use super::session::{Held, Session, Table, hold_stream};
 use definition::{EstimateLengths, IvectorStream, StreamCall};
+use std::io::{self, Write};
 
 // ---- `d F` and `f`
 
@@ -47,6 +48,7 @@ fn mark_in(
 }
 
 pub(crate) fn mark_line(
+    writer: &mut impl Write,
     letter: u8,
     text: &[u8],
     at: usize,
@@ -55,11 +57,11 @@ pub(crate) fn mark_line(
     rows: &Rows,
     waiting_frames: &WaitingFrames,
     waiting_weights: &WaitingWeights,
-) -> Session {
+) -> io::Result<Session> {
     let held = session.held;
     let Held::Stream(s) = held else {
-        not_here();
-        return session;
+        not_here(writer)?;
+        return Ok(session);
     };
     let frame = script::number(text, at, 10);
     let call = mark_in(
@@ -71,10 +73,10 @@ pub(crate) fn mark_line(
         waiting_frames,
         waiting_weights,
     );
-    print_answer(call.answer);
-    say(b"\n");
+    print_answer(writer, call.answer)?;
+    say(writer, b"\n")?;
     let stream = call.stream;
-    hold_stream(session, Held::Stream(stream))
+    Ok(hold_stream(session, Held::Stream(stream)))
 }
 
 // ---- `q s` and `q t`
@@ -88,6 +90,7 @@ fn estimate_lengths(s: IvectorStream) -> EstimateLengths {
 }
 
 pub(crate) fn print_stream(
+    writer: &mut impl Write,
     session: Session,
     waiting_frames: &WaitingFrames,
     waiting_weights: &WaitingWeights,
@@ -95,71 +98,81 @@ pub(crate) fn print_stream(
     linear: &Linear,
     quadratic: &Quadratic,
     current: &Current,
-) {
+) -> io::Result<()> {
     let held = session.held;
     let Held::Stream(s) = held else {
-        not_here();
-        return;
+        return not_here(writer);
     };
     let e = estimate_lengths(s);
-    print_number(s.accepted);
-    print_next(s.num_frames_stats);
-    print_next(s.mark);
-    print_next(s.past_highest);
-    print_flag(s.delta_weights_provided);
-    print_flag(s.input_finished);
-    print_next(s.floor);
-    print_next(s.window);
-    print_next(s.longest);
-    print_changes(s.waiting, waiting_frames, waiting_weights);
-    print_doubles(front_f64(cmvn_stats, e.cmvn_stats));
-    print_doubles(front_f64(linear, e.linear));
-    print_doubles(front_f64(quadratic, e.quadratic));
-    print_double(s.num_frames);
-    print_doubles(front_f64(current, e.current));
-    say(b"\n");
+    print_number(writer, s.accepted)?;
+    print_next(writer, s.num_frames_stats)?;
+    print_next(writer, s.mark)?;
+    print_next(writer, s.past_highest)?;
+    print_flag(writer, s.delta_weights_provided)?;
+    print_flag(writer, s.input_finished)?;
+    print_next(writer, s.floor)?;
+    print_next(writer, s.window)?;
+    print_next(writer, s.longest)?;
+    print_changes(writer, s.waiting, waiting_frames, waiting_weights)?;
+    print_doubles(writer, front_f64(cmvn_stats, e.cmvn_stats))?;
+    print_doubles(writer, front_f64(linear, e.linear))?;
+    print_doubles(writer, front_f64(quadratic, e.quadratic))?;
+    print_double(writer, s.num_frames)?;
+    print_doubles(writer, front_f64(current, e.current))?;
+    say(writer, b"\n")
 }
 
 // Whether a frame is known, whether it is silence, and its weight.
-fn print_entry(known: bool, is_silence: bool, weight: f32) {
-    print_flag(known);
+fn print_entry(
+    writer: &mut impl Write,
+    known: bool,
+    is_silence: bool,
+    weight: f32,
+) -> io::Result<()> {
+    print_flag(writer, known)?;
     if known {
         if is_silence {
-            say(b"1");
-            print_float(weight);
-            return;
+            say(writer, b"1")?;
+            return print_float(writer, weight);
         }
     }
-    say(b"0");
-    print_float(weight);
+    say(writer, b"0")?;
+    print_float(writer, weight)
 }
 
-fn print_entries(n: usize, known: &[bool], is_silence: &[bool], current_weight: &[f32]) {
+fn print_entries(
+    writer: &mut impl Write,
+    n: usize,
+    known: &[bool],
+    is_silence: &[bool],
+    current_weight: &[f32],
+) -> io::Result<()> {
     for i in 0..n {
         if i < known.len() {
             if i < is_silence.len() {
                 if i < current_weight.len() {
-                    print_entry(known[i], is_silence[i], current_weight[i]);
+                    print_entry(writer, known[i], is_silence[i], current_weight[i])?;
                 }
             }
         }
     }
+    Ok(())
 }
 
 pub(crate) fn print_table(
+    writer: &mut impl Write,
     session: Session,
     known: &Known,
     is_silence: &Known,
     current_weight: &Weights,
-) {
+) -> io::Result<()> {
     let table = session.table;
     let Table::Open(t) = table else {
-        not_here();
-        return;
+        return not_here(writer);
     };
     let length = t.length;
     let n = length.0;
-    print_number(n);
-    print_entries(n, known, is_silence, current_weight);
-    say(b"\n");
+    print_number(writer, n)?;
+    print_entries(writer, n, known, is_silence, current_weight)?;
+    say(writer, b"\n")
 }

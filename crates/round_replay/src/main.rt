@@ -18,30 +18,33 @@ use rooms::{
 };
 use round::round_line;
 use session::{Session, forge_line, forge_table_line, new_session, settings};
+use std::io::{self, BufWriter, Read, Write};
 
 // A line that is lent a silence table's rooms at most.
 fn table_lines(
+    writer: &mut impl Write,
     letter: u8,
     text: &[u8],
     at: usize,
     session: Session,
     phones: &mut Phones,
-) -> Session {
+) -> io::Result<Session> {
     match letter {
-        b'o' | b'g' | b'e' | b'l' | b'c' => settings(letter, text, at, session),
-        b't' => table_line(text, at, session, phones),
-        b'x' => forge_line(text, at, session),
-        b'y' => forge_table_line(text, at, session),
-        b'z' => new_session(text),
+        b'o' | b'g' | b'e' | b'l' | b'c' => Ok(settings(letter, text, at, session)),
+        b't' => table_line(writer, text, at, session, phones),
+        b'x' => Ok(forge_line(text, at, session)),
+        b'y' => Ok(forge_table_line(text, at, session)),
+        b'z' => Ok(new_session(text)),
         _ => {
-            not_here();
-            session
+            not_here(writer)?;
+            Ok(session)
         }
     }
 }
 
 // One line, whose first byte is at a place.
 fn line(
+    writer: &mut impl Write,
     text: &[u8],
     place: usize,
     session: Session,
@@ -66,11 +69,12 @@ fn line(
     known: &mut Known,
     is_silence: &mut Known,
     current_weight: &mut Weights,
-) -> Session {
+) -> io::Result<Session> {
     let letter = script::byte_at(text, place);
     let at = script::step(text, script::step(text, place));
     match letter {
         b'u' => round_line(
+            writer,
             text,
             at,
             session,
@@ -97,6 +101,7 @@ fn line(
             current_weight,
         ),
         b'd' | b'f' => mark_line(
+            writer,
             letter,
             text,
             at,
@@ -109,6 +114,7 @@ fn line(
         b'q' => {
             if script::byte_at(text, at) == b's' {
                 print_stream(
+                    writer,
                     session,
                     waiting_frames,
                     waiting_weights,
@@ -116,13 +122,14 @@ fn line(
                     linear,
                     quadratic,
                     current,
-                );
-                return session;
+                )?;
+                return Ok(session);
             }
-            print_table(session, known, is_silence, current_weight);
-            session
+            print_table(writer, session, known, is_silence, current_weight)?;
+            Ok(session)
         }
         b'm' => load_line(
+            writer,
             text,
             session,
             gconsts,
@@ -135,6 +142,7 @@ fn line(
             global_mean_stats,
         ),
         b's' => new_line(
+            writer,
             text,
             at,
             session,
@@ -156,12 +164,12 @@ fn line(
             current,
             scratch,
         ),
-        _ => table_lines(letter, text, at, session, phones),
+        _ => table_lines(writer, letter, text, at, session, phones),
     }
 }
 
 // The whole text, with rooms for a model, a stream and a silence table.
-fn replay(text: &[u8]) {
+fn replay(writer: &mut impl Write, text: &[u8]) -> io::Result<()> {
     let mut gconsts = [0.0f32; 16];
     let mut means_invvars_t = [0.0f32; 64];
     let mut inv_vars_t = [0.0f32; 64];
@@ -186,12 +194,12 @@ fn replay(text: &[u8]) {
     let mut session = new_session(text);
     let mut at = 0;
     // as many turns as there are bytes are enough
-    let mut left = text.len();
-    while 0 < left {
+    for _ in 0..text.len() {
         if text.len() <= at {
-            return;
+            return Ok(());
         }
         session = line(
+            writer,
             text,
             at,
             session,
@@ -216,28 +224,38 @@ fn replay(text: &[u8]) {
             &mut known,
             &mut is_silence,
             &mut current_weight,
-        );
+        )?;
         at = script::next_line(text, at);
-        left = left - 1;
     }
+    Ok(())
 }
 
 // The lines that the room has, and a word where there are more.
-fn play_input(text: &mut [u8]) {
-    let n = io::read_full(0, text);
+fn play_input(reader: &mut impl Read, writer: &mut impl Write, text: &mut [u8]) -> io::Result<()> {
+    let n = script::read_full(reader, text)?;
     let e = script::whole_lines(text, n);
-    replay(&text[0..e]);
+    replay(writer, &text[0..e])?;
     if n == text.len() {
-        say(b"the script is longer than this program's room: the rest is not read\n");
+        say(
+            writer,
+            b"the script is longer than this program's room: the rest is not read\n",
+        )?;
     }
+    Ok(())
 }
 
 // The room as a slice.
-fn in_room(text: &mut [u8; 262144]) {
-    play_input(text);
+fn in_room(
+    reader: &mut impl Read,
+    writer: &mut impl Write,
+    text: &mut [u8; 262144],
+) -> io::Result<()> {
+    play_input(reader, writer, text)
 }
 
-fn main() {
+fn main(rt: HostRuntime) -> io::Result<()> {
     let mut text = [0u8; 262144];
-    in_room(&mut text);
+    let mut writer = BufWriter::new(rt.alloc(), io::writer(&rt))?;
+    in_room(&mut rt.reader(), &mut writer, &mut text)?;
+    writer.flush()
 }

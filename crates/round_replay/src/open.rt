@@ -9,6 +9,7 @@ use super::rooms::{
 };
 use super::session::{Held, Session, Table, hold_stream, hold_table};
 use definition::{IvectorInfo, Loaded, NewStream, NewTable, RingLengths};
+use std::io::{self, Write};
 
 // ---- `m ..`
 
@@ -73,6 +74,7 @@ fn load_in(
 
 // The tables are lent whole: what the line says of their lengths is not read.
 pub(crate) fn load_line(
+    writer: &mut impl Write,
     text: &[u8],
     session: Session,
     gconsts: &mut Gconsts,
@@ -83,7 +85,7 @@ pub(crate) fn load_line(
     lda_t: &mut Lda,
     lda_offset: &mut LdaOffset,
     global_mean_stats: &mut GlobalRow,
-) -> Session {
+) -> io::Result<Session> {
     let mut gmm = [0u8; 1024];
     let mut extractor = [0u8; 1024];
     let mut lda = [0u8; 1024];
@@ -110,12 +112,12 @@ pub(crate) fn load_line(
     );
     match answer {
         Loaded::Model(info) => {
-            print_line(0);
-            hold_stream(session, Held::Model(info))
+            print_line(writer, 0)?;
+            Ok(hold_stream(session, Held::Model(info)))
         }
         Loaded::Refused(n) => {
-            print_line(n);
-            hold_stream(session, Held::Nothing)
+            print_line(writer, n)?;
+            Ok(hold_stream(session, Held::Nothing))
         }
     }
 }
@@ -181,6 +183,7 @@ fn ring_lengths(text: &[u8], at: usize) -> RingLengths {
 
 // Over a model that has no stream yet. The rooms besides the rings are lent whole: what the line says of their lengths is not read.
 pub(crate) fn new_line(
+    writer: &mut impl Write,
     text: &[u8],
     at: usize,
     session: Session,
@@ -201,11 +204,11 @@ pub(crate) fn new_line(
     quadratic: &mut Quadratic,
     current: &mut Current,
     scratch: &Scratch,
-) -> Session {
+) -> io::Result<Session> {
     let held = session.held;
     let Held::Model(info) = held else {
-        not_here();
-        return session;
+        not_here(writer)?;
+        return Ok(session);
     };
     let z = ring_lengths(text, at);
     let answer = new_in(
@@ -231,14 +234,14 @@ pub(crate) fn new_line(
     );
     match answer {
         NewStream::Stream(call) => {
-            print_answer(call.answer);
-            say(b"\n");
+            print_answer(writer, call.answer)?;
+            say(writer, b"\n")?;
             let stream = call.stream;
-            hold_stream(session, Held::Stream(stream))
+            Ok(hold_stream(session, Held::Stream(stream)))
         }
         NewStream::Refused(n) => {
-            print_line(n);
-            session
+            print_line(writer, n)?;
+            Ok(session)
         }
     }
 }
@@ -284,15 +287,21 @@ fn table_in(text: &[u8], at: usize, phones: &mut [i32]) -> NewTable {
     )
 }
 
-pub(crate) fn table_line(text: &[u8], at: usize, session: Session, phones: &mut Phones) -> Session {
+pub(crate) fn table_line(
+    writer: &mut impl Write,
+    text: &[u8],
+    at: usize,
+    session: Session,
+    phones: &mut Phones,
+) -> io::Result<Session> {
     match table_in(text, at, phones) {
         NewTable::Table(t) => {
-            print_line(0);
-            hold_table(session, Table::Open(t))
+            print_line(writer, 0)?;
+            Ok(hold_table(session, Table::Open(t)))
         }
         NewTable::Refused(n) => {
-            print_line(n);
-            hold_table(session, Table::Closed)
+            print_line(writer, n)?;
+            Ok(hold_table(session, Table::Closed))
         }
     }
 }

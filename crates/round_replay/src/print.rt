@@ -1,84 +1,86 @@
 // What the program prints: numbers, bits, lists and answers. The bits of a NaN are always the same.
 use definition::StreamAnswer;
-use libc::STDOUT_FILENO;
+use std::io::{self, Write};
 
-pub(crate) fn say(words: &[u8]) {
-    io::write_all(STDOUT_FILENO, words);
+pub(crate) fn say(writer: &mut impl Write, words: &[u8]) -> io::Result<()> {
+    writer.write_all(words)
 }
 
-pub(crate) fn not_here() {
-    say(b"no such line here\n");
+pub(crate) fn not_here(writer: &mut impl Write) -> io::Result<()> {
+    say(writer, b"no such line here\n")
 }
 
-pub(crate) fn print_number(n: usize) {
-    io::print_decimal(STDOUT_FILENO, n as u64);
+pub(crate) fn print_number(writer: &mut impl Write, n: usize) -> io::Result<()> {
+    write!(writer, "{n}")
 }
 
-pub(crate) fn print_line(n: usize) {
-    print_number(n);
-    say(b"\n");
+pub(crate) fn print_line(writer: &mut impl Write, n: usize) -> io::Result<()> {
+    writeln!(writer, "{n}")
 }
 
-pub(crate) fn print_next(n: usize) {
-    say(b" ");
-    print_number(n);
+pub(crate) fn print_next(writer: &mut impl Write, n: usize) -> io::Result<()> {
+    write!(writer, " {n}")
 }
 
-pub(crate) fn print_flag(b: bool) {
+pub(crate) fn print_flag(writer: &mut impl Write, b: bool) -> io::Result<()> {
     if b {
-        say(b" 1");
-        return;
+        return say(writer, b" 1");
     }
-    say(b" 0");
+    say(writer, b" 0")
 }
 
-pub(crate) fn print_float(x: f32) {
-    say(b" ");
-    io::print_hex(STDOUT_FILENO, script::float_bits(x), 8);
+pub(crate) fn print_float(writer: &mut impl Write, x: f32) -> io::Result<()> {
+    write!(writer, " {:08x}", script::float_bits(x))
 }
 
-pub(crate) fn print_double(x: f64) {
-    say(b" ");
-    io::print_hex(STDOUT_FILENO, script::double_bits(x), 16);
+pub(crate) fn print_double(writer: &mut impl Write, x: f64) -> io::Result<()> {
+    write!(writer, " {:016x}", script::double_bits(x))
 }
 
-pub(crate) fn print_doubles(items: &[f64]) {
+pub(crate) fn print_doubles(writer: &mut impl Write, items: &[f64]) -> io::Result<()> {
     for i in 0..items.len() {
-        print_double(items[i]);
+        print_double(writer, items[i])?;
     }
+    Ok(())
 }
 
 // A fetch's vector, which is bits already.
-pub(crate) fn print_vector(items: &[u32]) {
+pub(crate) fn print_vector(writer: &mut impl Write, items: &[u32]) -> io::Result<()> {
     for i in 0..items.len() {
-        print_bits(items[i]);
+        print_bits(writer, items[i])?;
     }
+    Ok(())
 }
 
-fn print_bits(bits: u32) {
-    say(b" ");
-    io::print_hex(STDOUT_FILENO, bits as u64, 8);
+fn print_bits(writer: &mut impl Write, bits: u32) -> io::Result<()> {
+    write!(writer, " {bits:08x}")
 }
 
 // How many changes there are, then each frame with its weight.
-pub(crate) fn print_changes(n: usize, frames: &[usize], weights: &[f32]) {
-    print_next(n);
+pub(crate) fn print_changes(
+    writer: &mut impl Write,
+    n: usize,
+    frames: &[usize],
+    weights: &[f32],
+) -> io::Result<()> {
+    print_next(writer, n)?;
     for i in 0..n {
         if i < frames.len() {
-            print_next(frames[i]);
+            print_next(writer, frames[i])?;
         }
         if i < weights.len() {
-            print_float(weights[i]);
+            print_float(writer, weights[i])?;
         }
     }
+    Ok(())
 }
 
 // The number of an answer, and what is held. 10 stands alone.
-pub(crate) fn print_answer(a: StreamAnswer) {
-    print_number(a.refusal);
+pub(crate) fn print_answer(writer: &mut impl Write, a: StreamAnswer) -> io::Result<()> {
+    print_number(writer, a.refusal)?;
     if a.refusal == 10 {
-        return;
+        return Ok(());
     }
-    print_next(a.frames_held);
-    print_next(a.rows_held);
+    print_next(writer, a.frames_held)?;
+    print_next(writer, a.rows_held)
 }

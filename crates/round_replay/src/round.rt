@@ -9,6 +9,7 @@ use super::rooms::{
 };
 use super::session::{Held, Session, Table, after_round};
 use definition::{IvectorStream, SilenceWeighting};
+use std::io::{self, Write};
 use trigger::TriggerRound;
 use trigger_steps::RoundResult;
 
@@ -163,42 +164,43 @@ fn round_in(
 
 // How a round ended; the changes that were given, where the fourth step was done; the vector, where the sixth was.
 fn print_round(
+    writer: &mut impl Write,
     res: RoundResult,
     n: usize,
     delta_frames: &[usize],
     delta_weights: &[f32],
     vector: &[u32],
-) {
+) -> io::Result<()> {
     match res {
         RoundResult::Voice { index, distance } => {
-            say(b"4");
-            print_next(index);
-            print_float(distance);
-            print_changes(n, delta_frames, delta_weights);
-            print_vector(vector);
+            say(writer, b"4")?;
+            print_next(writer, index)?;
+            print_float(writer, distance)?;
+            print_changes(writer, n, delta_frames, delta_weights)?;
+            print_vector(writer, vector)?;
         }
         RoundResult::Nobody => {
-            say(b"3");
-            print_changes(n, delta_frames, delta_weights);
-            print_vector(vector);
+            say(writer, b"3")?;
+            print_changes(writer, n, delta_frames, delta_weights)?;
+            print_vector(writer, vector)?;
         }
         RoundResult::NoVector => {
-            say(b"2");
-            print_changes(n, delta_frames, delta_weights);
+            say(writer, b"2")?;
+            print_changes(writer, n, delta_frames, delta_weights)?;
         }
         RoundResult::Refused { refusal, step } => {
-            say(b"1");
-            print_next(refusal);
-            print_next(step);
+            say(writer, b"1")?;
+            print_next(writer, refusal)?;
+            print_next(writer, step)?;
             if 4 < step {
-                print_changes(n, delta_frames, delta_weights);
+                print_changes(writer, n, delta_frames, delta_weights)?;
             }
             if 6 < step {
-                print_vector(vector);
+                print_vector(writer, vector)?;
             }
         }
     }
-    say(b"\n");
+    say(writer, b"\n")
 }
 
 // How many phones the table has that is open.
@@ -210,6 +212,7 @@ fn phones_of(t: Table) -> usize {
 }
 
 pub(crate) fn round_line(
+    writer: &mut impl Write,
     text: &[u8],
     at: usize,
     session: Session,
@@ -234,7 +237,7 @@ pub(crate) fn round_line(
     known: &mut Known,
     is_silence: &mut Known,
     current_weight: &mut Weights,
-) -> Session {
+) -> io::Result<Session> {
     let mut numbers = [0.0f32; 64];
     let mut phones = [0i32; 64];
     let mut starts = [0usize; 64];
@@ -246,12 +249,12 @@ pub(crate) fn round_line(
     let told = session.told;
     let told_table = session.told_table;
     let Held::Stream(s) = told else {
-        not_here();
-        return session;
+        not_here(writer)?;
+        return Ok(session);
     };
     let Table::Open(silence) = told_table else {
-        not_here();
-        return session;
+        not_here(writer)?;
+        return Ok(session);
     };
     let asked = read_round(
         text,
@@ -300,13 +303,14 @@ pub(crate) fn round_line(
     );
     let result = r.result;
     print_round(
+        writer,
         result,
         r.changes,
         &delta_frames,
         &delta_weights,
         front_u32(&out, asked.out),
-    );
+    )?;
     let stream = r.stream;
     let weighed = r.silence;
-    after_round(session, stream, weighed)
+    Ok(after_round(session, stream, weighed))
 }

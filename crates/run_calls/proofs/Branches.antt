@@ -1,19 +1,18 @@
 -- What a call of each kind leaves, from its function's contract: a step of the program, by its refusal number.
 use mathlib.Core.Path.{◌≡◌, refl, sym, ap, ap₂, ◌∙◌}
-use mathlib.Core.List.{List, []}
+use mathlib.Core.List.{List}
 use Prim.Native.Nat.{ℕ, zero, suc, ◌≤◌, ◌<◌}
 use native.Mathlib.Omega.{arith}
 use borrow.Author.Tests.{ne_eqb}
 use lib.ListN.{length}
 use lib.Ieee.{Float}
 use Rattle.loops.specs.Lists.{over, those}
-use Rattle.loops.specs.Refusal.{taken}
 use Rattle.definition.specs.declared.IvectorStream.{IvectorStream}
 use Rattle.definition.specs.declared.StreamCall.{StreamCall}
 use Rattle.definition.specs.Model.{Tables}
-use Rattle.definition.specs.Machine.{Call, push, finish, change, forget, set_window, fetch, bits_of, not_finite}
+use Rattle.definition.specs.Machine.{Call, set_window, fetch, not_finite}
 use Rattle.program.specs.Rooms.{Rings, Rooms, rooms_from}
-use Rattle.program.specs.Calls.{call_of, RingStep, RingCall, ring_call, done_on, push_frame, set_input_finished, update_frame_weights, forget_before, set_cmn_window, Step, FetchCall, fetch_call, fetched_on, get_frame}
+use Rattle.program.specs.Calls.{RingStep, RingCall, ring_call, done_on, push_frame, set_input_finished, update_frame_weights, forget_before, set_cmn_window, Step, FetchCall, fetch_call, fetched_on, get_frame}
 use Rattle.program.specs.Session.{Program, program, on_rings, stepped, reply, step_of}
 use Rattle.run_calls.specs.Listed.{of_kind}
 use Rattle.run_calls.specs.Turns.{ring_step_of}

@@ -3,9 +3,9 @@
 use mathlib.Core.Path.{◌≡◌, refl, ap, ap₂, ◌∙◌}
 use mathlib.Core.Bool.{true}
 use mathlib.Core.List.{List, [], ◌∷◌, ◌++◌, map, append_assoc}
-use Prim.Native.Nat.{ℕ, zero, suc, ◌+◌, ◌-◌, ◌*◌, ◌≤◌, ◌<◌, min}
+use Prim.Native.Nat.{ℕ, suc, ◌+◌, ◌-◌, ◌*◌, ◌≤◌, min}
 use native.Mathlib.Omega.{arith}
-use lib.ListN.{length, get_or, take, drop, length-append}
+use lib.ListN.{length, get_or, length-append}
 use lib.Seq.{take-append_seam, drop-append_seam}
 use lib.Dec.{ltb}
 use lib.Ieee.{Float}
@@ -13,7 +13,7 @@ use Rattle.loops.specs.Lists.{build, all_of}
 use Rattle.loops.proofs.Build.{build_ext}
 use Rattle.definition.specs.Machine.{Call, push, finish, change, forget, set_window, fetch}
 use Rattle.run_calls.specs.Listed.{part, of_kind, call_at, calls}
-use Rattle.run_calls.specs.Coded.{Coding, EveryList}
+use Rattle.run_calls.specs.Coded.{EveryList}
 
 -- ---- the slices of a list
 

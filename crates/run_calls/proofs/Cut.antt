@@ -2,11 +2,11 @@
 -- outputs that is back with a vector at its front.
 use mathlib.Core.Path.{◌≡◌, refl, sym, ap, ◌∙◌}
 use mathlib.Core.List.{List, [], ◌∷◌, ◌++◌, append_assoc}
-use Prim.Native.Nat.{ℕ, ◌+◌, ◌-◌, ◌≤◌, ◌<◌, min, max}
+use Prim.Native.Nat.{ℕ, ◌+◌, ◌-◌, ◌≤◌, min, max}
 use native.Mathlib.Nat.{add-zero}
 use native.Mathlib.Omega.{arith}
 use native.Mathlib.Decide.{dec_le}
-use lib.ListN.{length, get_or, set, take, drop, length-append, length-take, length-drop, drop_of_length-le, take-append-drop}
+use lib.ListN.{length, get_or, set, take, drop, length-append, length-drop, drop_of_length-le, take-append-drop}
 use lib.Seq.{length_front, take_all, take-nil, drop-drop, drop-length, drop-append-le}
 use Rattle.loops.specs.Lists.{build, over}
 use Rattle.loops.specs.Ring.{put}

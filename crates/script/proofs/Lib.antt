@@ -3,3 +3,4 @@ pub mod Scanning
 pub mod Lists
 pub mod Bits
 pub mod Phones
+pub mod Reading

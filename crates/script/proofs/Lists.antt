@@ -1,9 +1,8 @@
 -- Lists of numbers, read into a room one after the other: the place, and the room, after one number more. For numbers and for floats alike.
-use Prim.Native.Nat.{ℕ, ◌+◌, ◌≤◌, ◌<◌}
-use mathlib.Core.Path.{◌≡◌, refl, sym, ap, ◌∙◌}
+use Prim.Native.Nat.{ℕ, ◌+◌}
+use mathlib.Core.Path.{◌≡◌, refl, ap, ◌∙◌}
 use mathlib.Core.List.{List}
-use lib.ListN.{length, drop, set}
-use lib.Seq.{set_out}
+use lib.ListN.{drop, set}
 use Rattle.loops.specs.Loop.{iter}
 use Rattle.loops.proofs.Loop.{iter_step}
 use Rattle.script.specs.declared.Scan.{Scan}

@@ -1,10 +1,13 @@
 // Reads a script: its numbers, lists and lines, and the floats whose bits it writes. Every program that plays scripts reads with it.
 #![tactic(auto)]
 
-ghost use Rattle.std.specs.Prelude.{◌≡◌, ◌≤◌, ◌%◌, length, drop, get_or, set};
+ghost use Rattle.std.specs.Prelude.{◌≡◌, ◌<◌, ◌≤◌, ◌%◌, length, take, drop, get_or, set, IfOk};
+ghost use Rattle.std.specs.Io.KnownBytes.{Consumes, IsAtEnd};
 ghost use Rattle.std.specs.Float.{binary32, binary64};
 ghost use Rattle.std.specs.Float.Ieee.{of_bits, to_bits};
 ghost use Rattle.script.specs.Scan.{digit_of, number_at, step_at, signed_at, line_at, lines_end, whole_lines, moved_by, place_after, numbers_read, floats_read};
+
+use std::io::{self, Read};
 
 // A number, and the place after the byte that ends it.
 #[derive(Clone, Copy)]
@@ -19,6 +22,25 @@ pub struct Signed {
     pub minus: bool,
     pub size: usize,
     pub next: usize,
+}
+
+// ---- input
+
+// Reads until the room is full or the input ends; how many bytes that are.
+pub fn read_full<R: Read>(reader: &mut R, room: &mut [u8]) -> io::Result<usize>
+    ensures bound { IfOk result (λ n. n ≤ length room.new) }
+    ensures bytes { IfOk result (λ n. Consumes (R.remaining reader.old) (R.remaining reader.new) (take n room.new)) }
+    ensures end { IfOk result (λ n. n < length room.new → IsAtEnd (R.remaining reader.new)) }
+{
+    let mut n = 0;
+    while n < room.len() {
+        let read = reader.read(&mut room[n..])?;
+        if read == 0 {
+            break;
+        }
+        n += read;
+    }
+    Ok(n)
 }
 
 // ---- bytes

@@ -2,7 +2,7 @@
 use Rattle.std.specs.Prelude.{if◌then◌else◌}
 use mathlib.Core.Path.{◌≡◌, refl, sym, ap, ◌∙◌}
 use mathlib.Core.Bool.{Bool, true, false, ◌&&◌}
-use mathlib.Core.List.{List, [], ◌∷◌}
+use mathlib.Core.List.{List, []}
 use Prim.Native.Nat.{ℕ, ◌+◌, ◌-◌, ◌*◌, ◌^◌, ◌≤◌, ◌<◌}
 use native.Mathlib.Nat.{le_trans}
 use native.Mathlib.Omega.{arith}
@@ -18,8 +18,8 @@ use Rattle.floats.specs.Decimal.{tens}
 use Rattle.floats.specs.Operators.{f32}
 use Rattle.definition.specs.declared.IvectorOptions.{IvectorOptions}
 use Rattle.definition.specs.Options.{within}
-use Rattle.definition.specs.Reader.{Got, read, refused, after, give, need, run, here}
-use Rattle.definition.specs.Text.{digits, digits_value, to_nearest, number}
+use Rattle.definition.specs.Reader.{read, refused, after, give, need, run, here}
+use Rattle.definition.specs.Text.{digits_value, to_nearest, number}
 use Rattle.kaldi_text.proofs.Decimals.{decimal_nil, decimal_cons, decimal_ge}
 use Rattle.kaldi_text.proofs.Numbers.{digits_are}
 use Rattle.settings.specs.Settings.{plus, whole, read_or, setting, options_from, options_of, plain, settings_of, settings_read}

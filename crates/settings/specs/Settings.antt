@@ -4,7 +4,7 @@ use Rattle.std.specs.Prelude.{ℕ, ◌+◌, ◌^◌, Bool, ◌&&◌, List, [], �
 use Prim.Native.String.{String}
 use Rattle.std.specs.Float.{binary32}
 use Rattle.loops.specs.Lists.{all_of}
-use Rattle.floats.specs.Operators.{f32, f64, zero₃₂, zero₆₄}
+use Rattle.floats.specs.Operators.{f32, f64}
 use Rattle.definition.specs.declared.IvectorOptions.{IvectorOptions}
 use Rattle.definition.specs.declared.TableLengths.{TableLengths}
 use Rattle.definition.specs.Reader.{Got, read, refused, Parser, after, ◌>>=◌, ◌>>◌, give, need, run, here, same, text}

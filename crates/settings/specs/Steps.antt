@@ -1,7 +1,7 @@
 -- What the contracts of inner functions name.
 use Rattle.std.specs.Prelude.{ℕ, ◌^◌, Bool, List, [], length, drop, leb, ltb, Float, if◌then◌else◌}
 use Rattle.std.specs.Float.{binary32}
-use Rattle.definition.specs.Text.{digits_value, to_nearest}
+use Rattle.definition.specs.Text.{to_nearest}
 use Rattle.settings.specs.Settings.{lines, read_or}
 
 -- the lines from a place on: none past the end

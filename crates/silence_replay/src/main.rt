@@ -3,7 +3,7 @@
 #![tactic(auto)]
 
 use definition::{DecoderFrame, InputFrame, NewTable, SilenceAnswer, SilenceWeighting};
-use libc::STDOUT_FILENO;
+use std::io::{self, BufWriter, Read, Write};
 
 type Phones = [i32; 128];
 
@@ -60,46 +60,53 @@ fn after(session: Session, answer: SilenceAnswer) -> Session {
 
 // ---- output
 
-fn say(words: &[u8]) {
-    io::write_all(STDOUT_FILENO, words);
+fn say(writer: &mut impl Write, words: &[u8]) -> io::Result<()> {
+    writer.write_all(words)
 }
 
-fn print_line(n: usize) {
-    io::print_decimal(STDOUT_FILENO, n as u64);
-    say(b"\n");
+fn print_line(writer: &mut impl Write, n: usize) -> io::Result<()> {
+    writeln!(writer, "{n}")
 }
 
-fn print_next(n: usize) {
-    say(b" ");
-    io::print_decimal(STDOUT_FILENO, n as u64);
+fn print_next(writer: &mut impl Write, n: usize) -> io::Result<()> {
+    write!(writer, " {n}")
 }
 
-fn print_float(x: f32) {
-    say(b" ");
-    io::print_hex(STDOUT_FILENO, script::float_bits(x), 8);
+fn print_float(writer: &mut impl Write, x: f32) -> io::Result<()> {
+    write!(writer, " {:08x}", script::float_bits(x))
 }
 
 // The changes of an answer, or its refusal.
-fn print_answer(answer: SilenceAnswer, frames: &[usize], weights: &[f32]) {
+fn print_answer(
+    writer: &mut impl Write,
+    answer: SilenceAnswer,
+    frames: &[usize],
+    weights: &[f32],
+) -> io::Result<()> {
     if answer.refusal != 0 {
-        print_line(answer.refusal);
-        return;
+        return print_line(writer, answer.refusal);
     }
-    say(b"0");
-    print_next(answer.changes);
-    print_changes(answer.changes, frames, weights);
-    say(b"\n");
+    say(writer, b"0")?;
+    print_next(writer, answer.changes)?;
+    print_changes(writer, answer.changes, frames, weights)?;
+    say(writer, b"\n")
 }
 
-fn print_changes(n: usize, frames: &[usize], weights: &[f32]) {
+fn print_changes(
+    writer: &mut impl Write,
+    n: usize,
+    frames: &[usize],
+    weights: &[f32],
+) -> io::Result<()> {
     for i in 0..n {
         if i < frames.len() {
-            print_next(frames[i]);
+            print_next(writer, frames[i])?;
         }
         if i < weights.len() {
-            print_float(weights[i]);
+            print_float(writer, weights[i])?;
         }
     }
+    Ok(())
 }
 
 // ---- rooms. A length that this program has no room for is cut to the room; the answer then shows it
@@ -157,7 +164,12 @@ fn set_phone(items: &mut [i32], i: usize, x: i32) {
 }
 
 // `t T weight sub np p1 .. pnp`
-fn make(text: &[u8], at: usize, phones: &mut [i32]) -> Session {
+fn make(
+    writer: &mut impl Write,
+    text: &[u8],
+    at: usize,
+    phones: &mut [i32],
+) -> io::Result<Session> {
     let table = script::number(text, at, 10);
     let weight = script::number(text, table.next, 16);
     let subsampling = script::number(text, weight.next, 10);
@@ -171,12 +183,12 @@ fn make(text: &[u8], at: usize, phones: &mut [i32]) -> Session {
     );
     match made {
         NewTable::Table(s) => {
-            print_line(0);
-            holding(s)
+            print_line(writer, 0)?;
+            Ok(holding(s))
         }
         NewTable::Refused(r) => {
-            print_line(r);
-            nothing()
+            print_line(writer, r)?;
+            Ok(nothing())
         }
     }
 }
@@ -250,6 +262,7 @@ fn note(
 
 // `b decoded np p.. ns s.. ne e..`
 fn traceback(
+    writer: &mut impl Write,
     text: &[u8],
     at: usize,
     session: Session,
@@ -258,7 +271,7 @@ fn traceback(
     known: &mut Known,
     is_silence: &mut Known,
     current_weight: &mut Weights,
-) -> Session {
+) -> io::Result<Session> {
     let mut segment_phones = [0i32; 64];
     let mut starts = [0usize; 64];
     let mut ends = [0usize; 64];
@@ -282,8 +295,8 @@ fn traceback(
         front_usize(&ends, ne.value),
         decoded.value,
     );
-    print_line(answer.refusal);
-    after(session, answer)
+    print_line(writer, answer.refusal)?;
+    Ok(after(session, answer))
 }
 
 fn weigh(
@@ -311,6 +324,7 @@ fn weigh(
 
 // `a ready first lf lw`
 fn weights(
+    writer: &mut impl Write,
     text: &[u8],
     at: usize,
     session: Session,
@@ -318,7 +332,7 @@ fn weights(
     known: &mut Known,
     is_silence: &mut Known,
     current_weight: &mut Weights,
-) -> Session {
+) -> io::Result<Session> {
     let mut frames = [0usize; 20000];
     let mut changes = [0.0f32; 20000];
     let ready = script::number(text, at, 10);
@@ -336,12 +350,13 @@ fn weights(
         lend_usize(&mut frames, nf.value),
         lend_f32(&mut changes, nw.value),
     );
-    print_answer(answer, &frames, &changes);
-    after(session, answer)
+    print_answer(writer, answer, &frames, &changes)?;
+    Ok(after(session, answer))
 }
 
 // One line, whose first byte is at a place.
 fn line(
+    writer: &mut impl Write,
     text: &[u8],
     at: usize,
     session: Session,
@@ -349,25 +364,26 @@ fn line(
     known: &mut Known,
     is_silence: &mut Known,
     current_weight: &mut Weights,
-) -> Session {
+) -> io::Result<Session> {
     let letter = script::byte_at(text, at);
     let from = script::step(text, script::step(text, at));
     if letter == b't' {
-        return make(text, from, phones);
+        return make(writer, text, from, phones);
     }
     if letter == b'z' {
-        return nothing();
+        return Ok(nothing());
     }
     let told = session.told;
     let Held::Table(s) = told else {
-        say(b"no such line here\n");
-        return session;
+        say(writer, b"no such line here\n")?;
+        return Ok(session);
     };
     if letter == b'y' {
-        return forge(text, from, session, s);
+        return Ok(forge(text, from, session, s));
     }
     if letter == b'b' {
         return traceback(
+            writer,
             text,
             from,
             session,
@@ -379,14 +395,23 @@ fn line(
         );
     }
     if letter == b'a' {
-        return weights(text, from, session, s, known, is_silence, current_weight);
+        return weights(
+            writer,
+            text,
+            from,
+            session,
+            s,
+            known,
+            is_silence,
+            current_weight,
+        );
     }
-    say(b"no such line here\n");
-    session
+    say(writer, b"no such line here\n")?;
+    Ok(session)
 }
 
 // The whole text, with rooms for a table.
-fn replay(text: &[u8]) {
+fn replay(writer: &mut impl Write, text: &[u8]) -> io::Result<()> {
     let mut phones = [0i32; 128];
     let mut known = [false; 1000001];
     let mut is_silence = [false; 1000001];
@@ -394,12 +419,12 @@ fn replay(text: &[u8]) {
     let mut session = nothing();
     let mut at = 0;
     // as many turns as there are bytes are enough
-    let mut left = text.len();
-    while 0 < left {
+    for _ in 0..text.len() {
         if text.len() <= at {
-            return;
+            return Ok(());
         }
         session = line(
+            writer,
             text,
             at,
             session,
@@ -407,28 +432,38 @@ fn replay(text: &[u8]) {
             &mut known,
             &mut is_silence,
             &mut current_weight,
-        );
+        )?;
         at = script::next_line(text, at);
-        left = left - 1;
     }
+    Ok(())
 }
 
 // The lines that the room has, and a word where there are more.
-fn play_input(text: &mut [u8]) {
-    let n = io::read_full(0, text);
+fn play_input(reader: &mut impl Read, writer: &mut impl Write, text: &mut [u8]) -> io::Result<()> {
+    let n = script::read_full(reader, text)?;
     let e = script::whole_lines(text, n);
-    replay(&text[0..e]);
+    replay(writer, &text[0..e])?;
     if n == text.len() {
-        say(b"the script is longer than this program's room: the rest is not read\n");
+        say(
+            writer,
+            b"the script is longer than this program's room: the rest is not read\n",
+        )?;
     }
+    Ok(())
 }
 
 // The room as a slice.
-fn in_room(text: &mut [u8; 262144]) {
-    play_input(text);
+fn in_room(
+    reader: &mut impl Read,
+    writer: &mut impl Write,
+    text: &mut [u8; 262144],
+) -> io::Result<()> {
+    play_input(reader, writer, text)
 }
 
-fn main() {
+fn main(rt: HostRuntime) -> io::Result<()> {
     let mut text = [0u8; 262144];
-    in_room(&mut text);
+    let mut writer = BufWriter::new(rt.alloc(), io::writer(&rt))?;
+    in_room(&mut rt.reader(), &mut writer, &mut text)?;
+    writer.flush()
 }

@@ -11,7 +11,7 @@ use lib.IntN.{ℤ}
 use lib.ListN.{length, get_or}
 use lib.Ieee.{Float, nan}
 use Rattle.loops.specs.Lists.{build, over}
-use Rattle.loops.specs.Refusal.{first_of, taken}
+use Rattle.loops.specs.Refusal.{first_of}
 use Rattle.loops.specs.Ring.{put}
 use Rattle.loops.proofs.Choose.{choose_true, choose_false, or_first, or_second, or_none}
 use Rattle.loops.proofs.Build.{build_ext, map-build}

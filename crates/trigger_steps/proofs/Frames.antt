@@ -1,12 +1,12 @@
 -- Numbers cut into frames: the first frame and what is left behind it, as code goes through them.
-use mathlib.Core.Path.{◌≡◌, refl, sym, ap, ◌∙◌}
+use mathlib.Core.Path.{◌≡◌, sym, ap, ◌∙◌}
 use mathlib.Core.List.{List, [], ◌∷◌}
-use Prim.Native.Nat.{ℕ, zero, suc, ◌+◌, ◌-◌, ◌*◌, ◌/◌, ◌≤◌, ◌<◌, min, max}
+use Prim.Native.Nat.{ℕ, suc, ◌+◌, ◌-◌, ◌*◌, ◌/◌, ◌≤◌, ◌<◌, min}
 use native.Mathlib.Nat.{div-eq_of_lt, div-eq-sub-div, suc-mul, zero-mul, add_comm}
 use native.Mathlib.Omega.{arith}
 use native.Mathlib.Decide.{dec_le}
 use lib.ListN.{length, take, drop, length-drop, drop_of_length-le}
-use lib.Seq.{take_all, drop-drop, drop-nil}
+use lib.Seq.{take_all, drop-drop}
 use Rattle.loops.specs.Lists.{build}
 use Rattle.loops.proofs.Build.{build_ext}
 use Rattle.trigger_steps.specs.Round.{cut}

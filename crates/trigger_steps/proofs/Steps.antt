@@ -1,16 +1,16 @@
 -- The steps of a round, from what a call returned: each law takes the equation of a call's contract and says what the step is then.
 use Rattle.std.specs.Prelude.{if◌then◌else◌}
 use mathlib.Core.Path.{◌≡◌, refl, sym, ap, ◌∙◌}
-use mathlib.Core.Bool.{true, false}
+use mathlib.Core.Bool.{true}
 use mathlib.Core.List.{List, [], ◌∷◌}
 use Prim.Native.Nat.{ℕ, ◌+◌, ◌-◌, ◌≤◌, ◌<◌, min}
 use native.Mathlib.Omega.{arith}
 use lib.ListN.{length, take, drop, length-drop}
-use lib.Dec.{eqb, ltb}
+use lib.Dec.{eqb}
 use lib.IntN.{ℤ}
 use lib.Ieee.{Float}
 use borrow.Author.Tests.{eq-eqb, ne_eqb, ltb-false}
-use Rattle.loops.specs.Refusal.{first_of, taken}
+use Rattle.loops.specs.Refusal.{taken}
 use Rattle.loops.proofs.Choose.{choose_true, choose_false, choose_map, choose_same}
 use Rattle.loops.proofs.Refusal.{none_first}
 use Rattle.definition.specs.declared.IvectorStream.{IvectorStream}

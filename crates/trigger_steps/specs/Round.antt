@@ -8,9 +8,9 @@ use Rattle.definition.specs.declared.IvectorStream.{IvectorStream}
 use Rattle.definition.specs.declared.SilenceWeighting.{SilenceWeighting}
 use Rattle.definition.specs.Model.{Tables}
 use Rattle.definition.specs.Machine.{frames_ready}
-use Rattle.definition.specs.Silence.{input, decoder, TableRooms, TableCall, table_done, compute_current_traceback, get_delta_weights}
+use Rattle.definition.specs.Silence.{input, decoder, TableRooms, table_done, compute_current_traceback, get_delta_weights}
 use Rattle.program.specs.Rooms.{Rings, Rooms, rooms_from}
-use Rattle.program.specs.Calls.{RingCall, done_on, FetchCall, fetched_on, push_frame, update_frame_weights, forget_before, get_frame}
+use Rattle.program.specs.Calls.{RingCall, done_on, fetched_on, push_frame, update_frame_weights, forget_before, get_frame}
 use Rattle.nearest_voice.specs.declared.NearestVoice.{NearestVoice}
 use Rattle.nearest_voice.specs.declared.NearestVoice.TheVariants as N
 use Rattle.nearest_voice.specs.Voice.{nearest_voice}

@@ -1,23 +1,21 @@
 -- The program's input: one number by its digits, the end, and what is asked by the ways out of `read_input`. Code has each number up to 2^32: the limits tell no more.
-use mathlib.Core.Path.{◌≡◌, refl, sym, ap, ◌∙◌}
-use mathlib.Core.Bool.{true, false}
+use mathlib.Core.Path.{◌≡◌, sym, ◌∙◌}
+use mathlib.Core.Bool.{true}
 use mathlib.Core.List.{List}
 use Prim.Native.Nat.{ℕ, ◌+◌, ◌-◌, ◌^◌, ◌≤◌, ◌<◌, min}
 use native.Mathlib.Omega.{arith}
 use native.Mathlib.Decide.{dec_le}
 use lib.ListN.{length, take, drop}
-use lib.Dec.{eqb, ltb, leb}
+use lib.Dec.{eqb, ltb}
 use borrow.Author.Tests.{lt-ltb, le-ltb, le-leb, lt-leb, eq-eqb, ne_eqb}
-use Rattle.loops.specs.Refusal.{first_of}
 use Rattle.loops.proofs.Parts.{length_part}
 use Rattle.definition.specs.Options.{within}
-use Rattle.definition.specs.Reader.{Got, read, refused, run}
+use Rattle.definition.specs.Reader.{read, refused, run}
 use Rattle.definition.specs.Text.{digits_value, space, skip}
 use Rattle.kaldi_text.proofs.Numbers.{digits_are}
 use Rattle.try_load.specs.Draws.{size_refusal}
-use Rattle.try_load.specs.Input.{a_number, closing, asked_for, three_numbers, asked, asked_of}
+use Rattle.try_load.specs.Input.{a_number, closing, asked_for, three_numbers, asked_of}
 use Rattle.try_load.specs.Steps.{Valued}
-use Rattle.try_load.specs.declared.Asked.{Asked}
 use Rattle.try_load.specs.declared.Found.{Found}
 use Rattle.try_load.proofs.Steps.{size_taken}
 

@@ -1,5 +1,5 @@
 -- What the inner functions leave. Not for readers.
-use Rattle.std.specs.Prelude.{◌≡◌, true, false, List, ℕ, ◌^◌, ◌≤◌, min, length, Float}
+use Rattle.std.specs.Prelude.{◌≡◌, true, false, List, ℕ, ◌^◌, ◌≤◌, min, Float}
 use Rattle.loops.specs.Lists.{flat, over}
 use Rattle.loops.specs.Steps.{fill}
 use Rattle.definition.specs.Reader.{Got, read, refused}

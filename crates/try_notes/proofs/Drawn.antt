@@ -1,14 +1,14 @@
 -- The call that is drawn: what `draw_call` codes is the drawing's call, by its kind.
-use mathlib.Core.Path.{◌≡◌, refl, sym, ap, ap₂, ◌∙◌}
+use mathlib.Core.Path.{◌≡◌, refl, ap, ap₂, ◌∙◌}
 use mathlib.Core.List.{List, [], ◌∷◌}
-use Prim.Native.Nat.{ℕ, ◌+◌, ◌*◌, ◌%◌, ◌≤◌, ◌<◌}
+use Prim.Native.Nat.{ℕ, ◌%◌, ◌<◌}
 use native.Mathlib.Nat.{mod-lt, sub-zero}
 use native.Mathlib.Omega.{arith}
-use lib.ListN.{length, take, drop, set}
+use lib.ListN.{length, take, set}
 use lib.Ieee.{Float}
 use Rattle.loops.specs.Ring.{put}
 use Rattle.loops.proofs.Fill.{put_front, take_over}
-use Rattle.definition.specs.Machine.{Call, push, finish, change, forget, fetch}
+use Rattle.definition.specs.Machine.{push, finish, change, forget, fetch}
 use Rattle.run_calls.specs.Listed.{part, of_kind}
 use Rattle.run_calls.specs.Turns.{decoded}
 use Rattle.run_calls.specs.declared.CodedCall.{CodedCall}

@@ -1,14 +1,13 @@
 -- The loop over the calls that are drawn: what is left from call i on is what was to be tallied at first (`Going`); it holds at first, after a call more,
 -- and says all at the end.
 use mathlib.Core.Path.{◌≡◌, refl, sym, ap, ap₂, ◌∙◌}
-use mathlib.Core.List.{List, [], ◌∷◌, map, foldl}
+use mathlib.Core.List.{List, [], ◌∷◌}
 use Prim.Native.Nat.{ℕ, zero, suc, ◌+◌, ◌%◌, ◌≤◌, ◌<◌}
 use native.Mathlib.Omega.{arith}
 use lib.ListN.{length, get_or, drop, replicate, drop_of_length-le}
 use lib.Ieee.{Float}
 use Rattle.loops.proofs.Build.{length_build, at_build}
 use Rattle.loops.proofs.Parts.{drop_next}
-use Rattle.definition.specs.declared.StreamAnswer.{StreamAnswer}
 use Rattle.definition.specs.declared.StreamCall.{StreamCall}
 use Rattle.definition.specs.Model.{Tables}
 use Rattle.definition.specs.Machine.{Call, finish}
@@ -19,9 +18,9 @@ use Rattle.run_calls.specs.declared.CodedCall.{CodedCall}
 use Rattle.try_load.specs.Draws.{draw, Drawing, drawing, call_in, drawing_at, drawn_calls}
 use Rattle.try_load.specs.Steps.{Placed}
 use Rattle.try_load.specs.declared.Place.{Place}
-use Rattle.try_notes.specs.Steps.{counted, Tally, tally, noted}
+use Rattle.try_notes.specs.Steps.{Tally, noted}
 use Rattle.try_notes.proofs.Counted.{length-counted, counted-few}
-use Rattle.try_play.specs.Totals.{kind_of, refusal_of, held_of}
+use Rattle.try_play.specs.Totals.{kind_of}
 use Rattle.try_play.specs.Steps.{tallied}
 use Rattle.try_play.proofs.DrawnKind.{kind_of_drawn}
 

@@ -1,17 +1,15 @@
 -- Every refusal number of the keeping machine is below 34: so the counts by number leave none out.
-use Rattle.std.specs.Prelude.{if◌then◌else◌}
 use mathlib.Core.Path.{◌≡◌, refl}
-use mathlib.Core.Bool.{Bool, true, false, ◌&&◌}
-use mathlib.Core.List.{List, [], ◌∷◌, map}
+use mathlib.Core.Bool.{Bool, true, false}
+use mathlib.Core.List.{List, [], ◌∷◌}
 use Prim.Native.Nat.{ℕ}
-use lib.ListN.{length}
 use lib.Dec.{ltb}
 use Rattle.loops.specs.Lists.{all_of}
 use Rattle.loops.specs.Refusal.{first_of}
 use Rattle.loops.proofs.Choose.{and_both, and_holds}
 use Rattle.definition.specs.declared.RingLengths.{RingLengths}
 use Rattle.definition.specs.Model.{Model}
-use Rattle.definition.specs.Machine.{Call, push, finish, change, forget, set_window, fetch, Answer, Machine, moved, does, answer, told_by, answers_from, fresh, answers, push_tests, change_tests, window_tests, fetch_tests, frames_ready, accepted}
+use Rattle.definition.specs.Machine.{Call, push, finish, change, forget, set_window, fetch, Machine, moved, does, answer, told_by, answers_from, fresh, answers, push_tests, change_tests, window_tests, fetch_tests}
 use Rattle.try_play.specs.Totals.{refusal_of}
 
 first_below : (ts : List (Bool × ℕ)) → all_of (λ t. ltb t.1 34) ts ≡ true → ltb (first_of ts) 34 ≡ true

@@ -12,7 +12,7 @@ use Rattle.definition.specs.declared.StreamCall.{StreamCall}
 use Rattle.definition.specs.declared.NewStream.{NewStream}
 use Rattle.definition.specs.declared.NewStream.TheVariants as N
 use Rattle.definition.specs.Model.{Tables, table_lengths_of, model_in}
-use Rattle.definition.specs.Machine.{Call, Answer, answers}
+use Rattle.definition.specs.Machine.{Call, answers}
 use Rattle.definition.specs.Stream.{new_refusal}
 use Rattle.program.specs.Rooms.{Rooms, ring_lengths_of, room_lengths_of}
 use Rattle.program.specs.Calls.{call_of, fresh_stream, new_answer, fresh_rooms}

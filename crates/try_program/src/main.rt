@@ -7,57 +7,56 @@
 ghost use Rattle.std.specs.Prelude.{◌<◌};
 
 use definition::{IvectorInfo, IvectorOptions, Loaded};
-use libc::STDOUT_FILENO;
+use std::env;
+use std::io::{self, BufWriter, Read, Write};
 use try_load::Asked;
 use try_play::Totals;
 
 // ---- output
 
-fn say(words: &[u8]) {
-    io::write_all(STDOUT_FILENO, words);
+fn say(writer: &mut impl Write, words: &[u8]) -> io::Result<()> {
+    writer.write_all(words)
 }
 
-fn print_number(n: usize) {
-    io::print_decimal(STDOUT_FILENO, n as u64);
+fn print_number(writer: &mut impl Write, n: usize) -> io::Result<()> {
+    write!(writer, "{n}")
 }
 
 // The number of calls of each kind.
-fn print_calls(calls: &[usize], between: &[u8]) {
+fn print_calls(writer: &mut impl Write, calls: &[usize], between: &[u8]) -> io::Result<()> {
     for k in 0..calls.len() {
-        print_number(calls[k]);
-        say(between);
+        print_number(writer, calls[k])?;
+        say(writer, between)?;
     }
+    Ok(())
 }
 
 // A refusal that was met, and its count.
-fn print_refusal(r: usize, n: usize, between: &[u8]) {
+fn print_refusal(writer: &mut impl Write, r: usize, n: usize, between: &[u8]) -> io::Result<()> {
     if n != 0 {
-        print_number(r);
-        say(b" ");
-        print_number(n);
-        say(between);
+        write!(writer, "{r} {n}")?;
+        say(writer, between)?;
     }
+    Ok(())
 }
 
 // Each refusal, rising. The first place is for calls that were taken.
-fn print_refusals(refusals: &[usize], between: &[u8]) {
+fn print_refusals(writer: &mut impl Write, refusals: &[usize], between: &[u8]) -> io::Result<()> {
     for r in 1..refusals.len() {
-        print_refusal(r, refusals[r], between);
+        print_refusal(writer, r, refusals[r], between)?;
     }
+    Ok(())
 }
 
-fn print_totals(t: Totals, between: &[u8]) {
+fn print_totals(writer: &mut impl Write, t: Totals, between: &[u8]) -> io::Result<()> {
     if t.refusal != 0 {
-        print_number(t.refusal);
-        say(b"\n");
-        return;
+        return writeln!(writer, "{}", t.refusal);
     }
     let calls = t.calls;
     let refusals = t.refusals;
-    print_calls(&calls, between);
-    print_refusals(&refusals, between);
-    print_number(t.greatest);
-    say(b"\n");
+    print_calls(writer, &calls, between)?;
+    print_refusals(writer, &refusals, between)?;
+    writeln!(writer, "{}", t.greatest)
 }
 
 // ---- the model: P9's, with a base dimension
@@ -148,7 +147,13 @@ fn play_model(
 }
 
 // The model's files loaded, and played.
-fn play_files(asked: Asked, lda: &[u8], cmvn: &[u8], between: &[u8]) {
+fn play_files(
+    writer: &mut impl Write,
+    asked: Asked,
+    lda: &[u8],
+    cmvn: &[u8],
+    between: &[u8],
+) -> io::Result<()> {
     let mut gconsts = [0.0f32; 1];
     let mut means_invvars_t = [0.0f32; 1];
     let mut inv_vars_t = [0.0f32; 1];
@@ -175,10 +180,7 @@ fn play_files(asked: Asked, lda: &[u8], cmvn: &[u8], between: &[u8]) {
         &mut scratch,
     );
     match loaded {
-        Loaded::Refused(number) => {
-            print_number(number);
-            say(b"\n");
-        }
+        Loaded::Refused(number) => { writeln!(writer, "{number}") }
         Loaded::Model(info) => {
             let t = play_model(
                 asked,
@@ -192,25 +194,29 @@ fn play_files(asked: Asked, lda: &[u8], cmvn: &[u8], between: &[u8]) {
                 &lda_offset,
                 &global_mean_stats,
             );
-            print_totals(t, between);
+            print_totals(writer, t, between)
         }
     }
 }
 
 // What an input asks for: the totals, or 33.
-fn answer(text: &[u8], between: &[u8]) {
+fn answer(writer: &mut impl Write, text: &[u8], between: &[u8]) -> io::Result<()> {
     let asked = try_load::read_input(text);
     if asked.refusal != 0 {
-        print_number(asked.refusal);
-        say(b"\n");
-        return;
+        return writeln!(writer, "{}", asked.refusal);
     }
     let mut lda = [0u8; 271];
     let mut cmvn = [0u8; 395];
     let dim = script::at_most(asked.dim, 64);
     let l = try_model::put_lda(dim, &mut lda);
     let c = try_model::put_cmvn(dim, &mut cmvn);
-    play_files(asked, lda_bytes(&lda, l), cmvn_bytes(&cmvn, c), between);
+    play_files(
+        writer,
+        asked,
+        lda_bytes(&lda, l),
+        cmvn_bytes(&cmvn, c),
+        between,
+    )
 }
 
 // ---- a script of inputs
@@ -250,14 +256,12 @@ fn plus(a: usize, b: usize) -> usize {
     a + b
 }
 
-fn print_next(n: usize) {
-    say(b" ");
-    print_number(n);
+fn print_next(writer: &mut impl Write, n: usize) -> io::Result<()> {
+    write!(writer, " {n}")
 }
 
-fn print_float(x: f32) {
-    say(b" ");
-    io::print_hex(STDOUT_FILENO, script::float_bits(x), 8);
+fn print_float(writer: &mut impl Write, x: f32) -> io::Result<()> {
+    write!(writer, " {:08x}", script::float_bits(x))
 }
 
 fn float_at(items: &[f32], i: usize) -> f32 {
@@ -274,14 +278,16 @@ fn number_at(items: &[usize], i: usize) -> usize {
     0
 }
 
-fn print_floats(items: &[f32], at: usize, n: usize) {
+fn print_floats(writer: &mut impl Write, items: &[f32], at: usize, n: usize) -> io::Result<()> {
     for j in 0..n {
-        print_float(float_at(items, plus(at, j)));
+        print_float(writer, float_at(items, plus(at, j)))?;
     }
+    Ok(())
 }
 
 // Call i, whose numbers stand from a place on if it is a push; the place after them.
 fn print_call(
+    writer: &mut impl Write,
     i: usize,
     at: usize,
     dim: usize,
@@ -289,46 +295,49 @@ fn print_call(
     kinds: &[u8],
     named: &[usize],
     weights: &[f32],
-) -> usize {
+) -> io::Result<usize> {
     let kind = script::byte_at(kinds, i);
-    print_next(kind as usize);
+    print_next(writer, kind as usize)?;
     if kind == 0 {
-        print_floats(frames, at, dim);
-        return plus(at, dim);
+        print_floats(writer, frames, at, dim)?;
+        return Ok(plus(at, dim));
     }
     if kind != 1 {
-        print_next(number_at(named, i));
+        print_next(writer, number_at(named, i))?;
     }
     if kind == 2 {
-        print_float(float_at(weights, i));
+        print_float(writer, float_at(weights, i))?;
     }
-    at
+    Ok(at)
 }
 
 fn print_lists(
+    writer: &mut impl Write,
     dim: usize,
     count: usize,
     frames: &[f32],
     kinds: &[u8],
     named: &[usize],
     weights: &[f32],
-) {
+) -> io::Result<()> {
     let mut at = 0;
     for i in 0..count {
-        at = print_call(i, at, dim, frames, kinds, named, weights);
+        at = print_call(writer, i, at, dim, frames, kinds, named, weights)?;
     }
+    Ok(())
 }
 
 // The rooms as slices.
 fn print_rooms(
+    writer: &mut impl Write,
     dim: usize,
     count: usize,
     frames: &[f32; 16384],
     kinds: &[u8; 10000],
     named: &[usize; 10000],
     weights: &[f32; 10000],
-) {
-    print_lists(dim, count, frames, kinds, named, weights);
+) -> io::Result<()> {
+    print_lists(writer, dim, count, frames, kinds, named, weights)
 }
 
 fn lend_u8(room: &mut [u8], n: usize) -> &mut [u8] {
@@ -342,7 +351,7 @@ fn lend_usize(room: &mut [usize], n: usize) -> &mut [usize] {
 }
 
 // `h SEED DIM COUNT FRAMES CALLS`
-fn list_line(text: &[u8], at: usize) {
+fn list_line(writer: &mut impl Write, text: &[u8], at: usize) -> io::Result<()> {
     let mut frames = [0.0f32; 16384];
     let mut kinds = [0u8; 10000];
     let mut named = [0usize; 10000];
@@ -361,66 +370,78 @@ fn list_line(text: &[u8], at: usize) {
         lend_usize(&mut named, calls.value),
         lend_f32(&mut weights, calls.value),
     );
-    print_number(r);
+    print_number(writer, r)?;
     if r == 0 {
-        print_rooms(dim.value, count.value, &frames, &kinds, &named, &weights);
+        print_rooms(
+            writer,
+            dim.value,
+            count.value,
+            &frames,
+            &kinds,
+            &named,
+            &weights,
+        )?;
     }
-    say(b"\n");
+    say(writer, b"\n")
 }
 
 // `i N HEX`. An input that is longer than the room is too long in the room too.
-fn input_line(text: &[u8], at: usize) {
+fn input_line(writer: &mut impl Write, text: &[u8], at: usize) -> io::Result<()> {
     let mut bytes = [0u8; 128];
     let n = script::number(text, at, 10);
     read_bytes(text, n.next, &mut bytes);
-    answer(front_u8(&bytes, n.value), b";");
+    answer(writer, front_u8(&bytes, n.value), b";")
 }
 
-fn line(text: &[u8], at: usize) {
+fn line(writer: &mut impl Write, text: &[u8], at: usize) -> io::Result<()> {
     let from = script::step(text, script::step(text, at));
     if script::byte_at(text, at) == b'h' {
-        list_line(text, from);
-        return;
+        return list_line(writer, text, from);
     }
-    input_line(text, from);
+    input_line(writer, text, from)
 }
 
-fn play_script(text: &[u8]) {
+fn play_script(writer: &mut impl Write, text: &[u8]) -> io::Result<()> {
     let mut at = 0;
     // as many turns as there are bytes are enough
-    let mut left = text.len();
-    while 0 < left {
+    for _ in 0..text.len() {
         if text.len() <= at {
-            return;
+            return Ok(());
         }
-        line(text, at);
+        line(writer, text, at)?;
         at = script::next_line(text, at);
-        left = left - 1;
     }
+    Ok(())
 }
 
 // The lines that the room has, and a word where there are more.
-fn read_script(text: &mut [u8]) {
-    let n = io::read_full(0, text);
+fn read_script(reader: &mut impl Read, writer: &mut impl Write, text: &mut [u8]) -> io::Result<()> {
+    let n = script::read_full(reader, text)?;
     let e = script::whole_lines(text, n);
-    play_script(&text[0..e]);
+    play_script(writer, &text[0..e])?;
     if n == text.len() {
-        say(b"the script is longer than this program's room: the rest is not read\n");
+        say(
+            writer,
+            b"the script is longer than this program's room: the rest is not read\n",
+        )?;
     }
+    Ok(())
 }
 
 // One input: a byte more than it may have shows that it is too long.
-fn read_one(text: &mut [u8]) {
-    let n = io::read_full(0, text);
-    answer(&text[0..n], b"\n");
+fn read_one(reader: &mut impl Read, writer: &mut impl Write, text: &mut [u8]) -> io::Result<()> {
+    let n = script::read_full(reader, text)?;
+    answer(writer, &text[0..n], b"\n")
 }
 
-fn main() {
-    if os::arg_count() > 1 {
+fn main(rt: HostRuntime) -> io::Result<()> {
+    let mut writer = BufWriter::new(rt.alloc(), io::writer(&rt))?;
+    if env::args(&rt)?.len() > 1 {
         let mut text = [0u8; 262144];
-        read_script(&mut text);
-        return;
+        read_script(&mut rt.reader(), &mut writer, &mut text)?;
+        return writer.flush();
     }
     let mut text = [0u8; 101];
-    read_one(&mut text);
+    read_one(&mut rt.reader(), &mut writer, &mut text)?;
+    writer.flush()
 }

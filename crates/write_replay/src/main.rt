@@ -5,16 +5,15 @@
 #![tactic(auto)]
 
 use definition::IvectorOptions;
-use libc::STDOUT_FILENO;
 use model_bytes::{ModelSizes, Written};
+use std::io::{self, BufWriter, Read, Write};
 
-fn say(words: &[u8]) {
-    io::write_all(STDOUT_FILENO, words);
+fn say(writer: &mut impl Write, words: &[u8]) -> io::Result<()> {
+    writer.write_all(words)
 }
 
-fn print_number(n: usize) {
-    say(b" ");
-    io::print_decimal(STDOUT_FILENO, n as u64);
+fn print_number(writer: &mut impl Write, n: usize) -> io::Result<()> {
+    write!(writer, " {n}")
 }
 
 // ---- what is read
@@ -116,43 +115,44 @@ fn wide(b: u8) -> u64 {
     b as u64
 }
 
-fn print_bytes(out: &[u8], n: usize) {
+fn print_bytes(writer: &mut impl Write, out: &[u8], n: usize) -> io::Result<()> {
     for i in 0..out.len() {
         if n <= i {
-            return;
+            return Ok(());
         }
-        io::print_hex(STDOUT_FILENO, wide(out[i]), 2);
+        write!(writer, "{:02x}", wide(out[i]))?;
     }
+    Ok(())
 }
 
-fn print_written(a: Written, out: &[u8]) {
+fn print_written(writer: &mut impl Write, a: Written, out: &[u8]) -> io::Result<()> {
     match a {
         Written::Files {
             gmm,
             extractor,
             lda,
         } => {
-            say(b"0");
-            print_number(gmm);
-            print_number(extractor);
-            print_number(lda);
+            say(writer, b"0")?;
+            print_number(writer, gmm)?;
+            print_number(writer, extractor)?;
+            print_number(writer, lda)?;
         }
         Written::Refused(refusal) => {
-            io::print_decimal(STDOUT_FILENO, refusal as u64);
+            write!(writer, "{refusal}")?;
         }
     }
     let n = written_to(out);
     if 0 < n {
-        say(b" ");
-        print_bytes(out, n);
+        say(writer, b" ")?;
+        print_bytes(writer, out, n)?;
     }
-    say(b"\n");
+    say(writer, b"\n")
 }
 
 // ---- at each width
 
 // One line at f32, after its first word. A list that is longer than its room is cut.
-fn play_f32(text: &[u8], at: usize) {
+fn play_f32(writer: &mut impl Write, text: &[u8], at: usize) -> io::Result<()> {
     let mut cmvn = [0u8; 128];
     let mut weights = [0.0f32; 160];
     let mut means_invvars = [0.0f32; 160];
@@ -162,6 +162,7 @@ fn play_f32(text: &[u8], at: usize) {
     let mut lda = [0.0f32; 160];
     let mut out = [0xeeu8; 1024];
     read_f32(
+        writer,
         text,
         at,
         &mut cmvn,
@@ -172,10 +173,12 @@ fn play_f32(text: &[u8], at: usize) {
         &mut sigma_inv,
         &mut lda,
         &mut out,
-    );
+    )?;
+    Ok(())
 }
 
 fn read_f32(
+    writer: &mut impl Write,
     text: &[u8],
     at: usize,
     cmvn: &mut [u8],
@@ -186,7 +189,7 @@ fn read_f32(
     sigma_inv: &mut [f32],
     lda: &mut [f32],
     out: &mut [u8],
-) {
+) -> io::Result<()> {
     let h = read_head(text, at, cmvn);
     let n1 = script::number(text, h.next, 10);
     let p1 = script::read_floats(text, n1.next, n1.value, weights);
@@ -203,6 +206,7 @@ fn read_f32(
     let p6 = script::read_floats(text, n6.next, n6.value, lda);
     let room = script::number(text, p6, 10);
     write_f32(
+        writer,
         h,
         cmvn,
         weights,
@@ -220,10 +224,12 @@ fn read_f32(
         n6.value,
         out,
         room.value,
-    );
+    )?;
+    Ok(())
 }
 
 fn write_f32(
+    writer: &mut impl Write,
     h: Head,
     cmvn: &[u8],
     weights: &[f32],
@@ -241,7 +247,7 @@ fn write_f32(
     n6: usize,
     out: &mut [u8],
     room: usize,
-) {
+) -> io::Result<()> {
     let k0 = script::at_most(h.cmvn, cmvn.len());
     let k1 = script::at_most(n1, weights.len());
     let k2 = script::at_most(n2, means_invvars.len());
@@ -263,11 +269,11 @@ fn write_f32(
         &lda[..k6],
         &mut out[..k7],
     );
-    print_written(a, out);
+    print_written(writer, a, out)
 }
 
 // One line at f64, after its first word. A list that is longer than its room is cut.
-fn play_f64(text: &[u8], at: usize) {
+fn play_f64(writer: &mut impl Write, text: &[u8], at: usize) -> io::Result<()> {
     let mut cmvn = [0u8; 128];
     let mut weights = [0.0f64; 160];
     let mut means_invvars = [0.0f64; 160];
@@ -277,6 +283,7 @@ fn play_f64(text: &[u8], at: usize) {
     let mut lda = [0.0f64; 160];
     let mut out = [0xeeu8; 1024];
     read_f64(
+        writer,
         text,
         at,
         &mut cmvn,
@@ -287,10 +294,12 @@ fn play_f64(text: &[u8], at: usize) {
         &mut sigma_inv,
         &mut lda,
         &mut out,
-    );
+    )?;
+    Ok(())
 }
 
 fn read_f64(
+    writer: &mut impl Write,
     text: &[u8],
     at: usize,
     cmvn: &mut [u8],
@@ -301,7 +310,7 @@ fn read_f64(
     sigma_inv: &mut [f64],
     lda: &mut [f64],
     out: &mut [u8],
-) {
+) -> io::Result<()> {
     let h = read_head(text, at, cmvn);
     let n1 = script::number(text, h.next, 10);
     let p1 = read_doubles(text, n1.next, n1.value, weights);
@@ -318,6 +327,7 @@ fn read_f64(
     let p6 = read_doubles(text, n6.next, n6.value, lda);
     let room = script::number(text, p6, 10);
     write_f64(
+        writer,
         h,
         cmvn,
         weights,
@@ -335,10 +345,12 @@ fn read_f64(
         n6.value,
         out,
         room.value,
-    );
+    )?;
+    Ok(())
 }
 
 fn write_f64(
+    writer: &mut impl Write,
     h: Head,
     cmvn: &[u8],
     weights: &[f64],
@@ -356,7 +368,7 @@ fn write_f64(
     n6: usize,
     out: &mut [u8],
     room: usize,
-) {
+) -> io::Result<()> {
     let k0 = script::at_most(h.cmvn, cmvn.len());
     let k1 = script::at_most(n1, weights.len());
     let k2 = script::at_most(n2, means_invvars.len());
@@ -378,52 +390,61 @@ fn write_f64(
         &lda[..k6],
         &mut out[..k7],
     );
-    print_written(a, out);
+    print_written(writer, a, out)
 }
 
 // ---- the script
 
 // One line, whose first byte is at a place.
-fn line(text: &[u8], at: usize) {
+fn line(writer: &mut impl Write, text: &[u8], at: usize) -> io::Result<()> {
     let from = script::step(text, script::step(text, at));
     match script::byte_at(text, at) {
-        b'4' => play_f32(text, from),
-        b'8' => play_f64(text, from),
-        _ => say(b"no width\n"),
+        b'4' => play_f32(writer, text, from),
+        b'8' => play_f64(writer, text, from),
+        _ => say(writer, b"no width\n"),
     }
 }
 
 // The whole text.
-fn play(text: &[u8]) {
+fn play(writer: &mut impl Write, text: &[u8]) -> io::Result<()> {
     let mut at = 0;
     // as many turns as there are bytes are enough
-    let mut left = text.len();
-    while 0 < left {
+    for _ in 0..text.len() {
         if text.len() <= at {
-            return;
+            return Ok(());
         }
-        line(text, at);
+        line(writer, text, at)?;
         at = script::next_line(text, at);
-        left = left - 1;
     }
+    Ok(())
 }
 
 // The lines that the room has, and a word where there are more.
-fn play_input(text: &mut [u8]) {
-    let n = io::read_full(0, text);
+fn play_input(reader: &mut impl Read, writer: &mut impl Write, text: &mut [u8]) -> io::Result<()> {
+    let n = script::read_full(reader, text)?;
     let e = script::whole_lines(text, n);
-    play(&text[0..e]);
+    play(writer, &text[0..e])?;
     if n == text.len() {
-        say(b"the script is longer than this program's room: the rest is not read\n");
+        say(
+            writer,
+            b"the script is longer than this program's room: the rest is not read\n",
+        )?;
     }
+    Ok(())
 }
 
 // The room as a slice.
-fn in_room(text: &mut [u8; 131072]) {
-    play_input(text);
+fn in_room(
+    reader: &mut impl Read,
+    writer: &mut impl Write,
+    text: &mut [u8; 131072],
+) -> io::Result<()> {
+    play_input(reader, writer, text)
 }
 
-fn main() {
+fn main(rt: HostRuntime) -> io::Result<()> {
     let mut text = [0u8; 131072];
-    in_room(&mut text);
+    let mut writer = BufWriter::new(rt.alloc(), io::writer(&rt))?;
+    in_room(&mut rt.reader(), &mut writer, &mut text)?;
+    writer.flush()
 }

@@ -1,0 +1,19 @@
+-- `batch_sums::give` meets its contract: the weight is added at k, and the features times the weight from k * d on (`row_updated` in Rows.antt).
+use Rattle.std.proofs.Common.{◌*◌, refl, arith}
+use lib.Ieee.{Float}
+use Rattle.loops.proofs.Parts.{length_lent}
+use Rattle.floats.specs.Operators.{◌+₆₄◌, ◌*₆₄◌, at}
+use Rattle.batch_sums.proofs.Rows.{row_updated}
+use Rattle.batch_sums.proofs.give.Goals as goal
+
+pub add_features-requires : goal.add_features-requires
+add_features-requires c =
+    let args = c.args in
+    let pre = c.requires in
+    omega (arith, length_lent (args.k * args.d) args.d _ args.sum.now refl pre.2, pre)
+
+pub returns : goal.returns
+returns c =
+    let args = c.args in
+    let pre = c.requires in
+    (refl, row_updated args.d (args.k * args.d) args.sum.now (λ a (v : Float). v +₆₄ args.w *₆₄ at args.x.now a) pre.2 c.add_features.ensures)

@@ -1,0 +1,11 @@
+-- `split` gives digits and exponent of a pattern, `IsSplit`. The loop doubles the digits of a subnormal and takes one from the exponent; the
+-- invariant `Doubling` says that the product stays (Splitting.antt).
+use Rattle.floats.proofs.Splitting.{Doubling}
+use Rattle.floats.proofs.split.Given as goal
+
+-- q is doubled and e is one less, so q * 2 ^ e stays
+abbrev pub invariant-loop-q : goal.invariant-loop-q
+invariant-loop-q l = Doubling l.a l.q l.e
+
+abbrev pub decreases-loop-q : goal.decreases-loop-q
+decreases-loop-q l = l.e

@@ -1,0 +1,52 @@
+-- `ivector_stats::add_diagonal` meets its contract. The loop's invariant is the definition's own loop up to i; a diagonal place lies in the matrix
+-- (`diagonal_in` in Diagonal.antt).
+use mathlib.Core.Path.{ap}
+use Prim.Native.Nat.{ℕ}
+use native.Mathlib.Omega.{arith}
+use lib.ListN.{set}
+use Rattle.loops.proofs.Loop.{loops, iter_step}
+use Rattle.floats.specs.Operators.{◌+₆₄◌, at}
+use Rattle.definition.specs.Statistics.{add_diagonal}
+use Rattle.ivector_stats.proofs.Diagonal.{diagonal_in}
+use Rattle.ivector_stats.proofs.add_diagonal.Goals as goal
+
+pub offset_bounds-quadratic-place : goal.offset_bounds-quadratic-place
+offset_bounds-quadratic-place c =
+    let args = c.args in
+    omega (arith, diagonal_in c.loop-i.i args.s c.packed_index-place.result c.loop-i-test.true c.packed_index-place.ensures)
+
+pub bounds-quadratic-place : goal.bounds-quadratic-place
+bounds-quadratic-place c =
+    let args = c.args in
+    omega (arith, diagonal_in c.loop-i.i args.s c.packed_index-place.result c.loop-i-test.true c.packed_index-place.ensures)
+
+pub bounds-quadratic-place-in-loop-i : goal.bounds-quadratic-place-in-loop-i
+bounds-quadratic-place-in-loop-i c =
+    let args = c.args in
+    omega (arith, diagonal_in c.loop-i.i args.s c.packed_index-place.result c.loop-i-test.true c.packed_index-place.ensures)
+
+pub loop-i-preserved : goal.loop-i-preserved
+loop-i-preserved c =
+    let loop = c.loop-i in
+    let args = c.args in
+    let q = loop.quadratic in
+    (search loops, search loops, iter_step _ _ _ loop.invariant.2 (ap (λ (r : ℕ). set q r (at q r +₆₄ args.v)) c.packed_index-place.ensures))
+
+pub returns : goal.returns
+unfolding add_diagonal
+returns c = search loops
+
+pub loop-i-init : goal.loop-i-init
+loop-i-init c = search loops
+
+pub packed_index-place-requires : goal.packed_index-place-requires
+packed_index-place-requires c = search loops
+
+pub overflow_step-i : goal.overflow_step-i
+overflow_step-i c = search loops
+
+pub loop-i-smaller : goal.loop-i-smaller
+loop-i-smaller c = search loops
+
+pub shape_of-quadratic : goal.shape_of-quadratic
+shape_of-quadratic c = search loops

@@ -1,0 +1,11 @@
+-- `skip_w_vec` meets its contract: a refused token ends it, else it is what `skip_vec` says (`step` in Chain.antt of kaldi_io).
+use mathlib.Core.Path.{refl}
+use Rattle.kaldi_io.specs.Answers.{next_of}
+use Rattle.kaldi_io.proofs.Chain.{step}
+use Rattle.kaldi_files.proofs.skip_w_vec.Goals as goal
+
+pub returns-in-Refused : goal.returns-in-Refused
+returns-in-Refused c = step next_of _ _ c.expect_token.ensures c.in-Refused.is refl
+
+pub returns-in-At : goal.returns-in-At
+returns-in-At c = step next_of _ _ c.expect_token.ensures c.in-At.is c.skip_vec.ensures

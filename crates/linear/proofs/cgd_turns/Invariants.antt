@@ -1,0 +1,18 @@
+-- `linear::cgd_turns` meets its contract. The loop's invariant: the rooms are those after the turns taken, none of them the last (`next_turn`,
+-- `last_turn`, `turns_end` in Turns.antt).
+use mathlib.Core.Path.{◌≡◌}
+use mathlib.Core.List.{List}
+use Prim.Native.Nat.{◌+◌, ◌-◌, ◌≤◌, min}
+use lib.ListN.{length}
+use lib.Ieee.{Float}
+use Rattle.loops.specs.Loop.{on}
+use Rattle.packed_matrix.specs.Steps.{square_of}
+use Rattle.linear.specs.Steps.{cgd_of}
+use Rattle.linear.proofs.Turns.{turns_from}
+use Rattle.linear.proofs.cgd_turns.Given as goal
+
+abbrev pub invariant-loop-before : goal.invariant-loop-before
+invariant-loop-before l = (l.t.k ≤ min (l.n + 5) l.max_iters) × (length l.x ≡ l.n) × (length l.r ≡ l.n) × (length l.p ≡ l.n) × (length l.ap ≡ l.n) × ((a : List Float) → l.square ≡ square_of l.n a → on (cgd_of l.x l.r l.p l.t) ≡ turns_from a l.n l.b l.t.k (cgd_of l.initial.x l.initial.r l.initial.p l.initial.t))
+
+abbrev pub decreases-loop-before : goal.decreases-loop-before
+decreases-loop-before l = min (l.n + 5) l.max_iters - l.t.k

@@ -1,0 +1,14 @@
+-- `posteriors::skip` meets its contract. The loop's invariant: none of those from g to k is above the cutoff (`past-four` in Gathering.antt).
+use mathlib.Core.Path.{◌≡◌}
+use mathlib.Core.Bool.{false}
+use Prim.Native.Nat.{ℕ, ◌-◌, ◌≤◌, ◌<◌}
+use lib.ListN.{length}
+use lib.Ieee.{lt}
+use Rattle.floats.specs.Operators.{at}
+use Rattle.posteriors.proofs.skip.Given as goal
+
+abbrev pub invariant-loop-k : goal.invariant-loop-k
+invariant-loop-k l = (l.g ≤ l.k) × (l.k ≤ length l.loglikes) × ((i : ℕ) → i < l.k → l.g ≤ i → lt l.cutoff (at l.loglikes i) ≡ false)
+
+abbrev pub decreases-loop-k : goal.decreases-loop-k
+decreases-loop-k l = length l.loglikes - l.k

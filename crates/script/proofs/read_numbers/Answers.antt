@@ -1,0 +1,42 @@
+-- Invariant: after i numbers the place is `place_after` and the room `numbers_read` of i. One number more is a turn of both (Lists.antt).
+use borrow.Author.Rules.{rules}
+use mathlib.Core.Path.{refl}
+use Rattle.loops.proofs.Loop.{at_end}
+use Rattle.script.specs.Scan.{place_after, numbers_read}
+use Rattle.script.proofs.Lists.{place_none, place_turn, item_is, room-none, room-turn}
+use Rattle.script.proofs.read_numbers.Goals as goal
+
+pub loop-i-init : goal.loop-i-init
+unfolding numbers_read
+loop-i-init c = (search rules, refl, place_none 10 _ _, room-none _ _)
+
+pub number-x-requires : goal.number-x-requires
+number-x-requires c = tt
+
+pub set_number-requires : goal.set_number-requires
+set_number-requires c = tt
+
+pub overflow_step-i : goal.overflow_step-i
+overflow_step-i c = search rules
+
+pub loop-i-smaller : goal.loop-i-smaller
+loop-i-smaller c = search rules
+
+pub loop-i-preserved : goal.loop-i-preserved
+unfolding numbers_read
+loop-i-preserved c =
+    let inv = c.loop-i.invariant in
+    let read = c.number-x.ensures in
+    let item = item_is 10 _ _ _ inv.2 read in
+    (search rules, search rules, place_turn 10 _ _ _ inv.2 read, room-turn _ _ _ inv.3 c.set_number.ensures item)
+
+pub shape_of-items : goal.shape_of-items
+shape_of-items c = search rules
+
+pub returns : goal.returns
+returns c =
+    let inv = c.loop-i.invariant in
+    let args = c.args in
+    let place = place_after 10 args.text.now args.at in
+    let room = numbers_read args.text.now args.at in
+    (at_end place _ _ inv.0 c.loop-i-test.false inv.2, at_end (λ k. room k args.items.now) _ _ inv.0 c.loop-i-test.false inv.3)

@@ -1,0 +1,15 @@
+-- The same of weights: after i turns the first i places from `a` on hold the weight, by the laws of `put` (loops/proofs/Fill.antt).
+use borrow.Author.Rules.{rules}
+use mathlib.Core.Path.{refl}
+use native.Mathlib.Omega.{arith}
+use Rattle.loops.proofs.Fill.{puts, put_turn, put_end}
+use Rattle.silence_weighting.proofs.fill_weights.Goals as goal
+
+pub loop-i-preserved : goal.loop-i-preserved
+loop-i-preserved c = (search rules, search rules, put_turn _ _ _ _ (omega arith) c.loop-i.invariant.2 refl)
+
+pub returns : goal.returns
+returns c = put_end _ _ _ _ _ (omega arith) (omega arith) c.loop-i.invariant.2
+
+pub loop-i-init : goal.loop-i-init
+loop-i-init c = search puts

@@ -1,0 +1,84 @@
+-- `table_sums::add_next` meets its contract: a pass adds the rows that are left, at most four (`one-row` to `four_rows`, `pass_is` in Passes.antt); the rows
+-- lie in the table (`row_in_lem` in loops/proofs/Cells.antt), by how many are left after each test (`two-left` to `four-left`).
+use mathlib.Core.Path.{◌≡◌, refl}
+use Prim.Native.Nat.{ℕ, ◌+◌, ◌-◌, ◌<◌}
+use native.Mathlib.Omega.{arith}
+use lib.ListN.{length}
+use Rattle.loops.proofs.Cells.{row_in_lem}
+use Rattle.table_sums.proofs.Passes.{one-row, two_rows, three_rows, four_rows, pass_is}
+use Rattle.table_sums.proofs.add_next.Goals.{Else-left-eq1, Else-left-eq2, Else-left-eq3}
+use Rattle.table_sums.proofs.add_next.Goals as goal
+
+-- ---- how many rows are left after the tests
+
+more_left : (k d i j : ℕ) → j ≡ i + 1 → k + i < d → (d - k ≡ j → ⊥) → k + j < d
+more_left k d i j e h n = omega arith
+
+two-left : (c : Else-left-eq1) → let a = c.args in a.k + 1 < a.d
+two-left c = more_left c.args.k c.args.d 0 1 refl (omega (arith, c.requires.0)) c.if-left-eq1.false
+
+three-left : (c : Else-left-eq2) → let a = c.args in a.k + 2 < a.d
+three-left c =
+    let a = c.args in
+    more_left a.k a.d 1 2 refl (two-left (goal.at.Else-left-eq2 c).Else-left-eq1) c.if-left-eq2.false
+
+four-left : (c : Else-left-eq3) → let a = c.args in a.k + 3 < a.d
+four-left c =
+    let a = c.args in
+    more_left a.k a.d 2 3 refl (three-left (goal.at.Else-left-eq3 c).Else-left-eq2) c.if-left-eq3.false
+
+-- ---- one row
+
+pub row_at-r0-requires : goal.row_at-r0-requires
+row_at-r0-requires c = row_in_lem c.args.k c.args.d (length c.args.sum.now) _ c.requires.1 (omega arith)
+
+pub returns-then-left-eq1 : goal.returns-then-left-eq1
+returns-then-left-eq1 c =
+    let a = c.args in
+    let n = length a.sum.now in
+    let added = one-row n a.table.now a.x.now a.squared a.sum.now a.k c.row_at-r0.ensures.0 c.factor-v0.ensures in
+    (omega arith, omega arith, pass_is n a.table.now a.x.now a.squared a.sum.now a.k _ added c.add_one.ensures)
+
+-- ---- two
+
+pub row_at-r1-requires : goal.row_at-r1-requires
+row_at-r1-requires c = row_in_lem (c.args.k + 1) c.args.d (length c.args.sum.now) _ c.requires.1 (two-left (goal.at.row_at-r1-requires c).Else-left-eq1)
+
+pub returns-then-left-eq2 : goal.returns-then-left-eq2
+returns-then-left-eq2 c =
+    let a = c.args in
+    let n = length a.sum.now in
+    let added = two_rows n a.table.now a.x.now a.squared a.sum.now a.k c.row_at-r0.ensures.0 c.factor-v0.ensures c.row_at-r1.ensures.0 c.factor-v1.ensures in
+    (omega arith, omega (arith, two-left (goal.at.returns-then-left-eq2 c).Else-left-eq1), pass_is n a.table.now a.x.now a.squared a.sum.now a.k _ added c.add_two.ensures)
+
+-- ---- three
+
+pub row_at-r2-requires : goal.row_at-r2-requires
+row_at-r2-requires c = row_in_lem (c.args.k + 2) c.args.d (length c.args.sum.now) _ c.requires.1 (three-left (goal.at.row_at-r2-requires c).Else-left-eq2)
+
+pub returns-then-left-eq3 : goal.returns-then-left-eq3
+returns-then-left-eq3 c =
+    let a = c.args in
+    let n = length a.sum.now in
+    let added = three_rows n a.table.now a.x.now a.squared a.sum.now a.k c.row_at-r0.ensures.0 c.factor-v0.ensures c.row_at-r1.ensures.0 c.factor-v1.ensures c.row_at-r2.ensures.0 c.factor-v2.ensures in
+    (omega arith, omega (arith, three-left (goal.at.returns-then-left-eq3 c).Else-left-eq2), pass_is n a.table.now a.x.now a.squared a.sum.now a.k _ added c.add_three.ensures)
+
+-- ---- four
+
+pub row_at-r3-requires : goal.row_at-r3-requires
+row_at-r3-requires c = row_in_lem (c.args.k + 3) c.args.d (length c.args.sum.now) _ c.requires.1 (four-left (goal.at.row_at-r3-requires c).Else-left-eq3)
+
+pub overflow_add-result-2 : goal.overflow_add-result-2
+overflow_add-result-2 c = omega (arith, c.requires.2, four-left (goal.at.overflow_add-result-2 c).Else-left-eq3, c.ranges)
+
+pub returns : goal.returns
+returns c =
+    let a = c.args in
+    let n = length a.sum.now in
+    let added = four_rows n a.table.now a.x.now a.squared a.sum.now a.k c.row_at-r0.ensures.0 c.factor-v0.ensures
+    c.row_at-r1.ensures.0 c.factor-v1.ensures c.row_at-r2.ensures.0 c.factor-v2.ensures
+    c.row_at-r3.ensures.0 c.factor-v3.ensures in (
+      omega arith,
+      omega (arith, four-left (goal.at.returns c).Else-left-eq3),
+      pass_is n a.table.now a.x.now a.squared a.sum.now a.k _ added c.add_four.ensures,
+    )
