@@ -1,7 +1,7 @@
 //! Reads the original Rust from the folder UTTER_SRC at build time, patches it and writes two variants into OUT_DIR: `orig.rs` (as
 //! published, with the scope's exponential and logarithm, sums from -0.0, and a start on the solution kept) and `orig_nan.rs` (the same with NaN ordered last
 //! instead of a panic). No original text is kept here; each patch asserts how often it applies. Where UTTER_SRC is not set, without.rs stands
-//! in the place of both. The library comes with hosts/rust; where SHOFRAKIN_CRATE names another crate, the archive that `rt staticlib` wrote of it to
+//! in the place of both. The library comes with hosts/rust; where SHOFRAKIN_CRATE names another crate, the archive that `rt lib` wrote of it to
 //! the folder SHOFRAKIN_LIB is linked.
 use std::{env, fs, path::Path};
 

@@ -1,4 +1,4 @@
-/* Shofrakin for C: the calls of the static library that `rt staticlib exports` writes (target/staticlib/libexports.a, x86-64 Linux).
+/* Shofrakin for C: the calls of the static library that `tools/library` builds (crates/exports/out/libexports.a, x86-64 Linux).
  * What each call answers is proved in Rattle (crates/exports); no proof speaks of this file, which compare/c/check runs against the library.
  * shofrakin_live.h, beside it, keeps a model's or a stream's record and rooms together; hosts/rust is the same for Rust.
  *
@@ -236,7 +236,7 @@ typedef struct {
  * Refusals 10, 8.
  * F frames are as many as may be held at once. How long the rooms have to be, proved over every list of calls, refused ones among them
  * (crates/program/specs/Habit.antt, docs/PROOFS.md):
- * - rows-enough: with R = F + window no push is refused 15. The window is the options', or the longest that is set.
+ * - rows_enough: with R = F + window no push is refused 15. The window is the options', or the longest that is set.
  * - frames-enough: with F = L + left + right context no push is refused 14, where at most L frames are pushed from one start of an utterance to the next.
  *   A start is a forget of a frame above the last ready one (the count of frames pushed will do), where that one was fetched and no change since has
  *   named it or a frame below it.

@@ -153,7 +153,7 @@ static inline size_t shofrakin_model_open(shofrakin_model *m, shofrakin_options 
 
 /* ---- the stream */
 
-/* How much a stream has room for: frames that may be held at once, prefix rows (0: as many as the frames and the model's window, as `rows-enough` asks
+/* How much a stream has room for: frames that may be held at once, prefix rows (0: as many as the frames and the model's window, as `rows_enough` asks
  * for; a host that sets a longer window gives the frames and that window), and changes that wait. How long they have to be is told at shofrakin_new_stream. */
 typedef struct {
     size_t frames;
@@ -162,7 +162,7 @@ typedef struct {
 } shofrakin_room;
 
 /* For utterances of at most `longest` frames, each begun by a fetch of the last ready frame and a forget: `longest` frames and both contexts
- * (`frames-enough`), as many rows as these and the window (`rows-enough`), and 1,024 changes. */
+ * (`frames-enough`), as many rows as these and the window (`rows_enough`), and 1,024 changes. */
 static inline shofrakin_room shofrakin_room_for_utterances(const shofrakin_model *m, size_t longest) {
     shofrakin_room room = {longest + m->info.opts.left_context + m->info.opts.right_context, 0, 1024};
     if (room.frames < longest) room.frames = SIZE_MAX;

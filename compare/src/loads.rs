@@ -187,7 +187,7 @@ fn input(r: &mut Rng) -> Vec<u8> {
 }
 
 fn program() -> String {
-    std::env::var("SHOFRAKIN_TRY").unwrap_or_else(|_| format!("{}/../target/bin/try_program", env!("CARGO_MANIFEST_DIR")))
+    std::env::var("SHOFRAKIN_TRY").unwrap_or_else(|_| format!("{}/../crates/try_program/out/try_program", env!("CARGO_MANIFEST_DIR")))
 }
 
 /// What the program writes to its standard output.
@@ -197,7 +197,7 @@ fn played(arguments: &[&str], bytes: &[u8]) -> String {
         .stdin(Stdio::piped())
         .stdout(Stdio::piped())
         .spawn()
-        .expect("the program try_program: rt check try_program builds it");
+        .expect("the program try_program: `rt run` in crates/try_program builds it");
     let mut to = p.stdin.take().unwrap();
     let all = bytes.to_vec();
     let h = std::thread::spawn(move || to.write_all(&all));

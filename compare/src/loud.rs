@@ -25,7 +25,7 @@ pub fn view(m: &Model, window: u64, frames: &[Vec<f32>]) -> Vec<f32> {
         .collect()
 }
 
-/// The CMVN state that a fetch of frame t leaves, by the library's rings: `cmvnState` of the contract of `cmvn_frame`.
+/// The CMVN state that a fetch of frame t leaves, by the library's rings: `cmvn_state` of the contract of `cmvn_frame`.
 fn state_after(s: &rattle::Stream, m: &Model, t: usize, old: &[f64]) -> Vec<f64> {
     let (o, b, window) = (&m.opts, m.dims.base, s.rec.window);
     let mut v = old.to_vec();
@@ -43,7 +43,7 @@ fn state_after(s: &rattle::Stream, m: &Model, t: usize, old: &[f64]) -> Vec<f64>
     v
 }
 
-/// The view of frame t by the state that its fetch leaves: `cmvnFrame` of that contract.
+/// The view of frame t by the state that its fetch leaves: `cmvn_frame` of that contract.
 fn view_by(s: &rattle::Stream, t: usize, state: &[f64]) -> Vec<u32> {
     let x = s.frame(t);
     (0..x.len()).map(|d| canon32(x[d] - (state[d] / state[x.len()]) as f32)).collect()

@@ -36,8 +36,7 @@ const FIELDS: [&str; 22] = [
 // ---- antt
 
 fn record<T: Display>(names: &[&str], values: impl IntoIterator<Item = T>) -> String {
-    let field = |(n, v): (&&str, T)| if n.contains('_') { format!("«{n}» = {v}") } else { format!("{n} = {v}") };
-    format!("(record {{ {} }})", names.iter().zip(values).map(field).collect::<Vec<_>>().join("; "))
+    format!("(record {{ {} }})", names.iter().zip(values).map(|(n, v)| format!("{n} = {v}")).collect::<Vec<_>>().join("; "))
 }
 /// A stream's nine lengths.
 fn rooms(lengths: &[i128]) -> String {
@@ -261,10 +260,9 @@ impl<'a> Session<'a> {
             let (tables, _, load_scratch) = r.needs();
             (r.lengths, scratch) = (lengths(&tables, &v[1..]), load_scratch);
             if q[0] == "0" {
-                let (names, mut words) = (TABLES.map(|n| n.replace('_', "-")), &k[7..]);
+                let mut words = &k[7..];
                 let tables = tables.map(|n| floats(cut(&mut words, n)));
-                let names: Vec<&str> = names.iter().map(|n| &n[..]).collect();
-                let name = m.abbrev("model", "Model", &record(&["info", "tables"], [r.info(), record(&names, tables)]));
+                let name = m.abbrev("model", "Model", &record(&["info", "tables"], [r.info(), format!("tables_from {}", tables.join(" "))]));
                 right = format!("read {name} 0");
                 self.model = Some((name, r.clone()));
             }
@@ -283,7 +281,7 @@ impl<'a> Session<'a> {
         r.lengths.extend(v[1..5].iter().map(|x| number(x)));
         r.lengths.extend(lengths(&r.needs().1, &v[5..]));
         let (f, lent) = r.forged(forging);
-        m.equation(&format!("newRefusal {} {} {}", f.info(), record(&TABLES, lent), r.rooms()), q[0], &format!("fresh streams {}", outcome(q[0])));
+        m.equation(&format!("new_refusal {} {} {}", f.info(), record(&TABLES, lent), r.rooms()), q[0], &format!("fresh streams {}", outcome(q[0])));
         if q[0] == "0" {
             let calls = Calls { name: m.new_name("calls"), on: format!("answers {name} {}", r.rings()), calls: vec![] };
             r.made = true;
@@ -297,8 +295,9 @@ impl<'a> Session<'a> {
             m.equation(&f.declined(&lent), if q[0] == "10" { "true" } else { "false" }, &format!("forged stream calls {}", outcome(q[0])));
             if v[0] == "p" && q[0] != "10" {
                 let (info, numbers) = (m.abbrev("info", "IvectorInfo", &f.info()), floats(&v[2..]));
-                let tests = format!("pushTests ({info} .dims) {} {} {} {} {numbers}", f.rings(), f.field("longest"), f.field("accepted"), f.field("mark"));
-                m.equation(&format!("firstOf ({tests})"), q[0], "forged pushes past 10");
+                let tests =
+                    format!("push_tests {info}.dims {} {} {} {} {numbers}", f.rings(), f.field("longest"), f.field("accepted"), f.field("mark"));
+                m.equation(&format!("first_of ({tests})"), q[0], "forged pushes past 10");
             }
             return;
         }
@@ -325,7 +324,7 @@ impl<'a> Session<'a> {
                     r.set("in force", number(v[1]));
                     r.set("longest", r.field("longest").max(number(v[1])));
                 }
-                format!("setWindow {}", v[1])
+                format!("set_window {}", v[1])
             }
             _ => {
                 let f = number(v[1]);
@@ -355,8 +354,8 @@ impl<'a> Session<'a> {
         let settings = format!("{} ({}) {}", v[4], fields[0], v[3]);
         let table = record(&SILENCE, &fields);
         let right = if q[0] == "0" { format!("N.Table {table}") } else { format!("N.Refused {}", q[0]) };
-        m.equation(&format!("settingsRefusal {settings}"), q[0], "silence settings");
-        m.equation(&format!("newTable {settings} {}", v[1]), &right, &format!("silence tables {}", outcome(q[0])));
+        m.equation(&format!("settings_refusal {settings}"), q[0], "silence settings");
+        m.equation(&format!("new_table {settings} {}", v[1]), &right, &format!("silence tables {}", outcome(q[0])));
         if q[0] == "0" {
             let calls = Calls { name: m.new_name("queries"), on: format!("heard {table} {} []", phones(&v[5..])), calls: vec![] };
             self.silence = Some((fields.to_vec(), calls));
@@ -375,7 +374,7 @@ impl<'a> Session<'a> {
                     _ => f[4] = format!("(decoder {})", y[2]),
                 }
             }
-            let left = format!("tableBroken {} {lent} {lent} {lent}", record(&SILENCE, &f));
+            let left = format!("table_broken {} {lent} {lent} {lent}", record(&SILENCE, &f));
             return m.equation(&left, if q[0] == "10" { "true" } else { "false" }, &format!("forged silence calls {}", outcome(q[0])));
         }
         let mut rest = &v[2..];
@@ -449,7 +448,7 @@ fn main() {
         match v[0] {
             "z" => sessions.push(vec![]),
             c => {
-                let q = "mkspfwdvtba".find(c).map_or("", |_| answer.next().expect("an answer"));
+                let q = "mkspfwdnvtba".find(c).map_or("", |_| answer.next().expect("an answer"));
                 sessions.last_mut().unwrap().push((v, q.split(' ').collect()));
             }
         }

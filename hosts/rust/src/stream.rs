@@ -13,7 +13,7 @@ pub const MAX_CHANGES: usize = 384;
 /// - `frames-enough`: with at least L frames and both contexts no push is refused for want of a frame (14), where at most L frames are pushed
 ///   from one start of an utterance to the next. A start is a [`forget_before`](IvectorStream::forget_before) of a frame above the last ready one, where that
 ///   one was fetched and no change since has named it or a frame below it.
-/// - `rows-enough`: with as many rows as frames and the window together no push is refused for want of a row (15). The window is the model's, or
+/// - `rows_enough`: with as many rows as frames and the window together no push is refused for want of a row (15). The window is the model's, or
 ///   the longest that is set.
 /// - `all-taken`: so a caller that pushes an utterance of at most L frames, fetches the last ready frame, forgets before the count of frames pushed, and
 ///   does so again, has every frame taken, up to 1,000,000,000 of them.
@@ -27,7 +27,7 @@ pub struct Room {
     /// [`for_utterances`](Room::for_utterances) has as many as `frames-enough` asks for.
     pub frames: usize,
     /// How many prefix rows may be held, for the CMVN window: 2 to 2,000,000,000. `None` is as many as `frames` and the model's window together, which
-    /// `rows-enough` asks for; a caller that sets a longer window ([`IvectorStream::set_cmn_window`]) gives `frames` and that window.
+    /// `rows_enough` asks for; a caller that sets a longer window ([`IvectorStream::set_cmn_window`]) gives `frames` and that window.
     pub rows: Option<usize>,
     /// How many weight changes may wait for their frames to be fetched. 0 for a stream whose weights are never changed.
     pub waiting: usize,
@@ -41,7 +41,7 @@ impl Default for Room {
 
 impl Room {
     /// For utterances of at most `longest` frames, each begun by a fetch of the last ready frame and a forget: `longest` frames and both contexts
-    /// (`frames-enough`), and as many rows as these and the window (`rows-enough`).
+    /// (`frames-enough`), and as many rows as these and the window (`rows_enough`).
     pub fn for_utterances(info: &IvectorInfo, longest: usize) -> Room {
         let o = info.options();
         Room { frames: longest.saturating_add(o.left_context + o.right_context), ..Room::default() }
