@@ -101,12 +101,12 @@ module _ (s : ℕ) (prior max_count tot : Float) (st : Stats) where
   unfolding rescaled
   length_rescaled_quadratic = if_diagonal more s (change_of max_count st.num_frames tot) st.quadratic
 
-module _ (d s : ℕ) (sigma_inv_m_is u : List Float) (prior max_count : Float) (es : List Entry) (st : Stats) where
-  pub length_acc_linear : length (acc d s sigma_inv_m_is u prior max_count es st).linear ≡ s
+module _ (d s : ℕ) (sigma_inv_m u : List Float) (prior max_count : Float) (es : List Entry) (st : Stats) where
+  pub length_acc_linear : length (acc d s sigma_inv_m u prior max_count es st).linear ≡ s
   unfolding acc acc_linear
   length_acc_linear = length_rescaled_linear s prior max_count _ _ ∙ length_build s _
 
-  pub length_acc_quadratic : length (acc d s sigma_inv_m_is u prior max_count es st).quadratic ≡ triangle s
+  pub length_acc_quadratic : length (acc d s sigma_inv_m u prior max_count es st).quadratic ≡ triangle s
   unfolding acc acc_quadratic
   length_acc_quadratic = length_rescaled_quadratic s prior max_count _ _ ∙ length_build (triangle s) _
 

@@ -14,7 +14,7 @@ pub record Estimate : Type 0 where
   pub current : List Float  -- the current vector
 
 module _ (M : Model) where
-  open M.tables use {gconsts, means_invvars_t, inv_vars_t, sigma_inv_m_is, u, lda_t, lda_offset, global_mean_stats}
+  open M.tables use {gconsts, means_invvars_t, inv_vars_t, sigma_inv_m, u, lda_t, lda_offset, global_mean_stats}
   open M.info use {opts as o, prior_offset as prior}
   open M.info.dims use {num_gauss as g, feat_dim as d, ivector_dim as s, base_dim as dim}
 
@@ -41,7 +41,7 @@ module _ (M : Model) where
   -- an empty batch adds nothing at all
   unfoldable pub accumulated : Batch → List Entry → Stats → Stats
   accumulated [] es st = st
-  accumulated (b ∷ bs) es st = acc d s sigma_inv_m_is u prior o.max_count es st
+  accumulated (b ∷ bs) es st = acc d s sigma_inv_m u prior o.max_count es st
 
   unfoldable pub updated : Frames → Batch → Estimate → Estimate
   updated F bs e =

@@ -78,7 +78,7 @@ pub record Tables : Type 0 where
   pub gconsts : List Float  -- by Gaussian
   pub means_invvars_t : List Float  -- by dimension, then Gaussian
   pub inv_vars_t : List Float  -- by dimension, then Gaussian
-  pub sigma_inv_m_is : List Float  -- by Gaussian, then feature dimension, then i-vector dimension
+  pub sigma_inv_m : List Float  -- by Gaussian, then feature dimension, then i-vector dimension
   pub u : List Float  -- by Gaussian, then packed
   pub lda_t : List Float  -- by spliced dimension, then row
   pub lda_offset : List Float  -- by row
@@ -86,12 +86,12 @@ pub record Tables : Type 0 where
 
 -- in that order
 abbrev pub tables_from : List Float → List Float → List Float → List Float → List Float → List Float → List Float → List Float → Tables
-tables_from gconsts means_invvars_t inv_vars_t sigma_inv_m_is u lda_t lda_offset global_mean_stats =
+tables_from gconsts means_invvars_t inv_vars_t sigma_inv_m u lda_t lda_offset global_mean_stats =
     record {
       gconsts = gconsts;
       means_invvars_t = means_invvars_t;
       inv_vars_t = inv_vars_t;
-      sigma_inv_m_is = sigma_inv_m_is;
+      sigma_inv_m = sigma_inv_m;
       u = u;
       lda_t = lda_t;
       lda_offset = lda_offset;
@@ -160,12 +160,12 @@ model_in_force M w = model (in_force M.info w) M.tables
 
 -- lengths of the tables, in their order
 abbrev pub lengths_from : ℕ → ℕ → ℕ → ℕ → ℕ → ℕ → ℕ → ℕ → TableLengths
-lengths_from gconsts means_invvars_t inv_vars_t sigma_inv_m_is u lda_t lda_offset global_mean_stats =
+lengths_from gconsts means_invvars_t inv_vars_t sigma_inv_m u lda_t lda_offset global_mean_stats =
     record {
       gconsts = gconsts;
       means_invvars_t = means_invvars_t;
       inv_vars_t = inv_vars_t;
-      sigma_inv_m = sigma_inv_m_is;
+      sigma_inv_m = sigma_inv_m;
       u = u;
       lda_t = lda_t;
       lda_offset = lda_offset;
@@ -184,7 +184,7 @@ table_sizes o d =
 -- how many numbers lent tables have
 abbrev pub table_lengths_of : Tables → TableLengths
 table_lengths_of t =
-    lengths_from (length t.gconsts) (length t.means_invvars_t) (length t.inv_vars_t) (length t.sigma_inv_m_is) (length t.u) (length t.lda_t)
+    lengths_from (length t.gconsts) (length t.means_invvars_t) (length t.inv_vars_t) (length t.sigma_inv_m) (length t.u) (length t.lda_t)
     (length t.lda_offset) (length t.global_mean_stats)
 
 abbrev pub table_lengths : TableLengths → List ℕ
@@ -198,13 +198,13 @@ tables_fit o d z = pairwise leb (table_lengths (table_sizes o d)) (table_lengths
 abbrev pub kept_tables : TableLengths → Tables → Tables
 kept_tables z t =
     tables_from (take z.gconsts t.gconsts) (take z.means_invvars_t t.means_invvars_t) (take z.inv_vars_t t.inv_vars_t)
-    (take z.sigma_inv_m t.sigma_inv_m_is) (take z.u t.u) (take z.lda_t t.lda_t) (take z.lda_offset t.lda_offset)
+    (take z.sigma_inv_m t.sigma_inv_m) (take z.u t.u) (take z.lda_t t.lda_t) (take z.lda_offset t.lda_offset)
     (take z.global_mean_stats t.global_mean_stats)
 
 abbrev pub filled_tables : Tables → Tables → Tables
 filled_tables x t =
     tables_from (over x.gconsts t.gconsts) (over x.means_invvars_t t.means_invvars_t) (over x.inv_vars_t t.inv_vars_t)
-    (over x.sigma_inv_m_is t.sigma_inv_m_is) (over x.u t.u) (over x.lda_t t.lda_t) (over x.lda_offset t.lda_offset)
+    (over x.sigma_inv_m t.sigma_inv_m) (over x.u t.u) (over x.lda_t t.lda_t) (over x.lda_offset t.lda_offset)
     (over x.global_mean_stats t.global_mean_stats)
 
 -- the model that a record and lent tables hold

@@ -56,7 +56,7 @@ max_like ls = foldl larger (inf true) ls
 
 -- of log-likelihoods the k most likely, as likelihoods
 unfoldable pub ranked : ℕ → Float → List Post → List Post
-ranked k max-like ps = take k (sorted (map (λ p. (p.0, exp_of (p.1 -₃₂ max-like))) ps))
+ranked k largest ps = take k (sorted (map (λ p. (p.0, exp_of (p.1 -₃₂ largest))) ps))
 
 -- the k most likely of the log-likelihoods ls: of those above the largest plus ln min_post; of all, where none is or min_post is 0
 unfoldable pub best_of : List Float → ℕ → Float → List Post

@@ -50,14 +50,14 @@ sum_for es g v = total₆₄ zero₆₄ (map v (those (λ e. eqb e.gauss g) es))
 
 -- `acc`, before the prior's scaling: per Gaussian over the batch, Gaussians in the order first seen
 unfoldable pub acc_linear : ℕ → ℕ → List Float → List Entry → List Float → List Float
-acc_linear d s sigma_inv_m_is es linear = build s (λ c. total₆₄ (at linear c) (map (λ g.
-    sum₆₄ zero₆₄ d (λ a. at sigma_inv_m_is ((g * d + a) * s + c) *₆₄ sum_for es g (λ e. e.value *₆₄ at e.feats a))) (seen es)))
+acc_linear d s sigma_inv_m es linear = build s (λ c. total₆₄ (at linear c) (map (λ g.
+    sum₆₄ zero₆₄ d (λ a. at sigma_inv_m ((g * d + a) * s + c) *₆₄ sum_for es g (λ e. e.value *₆₄ at e.feats a))) (seen es)))
 
 unfoldable pub acc_quadratic : ℕ → List Float → List Entry → List Float → List Float
 acc_quadratic s u es quadratic = build (triangle s) (λ i. total₆₄ (at quadratic i) (map (λ g.
     sum_for es g (λ e. e.value) *₆₄ at u (g * triangle s + i)) (seen es)))
 
 unfoldable pub acc : ℕ → ℕ → List Float → List Float → Float → Float → List Entry → Stats → Stats
-acc d s sigma_inv_m_is u prior max_count es st =
+acc d s sigma_inv_m u prior max_count es st =
     rescaled s prior max_count (total₆₄ zero₆₄ (map (λ g. sum_for es g (λ e. e.value)) (seen es)))
-    (stats_from st.num_frames (acc_linear d s sigma_inv_m_is es st.linear) (acc_quadratic s u es st.quadratic))
+    (stats_from st.num_frames (acc_linear d s sigma_inv_m es st.linear) (acc_quadratic s u es st.quadratic))

@@ -8,7 +8,7 @@ use Rattle.definition.specs.Views.{Frames, raw_row, normalised_row}
 pub record Lent (dim accepted : ℕ) (global frames rows cmvn : List Float) : Type 0 where
   pub some : 0 < dim
   pub frame_room_is : 0 < rows_in (length frames) dim
-  pub row_room_lem : 0 < rows_in (length rows) dim
+  pub row_room_is : 0 < rows_in (length rows) dim
   pub global_long : dim + 1 ≤ length global
   pub state_long : length cmvn ≡ dim + 1
   pub few : accepted ≤ 1000000000

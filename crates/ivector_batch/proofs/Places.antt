@@ -164,4 +164,4 @@ plain_log o e h = weighed_log e h
 -- the CMVN state comes back as long as it was
 pub lent_on : {dim accepted : ℕ} {global frames rows cmvn cmvn' : List Float} → Lent dim accepted global frames rows cmvn → length cmvn' ≡ length cmvn → Lent dim accepted global frames rows cmvn'
 lent_on r e =
-    record { some = r.some; frame_room_is = r.frame_room_is; row_room_lem = r.row_room_lem; global_long = r.global_long; state_long = e ∙ r.state_long; few = r.few }
+    record { some = r.some; frame_room_is = r.frame_room_is; row_room_is = r.row_room_is; global_long = r.global_long; state_long = e ∙ r.state_long; few = r.few }

@@ -60,7 +60,7 @@ row-counted s n at o = let e : n ≡ n - 1 + 1 = omega (arith, o.low) in subst (
 module _ {f : Files} {d : Dimensions} {dim rows : ℕ} {at : Places} (x : CheckedIn f d dim rows at) where
   pub dims_are : (prior : Float) → dims_of (contents_at f d dim rows prior at) ≡ d
   dims_are prior =
-      let e : length (cells (line f.cmvn at.row)) - 1 ≡ d.base_dim = omega (arith, x.row_in_lem.many) in
+      let e : length (cells (line f.cmvn at.row)) - 1 ≡ d.base_dim = omega (arith, x.row_in_is.many) in
       ap
       (λ (b : ℕ).
       record {
@@ -76,8 +76,8 @@ module _ {f : Files} {d : Dimensions} {dim rows : ℕ} {at : Places} (x : Checke
   pub dims_in : dims_in_range d ≡ true
   unfolding dims_in_range
   dims_in =
-      let g = x.gmm_in_lem in
-      let e = x.extractor_in_lem in
+      let g = x.gmm_in_is in
+      let e = x.extractor_in_is in
       of_each (λ t. t) _ (
         in_range 1 1024 _ g.gauss_low g.gauss_high,
         (
@@ -86,7 +86,7 @@ module _ {f : Files} {d : Dimensions} {dim rows : ℕ} {at : Places} (x : Checke
             in_range 1 64 _ e.feat_low e.feat_high,
             (
               in_range 1 128 _ e.ivec_low e.ivec_high,
-              (in_range 1 64 d.base_dim (omega (arith, x.row_in_lem.low)) (omega (arith, x.row_in_lem.high)), (in_range 1 1089 _ x.lda_in.cols_low x.lda_in.cols_high, tt)),
+              (in_range 1 64 d.base_dim (omega (arith, x.row_in_is.low)) (omega (arith, x.row_in_is.high)), (in_range 1 1089 _ x.lda_in.cols_low x.lda_in.cols_high, tt)),
             ),
           ),
         ),

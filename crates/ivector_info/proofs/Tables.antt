@@ -40,7 +40,7 @@ module _ {g : Got Model} {n : ℕ} (e : g ≡ refused n) where
 -- tables by their parts
 filled : (x t : Tables) {a b c d e f g h : List Float}
     → a ≡ over x.gconsts t.gconsts → b ≡ over x.means_invvars_t t.means_invvars_t → c ≡ over x.inv_vars_t t.inv_vars_t
-    → d ≡ over x.sigma_inv_m_is t.sigma_inv_m_is → e ≡ over x.u t.u
+    → d ≡ over x.sigma_inv_m t.sigma_inv_m → e ≡ over x.u t.u
     → f ≡ over x.lda_t t.lda_t → g ≡ over x.lda_offset t.lda_offset → h ≡ over x.global_mean_stats t.global_mean_stats
     → tables_from a b c d e f g h ≡ filled_tables x t
 filled x t p q r s u v w y = rw (p, q, r, s, u, v, w, y)
@@ -71,7 +71,7 @@ module _ (o : IvectorOptions) (z : TableLengths) {f : Files} {d : Dimensions} (p
       → (gconsts ≡ over (build d.num_gauss (gconst theirs)) t.gconsts)
       × (means ≡ over (transposed d.feat_dim theirs.means_invvars) t.means_invvars_t)
       × (vars ≡ over (transposed d.feat_dim theirs.inv_vars) t.inv_vars_t)
-      → (sims ≡ over (sigma_inv_ms f.extractor d.ext_gauss d.feat_dim d.ivector_dim at.m at.sigma_inv) t.sigma_inv_m_is)
+      → (sims ≡ over (sigma_inv_ms f.extractor d.ext_gauss d.feat_dim d.ivector_dim at.m at.sigma_inv) t.sigma_inv_m)
       × (us ≡ over (quadratic_terms f.extractor d.ext_gauss d.feat_dim d.ivector_dim at.m at.sigma_inv) t.u)
       → (turned ≡ over (transposed (spliced o d) turning) t.lda_t)
       × (offset ≡ over (build d.feat_dim (lda_offset_of (spliced o d) turning)) t.lda_offset)
@@ -93,7 +93,7 @@ module _ {o : IvectorOptions} {z : TableLengths} {n : ℕ} {f : Files} {d : Dime
   gmm_fits =
       let t = tables-fitting o d z x.tables_fit_is in
       record {
-        gmm_in_lem = x.files_in_is.gmm_in_lem;
+        gmm_in_is = x.files_in_is.gmm_in_is;
         gconsts_fit = t.gconsts_fit;
         means_fit = rw (mul_comm d.feat_dim d.num_gauss) t.means_fit;
         vars_fit = rw (mul_comm d.feat_dim d.num_gauss) t.vars_fit;
@@ -107,7 +107,7 @@ module _ {o : IvectorOptions} {z : TableLengths} {n : ℕ} {f : Files} {d : Dime
       let t = tables-fitting o d z x.tables_fit_is in
       record {
         lda_in = x.files_in_is.lda_in;
-        row_in_lem = x.files_in_is.row_in_lem;
+        row_in_is = x.files_in_is.row_in_is;
         options_in = x.options_in;
         spliced_in = x.spliced_in;
         turned_fits = t.lda_fits;

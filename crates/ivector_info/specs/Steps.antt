@@ -46,10 +46,10 @@ checked_of f (C.Refused n) = refused n
 
 -- what a fill has to know: the numbers can be read, and there are few
 pub record CheckedIn (f : Files) (d : Dimensions) (dim rows : ℕ) (at : Places) : Type 0 where
-  pub gmm_in_lem : GmmIn f.gmm d.num_gauss dim at.weights at.weights_double at.means_invvars at.means_double at.inv_vars at.vars_double
-  pub extractor_in_lem : ExtractorIn f.extractor d.ext_gauss d.feat_dim d.ivector_dim at.m at.sigma_inv
+  pub gmm_in_is : GmmIn f.gmm d.num_gauss dim at.weights at.weights_double at.means_invvars at.means_double at.inv_vars at.vars_double
+  pub extractor_in_is : ExtractorIn f.extractor d.ext_gauss d.feat_dim d.ivector_dim at.m at.sigma_inv
   pub lda_in : MatrixIn binary32 (width at.lda_double) max_feat max_columns f.lda rows d.lda_cols at.lda
-  pub row_in_lem : RowIn f.cmvn (d.base_dim + 1) at.row
+  pub row_in_is : RowIn f.cmvn (d.base_dim + 1) at.row
 
 abbrev pub checked_in : Files → Checked → Type 0
 checked_in f (C.Is d dim rows prior at) = CheckedIn f d dim rows at
@@ -75,14 +75,14 @@ judged_in o z scratch f (J.Refused n) = Unit {0}
 -- ---- what the fills are lent
 
 pub record GmmFits (s : List ℕ) (d : Dimensions) (at : Places) (gconsts means vars : ℕ) : Type 0 where
-  pub gmm_in_lem : GmmIn s d.num_gauss d.feat_dim at.weights at.weights_double at.means_invvars at.means_double at.inv_vars at.vars_double
+  pub gmm_in_is : GmmIn s d.num_gauss d.feat_dim at.weights at.weights_double at.means_invvars at.means_double at.inv_vars at.vars_double
   pub gconsts_fit : d.num_gauss ≤ gconsts
   pub means_fit : d.feat_dim * d.num_gauss ≤ means
   pub vars_fit : d.feat_dim * d.num_gauss ≤ vars
 
 pub record LdaFits (o : IvectorOptions) (lda cmvn : List ℕ) (d : Dimensions) (at : Places) (turned offset row : ℕ) : Type 0 where
   pub lda_in : MatrixIn binary32 (width at.lda_double) max_feat max_columns lda d.feat_dim d.lda_cols at.lda
-  pub row_in_lem : RowIn cmvn (d.base_dim + 1) at.row
+  pub row_in_is : RowIn cmvn (d.base_dim + 1) at.row
   pub options_in : options_in_range o ≡ true
   pub spliced_in : spliced o d ≤ d.lda_cols
   pub turned_fits : spliced o d * d.feat_dim ≤ turned

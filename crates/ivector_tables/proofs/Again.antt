@@ -12,7 +12,7 @@ use Rattle.kaldi_io.proofs.Chain.{not-read, same-value}
 use Rattle.kaldi_files.specs.Answers.{means, inverses, items, sized_as, square_as, ExtractorIn}
 use Rattle.kaldi_files.proofs.Runs.{item_there, rest_there, times_length}
 use Rattle.kaldi_files.proofs.ExtractorParts.{sized_is}
-use Rattle.ivector_tables.specs.Steps.{matrix_nums, packed_nums, MAt, SigmaAt, mAt, sigma_inv_mAt, sigma_inv_ms, quadratic_terms}
+use Rattle.ivector_tables.specs.Steps.{matrix_nums, packed_nums, MAt, SigmaAt, m_at, sigma_inv_m_at, sigma_inv_ms, quadratic_terms}
 
 -- ---- an M
 
@@ -91,8 +91,8 @@ module _ {s : List ℕ} {gauss d n m sigma : ℕ} (x : ExtractorIn s gauss d n m
       m_item : matrix binary64 false max_feat max_ivector s p ≡ read (matrix_at (items (means s gauss m)) i) (place_of (matrix binary64 false max_feat max_ivector s p))
       m_item = item_there (matrix binary64 false max_feat max_ivector) s no_matrix gauss i p (items (means s gauss m)) l there
 
-      pub m_at : MAt d n s p
-      m_at =
+      pub m_at_lem : MAt d n s p
+      m_at_lem =
           let k : i < length (items (means s gauss m)) = omega (arith, times_length (matrix binary64 false max_feat max_ivector) s no_matrix gauss m x.m_stands) in
           let h = sized_is d n (matrix_at (items (means s gauss m)) i) (each_at (sized_as d n) no_matrix (items (means s gauss m)) i x.m_alike k) in
           record {
@@ -103,7 +103,7 @@ module _ {s : List ℕ} {gauss d n m sigma : ℕ} (x : ExtractorIn s gauss d n m
             cols_are = h.1;
           }
 
-      pub m_is : matrix_nums (matrix binary64 false max_feat max_ivector s p) ≡ mAt s gauss m i
+      pub m_is : matrix_nums (matrix binary64 false max_feat max_ivector s p) ≡ m_at s gauss m i
       m_is = ap matrix_nums m_item
 
       pub m_next : {z : ℕ} → z ≡ place_of (matrix binary64 false max_feat max_ivector s p) → MFrom s gauss m (i + 1) z
@@ -132,10 +132,10 @@ module _ {s : List ℕ} {gauss d n m sigma : ℕ} (x : ExtractorIn s gauss d n m
 -- ---- the tables of all Gaussians
 
 module _ (s : List ℕ) (gauss d n m sigma : ℕ) (room : List Float) where
-  pub sims_whole : {y : List Float} → y ≡ over (flat gauss (sigma_inv_mAt s gauss d n m sigma)) room → y ≡ over (sigma_inv_ms s gauss d n m sigma) room
+  pub sims_whole : {y : List Float} → y ≡ over (flat gauss (sigma_inv_m_at s gauss d n m sigma)) room → y ≡ over (sigma_inv_ms s gauss d n m sigma) room
   unfolding sigma_inv_ms
   sims_whole e = e
 
-  pub quadratics_whole : {y : List Float} → y ≡ over (flat gauss (λ i. quadratic_term d n (mAt s gauss m i) (sigma_inv_mAt s gauss d n m sigma i))) room → y ≡ over (quadratic_terms s gauss d n m sigma) room
+  pub quadratics_whole : {y : List Float} → y ≡ over (flat gauss (λ i. quadratic_term d n (m_at s gauss m i) (sigma_inv_m_at s gauss d n m sigma i))) room → y ≡ over (quadratic_terms s gauss d n m sigma) room
   unfolding quadratic_terms
   quadratics_whole e = e

@@ -48,14 +48,14 @@ pub record SigmaAt (d : ℕ) (s : List ℕ) (q : ℕ) : Type 0 where
 
 -- ---- the tables of all Gaussians
 
-abbrev pub mAt : List ℕ → ℕ → ℕ → ℕ → List Float
-mAt s gauss m i = (matrix_at (items (means s gauss m)) i).nums
+abbrev pub m_at : List ℕ → ℕ → ℕ → ℕ → List Float
+m_at s gauss m i = (matrix_at (items (means s gauss m)) i).nums
 
-abbrev pub sigma_inv_mAt : List ℕ → ℕ → ℕ → ℕ → ℕ → ℕ → ℕ → List Float
-sigma_inv_mAt s gauss d n m sigma i = sigma_inv_m d n (slice_index_or (items (inverses s gauss sigma)) i (record { rows = 0; nums = [] })).nums (mAt s gauss m i)
+abbrev pub sigma_inv_m_at : List ℕ → ℕ → ℕ → ℕ → ℕ → ℕ → ℕ → List Float
+sigma_inv_m_at s gauss d n m sigma i = sigma_inv_m d n (slice_index_or (items (inverses s gauss sigma)) i (record { rows = 0; nums = [] })).nums (m_at s gauss m i)
 
 unfoldable pub sigma_inv_ms : List ℕ → ℕ → ℕ → ℕ → ℕ → ℕ → List Float
-sigma_inv_ms s gauss d n m sigma = flat gauss (sigma_inv_mAt s gauss d n m sigma)
+sigma_inv_ms s gauss d n m sigma = flat gauss (sigma_inv_m_at s gauss d n m sigma)
 
 unfoldable pub quadratic_terms : List ℕ → ℕ → ℕ → ℕ → ℕ → ℕ → List Float
-quadratic_terms s gauss d n m sigma = flat gauss (λ i. quadratic_term d n (mAt s gauss m i) (sigma_inv_mAt s gauss d n m sigma i))
+quadratic_terms s gauss d n m sigma = flat gauss (λ i. quadratic_term d n (m_at s gauss m i) (sigma_inv_m_at s gauss d n m sigma i))

@@ -52,7 +52,7 @@ module _ (i : IvectorInfo) (t : Tables) (z : Rooms) (n : ℕ) where
 
 module _ {i : IvectorInfo} {t : Tables} {z : Rooms} {n : ℕ} (r : Sound i t z n) where
   open i use {opts as o, dims as d}
-  open t use {gconsts, means_invvars_t, inv_vars_t, sigma_inv_m_is, u, lda_t, lda_offset, global_mean_stats}
+  open t use {gconsts, means_invvars_t, inv_vars_t, sigma_inv_m, u, lda_t, lda_offset, global_mean_stats}
 
   pub ready : Ready i (kept_tables (table_sizes o d) t)
   ready =
@@ -77,7 +77,7 @@ module _ {i : IvectorInfo} {t : Tables} {z : Rooms} {n : ℕ} (r : Sound i t z n
       record {
         some = r.dims_are.some_base;
         frame_room_is = r.rooms_fit_is.frames_fit;
-        row_room_lem = omega (arith, r.rooms_fit_is.rows_fit);
+        row_room_is = omega (arith, r.rooms_fit_is.rows_fit);
         global_long = omega (arith, length-take-le (d.base_dim + 1) global_mean_stats r.tables_fit_is.global_fits);
         state_long = length-take-le (d.base_dim + 1) z.estimate.cmvn r.rooms_fit_is.cmvn_fits;
         few = few;
@@ -89,7 +89,7 @@ module _ {i : IvectorInfo} {t : Tables} {z : Rooms} {n : ℕ} (r : Sound i t z n
       let e = d.ext_gauss in
       let f = d.feat_dim in
       let s = d.ivector_dim in
-      let sigma = length-take-le (e * f * s) sigma_inv_m_is r.tables_fit_is.sigma_fits in
+      let sigma = length-take-le (e * f * s) sigma_inv_m r.tables_fit_is.sigma_fits in
       let packed = length-take-le (e * triangle s) u r.tables_fit_is.u_fits in
       record {
         some = r.dims_are.some_ivector;

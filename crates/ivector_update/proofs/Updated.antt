@@ -46,7 +46,7 @@ ready-view r =
 module _ (M : Model) where
   open M.info use {opts, dims, prior_offset as prior}
   open dims use {feat_dim as d, ivector_dim as s}
-  open M.tables use {gconsts, means_invvars_t, inv_vars_t, sigma_inv_m_is, u, lda_t, lda_offset, global_mean_stats}
+  open M.tables use {gconsts, means_invvars_t, inv_vars_t, sigma_inv_m, u, lda_t, lda_offset, global_mean_stats}
 
   abbrev view_of : Model
   view_of = model M.info (view_tables gconsts means_invvars_t inv_vars_t lda_t lda_offset global_mean_stats)
@@ -64,7 +64,7 @@ module _ (M : Model) where
   -- a batch of some frames
   module _ (es : List Entry) (st : Stats) where
     abbrev taken_in : Stats
-    taken_in = acc d s sigma_inv_m_is u prior opts.max_count es st
+    taken_in = acc d s sigma_inv_m u prior opts.max_count es st
 
     run_taken : (first : ℕ) (w : FrameWeight) (n : ℕ) → 0 < n → taken_in ≡ accumulated M (run first w n) es st
     unfolding accumulated build

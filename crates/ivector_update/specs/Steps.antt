@@ -8,7 +8,7 @@ use Rattle.definition.specs.Model.{Tables}
 pub record Solvable (i : IvectorInfo) (t : Tables) (linear quadratic : List Float) (n : ℕ) : Type 0 where
   pub some : 0 < i.dims.ivector_dim
   pub few : i.dims.ivector_dim ≤ 128
-  pub sigma_fits : i.dims.num_gauss * (i.dims.feat_dim * i.dims.ivector_dim) ≤ length t.sigma_inv_m_is
+  pub sigma_fits : i.dims.num_gauss * (i.dims.feat_dim * i.dims.ivector_dim) ≤ length t.sigma_inv_m
   pub u_fits : i.dims.num_gauss * triangle i.dims.ivector_dim ≤ length t.u
   pub linear_long : length linear ≡ i.dims.ivector_dim
   pub quadratic_long : length quadratic ≡ triangle i.dims.ivector_dim

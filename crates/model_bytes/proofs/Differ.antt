@@ -17,7 +17,7 @@ use Rattle.model_bytes.specs.declared.ModelSizes.{ModelSizes}
 use Rattle.model_bytes.specs.Written.{size_bytes, numbers_bytes, ended, token_bytes, line_bytes, table_bytes, matrix_bytes, packed_bytes, Params, params_from, part, gmm_bytes, extractor_bytes, lda_bytes, model_bytes}
 use Rattle.model_bytes.specs.Theorems.{of_width, Accepted, Differ}
 use Rattle.model_bytes.proofs.Encoding.{past, size-apart, numbers_apart}
-use Rattle.model_bytes.specs.Pieces.{weights_head, means_head, vars_head, mHead, offset_head, lda_head, mBlocks, sigma_blocks}
+use Rattle.model_bytes.specs.Pieces.{weights_head, means_head, vars_head, m_head, offset_head, lda_head, m_blocks, sigma_blocks}
 use Rattle.model_bytes.proofs.Shapes.{gmm_is, extractor_is, lda_is, parts_whole, fit-part, long-part, Fit, line_apart, table_apart}
 use Rattle.model_bytes.proofs.Sound.{Sound, sound}
 
@@ -85,7 +85,7 @@ module _ (f : Format) (p q : Params) where
   pub known : (o : IvectorOptions) (t : List ℕ) (room : ℕ) (a : Params) → Accepted f o t a room → Known o t room a
   unfolding all_of
   known o t room a c =
-      let h = each_of (λ (b : Bool). b) (of_width f a) c.of_width_lem in
+      let h = each_of (λ (b : Bool). b) (of_width f a) c.of_width_is in
       record {
         sound_of = sound f o t a room c.taken;
         weights_fit = h.0;
@@ -155,13 +155,13 @@ module _ (f : Format) (p q : Params) where
         let y4 : List ℕ = numbers_bytes f (q.prior_offset ∷ []) ++ (end ++ v) in
         let x3 : List ℕ = sigma_blocks f e d p.sigma_inv ++ (offset_head f ++ x4) in
         let y3 : List ℕ = sigma_blocks f e' d' q.sigma_inv ++ (offset_head f ++ y4) in
-        let x2 : List ℕ = mBlocks f e d s p.m ++ (token_bytes "<SigmaInv>" ++ x3) in
-        let y2 : List ℕ = mBlocks f e' d' s' q.m ++ (token_bytes "<SigmaInv>" ++ y3) in
-        let shape : mHead f ++ (size_bytes e ++ x2) ≡ mHead f ++ (size_bytes e' ++ y2) =
-        sym (eight (mHead f) (size_bytes e) (mBlocks f e d s p.m) (token_bytes "<SigmaInv>") (sigma_blocks f e d p.sigma_inv) (offset_head f) (numbers_bytes f (p.prior_offset ∷ [])) end u)
+        let x2 : List ℕ = m_blocks f e d s p.m ++ (token_bytes "<SigmaInv>" ++ x3) in
+        let y2 : List ℕ = m_blocks f e' d' s' q.m ++ (token_bytes "<SigmaInv>" ++ y3) in
+        let shape : m_head f ++ (size_bytes e ++ x2) ≡ m_head f ++ (size_bytes e' ++ y2) =
+        sym (eight (m_head f) (size_bytes e) (m_blocks f e d s p.m) (token_bytes "<SigmaInv>") (sigma_blocks f e d p.sigma_inv) (offset_head f) (numbers_bytes f (p.prior_offset ∷ [])) end u)
         ∙ ap (λ (l : List ℕ). l ++ u) (sym (extractor_is p f)) ∙ eq ∙ ap (λ (l : List ℕ). l ++ v) (extractor_is q f)
-        ∙ eight (mHead f) (size_bytes e') (mBlocks f e' d' s' q.m) (token_bytes "<SigmaInv>") (sigma_blocks f e' d' q.sigma_inv) (offset_head f) (numbers_bytes f (q.prior_offset ∷ [])) end v in
-        let k = size-apart e e' x2 y2 (omega (arith, sp.ext.high)) (omega (arith, sq.ext.high)) (past (mHead f) (size_bytes e ++ x2) (size_bytes e' ++ y2) shape) in
+        ∙ eight (m_head f) (size_bytes e') (m_blocks f e' d' s' q.m) (token_bytes "<SigmaInv>") (sigma_blocks f e' d' q.sigma_inv) (offset_head f) (numbers_bytes f (q.prior_offset ∷ [])) end v in
+        let k = size-apart e e' x2 y2 (omega (arith, sp.ext.high)) (omega (arith, sq.ext.high)) (past (m_head f) (size_bytes e ++ x2) (size_bytes e' ++ y2) shape) in
         let ms = blocks_apart e (λ i. matrix_bytes f d s (part (d * s) i p.m)) (λ i. matrix_bytes f d' s' (part (d' * s') i q.m))
         (λ i. (s ≡ s') × (part (d * s) i p.m ≡ part (d' * s') i q.m)) (token_bytes "<SigmaInv>" ++ x3) (token_bytes "<SigmaInv>" ++ y3)
         (λ i l u v o. let l' : i < e' = omega (arith, k.0) in

@@ -15,8 +15,8 @@ means_head f = token_bytes "<MEANS_INVVARS>" ++ ended (matrix_tag f)
 abbrev pub vars_head : Format → List ℕ
 vars_head f = token_bytes "<INV_VARS>" ++ ended (matrix_tag f)
 
-abbrev pub mHead : Format → List ℕ
-mHead f =
+abbrev pub m_head : Format → List ℕ
+m_head f =
     mark ++ (token_bytes "<IvectorExtractor>" ++ (token_bytes "<w>" ++ (ended (matrix_tag f) ++ (4 ∷ 0 ∷ 0 ∷ 0 ∷ 0 ∷ 4 ∷ 0 ∷ 0 ∷ 0 ∷ 0
     ∷ (token_bytes "<w_vec>" ++ (ended (vector_tag f) ++ (4 ∷ 0 ∷ 0 ∷ 0 ∷ 0 ∷ token_bytes "<M>")))))))
 
@@ -26,8 +26,8 @@ offset_head f = token_bytes "<IvectorOffset>" ++ (byte_width f ∷ [])
 abbrev pub lda_head : Format → List ℕ
 lda_head f = mark ++ ended (matrix_tag f)
 
-abbrev pub mBlocks : Format → ℕ → ℕ → ℕ → List Float → List ℕ
-mBlocks f e d s xs = flat e (λ i. matrix_bytes f d s (part (d * s) i xs))
+abbrev pub m_blocks : Format → ℕ → ℕ → ℕ → List Float → List ℕ
+m_blocks f e d s xs = flat e (λ i. matrix_bytes f d s (part (d * s) i xs))
 
 abbrev pub sigma_blocks : Format → ℕ → ℕ → List Float → List ℕ
 sigma_blocks f e d xs = flat e (λ i. packed_bytes f d (part (triangle d) i xs))
@@ -38,5 +38,5 @@ gmm_pieces f g d weights means_invvars inv_vars =
 
 abbrev pub extractor_pieces : Format → ℕ → ℕ → ℕ → List Float → List Float → Float → List ℕ
 extractor_pieces f e d s m sigma_inv prior_offset =
-    (mHead f ++ size_bytes e) ++ (mBlocks f e d s m ++ (token_bytes "<SigmaInv>" ++ (sigma_blocks f e d sigma_inv
+    (m_head f ++ size_bytes e) ++ (m_blocks f e d s m ++ (token_bytes "<SigmaInv>" ++ (sigma_blocks f e d sigma_inv
     ++ (offset_head f ++ (numbers_bytes f (prior_offset ∷ []) ++ token_bytes "</IvectorExtractor>")))))

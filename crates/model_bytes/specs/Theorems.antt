@@ -27,7 +27,7 @@ of_width f p =
 -- a set that the call takes: with these options, this text and this much room
 pub record Accepted (f : Format) (o : IvectorOptions) (t : List ℕ) (p : Params) (room : ℕ) : Type 0 where
   pub taken : write_refusal f o t p room ≡ 0
-  pub of_width_lem : all_true (of_width f p) ≡ true
+  pub of_width_is : all_true (of_width f p) ≡ true
 
 -- ---- what was written loads as the parameters
 

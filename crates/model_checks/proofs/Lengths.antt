@@ -11,7 +11,7 @@ use Rattle.definition.specs.Reader.{byte_width}
 use Rattle.definition.specs.Kaldi.{matrix_tag, packed_tag, triangle}
 use Rattle.model_bytes.specs.declared.ModelSizes.{ModelSizes}
 use Rattle.model_bytes.specs.Written.{numbers_bytes, size_bytes, ended, token_bytes, line_bytes, table_bytes, matrix_bytes, packed_bytes, Params, part, gmm_bytes, extractor_bytes, lda_bytes, model_bytes}
-use Rattle.model_bytes.specs.Pieces.{weights_head, means_head, vars_head, mHead, offset_head, lda_head, mBlocks, sigma_blocks, gmm_pieces, extractor_pieces}
+use Rattle.model_bytes.specs.Pieces.{weights_head, means_head, vars_head, m_head, offset_head, lda_head, m_blocks, sigma_blocks, gmm_pieces, extractor_pieces}
 use Rattle.model_bytes.proofs.Encoding.{length-low, length-numbers}
 use Rattle.model_bytes.proofs.Shapes.{gmm_is, extractor_is, lda_is, long-part}
 use Rattle.model_checks.specs.Steps.{InRange, total_length}
@@ -57,7 +57,7 @@ module _ (g d : ℕ) (w m v : List Float) (wl : length w ≡ g) (ml : length m �
   gmm_long binary64 = gmm_sum binary64 8 refl refl refl refl ∙ omega arith
 
 module _ (e d s : ℕ) (m v : List Float) (x : Float) (ml : length m ≡ e * (d * s)) (vl : length v ≡ e * triangle d) where
-  m_long : (f : Format) → length (ended (matrix_tag f)) ≡ 3 → length (mBlocks f e d s m) ≡ e * (13 + d * s * byte_width f)
+  m_long : (f : Format) → length (ended (matrix_tag f)) ≡ 3 → length (m_blocks f e d s m) ≡ e * (13 + d * s * byte_width f)
   m_long f h =
       length_flat (13 + d * s * byte_width f) e (λ i. matrix_bytes f d s (part (d * s) i m))
       (λ i l. length_table f (ended (matrix_tag f)) d s (part (d * s) i m) ∙ omega (arith, h, ap (λ (k : ℕ). k * byte_width f) (long-part (d * s) e i m ml l)))
@@ -67,10 +67,10 @@ module _ (e d s : ℕ) (m v : List Float) (x : Float) (ml : length m ≡ e * (d 
       length_flat (8 + triangle d * byte_width f) e (λ i. packed_bytes f d (part (triangle d) i v))
       (λ i l. length-line f (ended (packed_tag f)) d (part (triangle d) i v) ∙ omega (arith, h, ap (λ (k : ℕ). k * byte_width f) (long-part (triangle d) e i v vl l)))
 
-  ext_sum : (f : Format) → length (mHead f) ≡ 58 → length (offset_head f) ≡ 17 → length (ended (matrix_tag f)) ≡ 3 → length (ended (packed_tag f)) ≡ 3
+  ext_sum : (f : Format) → length (m_head f) ≡ 58 → length (offset_head f) ≡ 17 → length (ended (matrix_tag f)) ≡ 3 → length (ended (packed_tag f)) ≡ 3
       → length (extractor_pieces f e d s m v x) ≡ 111 + byte_width f + (e * (13 + d * s * byte_width f) + e * (8 + triangle d * byte_width f))
   ext_sum f h1 h2 h3 h4 =
-      let a2 : List ℕ = mBlocks f e d s m in
+      let a2 : List ℕ = m_blocks f e d s m in
       let a3 : List ℕ = token_bytes "<SigmaInv>" in
       let a4 : List ℕ = sigma_blocks f e d v in
       let a5 : List ℕ = offset_head f in
@@ -81,8 +81,8 @@ module _ (e d s : ℕ) (m v : List Float) (x : Float) (ml : length m ≡ e * (d 
       let l7 : length a7 ≡ 20 = refl in
       omega (
         arith,
-        length-append (mHead f ++ size_bytes e) (a2 ++ (a3 ++ (a4 ++ (a5 ++ (a6 ++ a7))))),
-        length-append (mHead f) (size_bytes e),
+        length-append (m_head f ++ size_bytes e) (a2 ++ (a3 ++ (a4 ++ (a5 ++ (a6 ++ a7))))),
+        length-append (m_head f) (size_bytes e),
         length-size e,
         length-append a2 (a3 ++ (a4 ++ (a5 ++ (a6 ++ a7)))),
         length-append a3 (a4 ++ (a5 ++ (a6 ++ a7))),

@@ -7,7 +7,7 @@ use lib.ListN.{length}
 use lib.Ieee.{Float, Format, to_bits}
 use Rattle.definition.specs.Reader.{byte_width}
 use Rattle.model_bytes.specs.Written.{low_bytes, numbers_bytes, size_bytes, token_bytes, line_bytes, table_bytes}
-use Rattle.model_bytes.specs.Pieces.{weights_head, means_head, vars_head, mHead, offset_head, mBlocks, sigma_blocks, gmm_pieces, extractor_pieces}
+use Rattle.model_bytes.specs.Pieces.{weights_head, means_head, vars_head, m_head, offset_head, m_blocks, sigma_blocks, gmm_pieces, extractor_pieces}
 use Rattle.model_bytes.proofs.Encoding.{length-numbers}
 use Rattle.model_writer.specs.Steps.{Wrote}
 use Rattle.model_writer.proofs.Writes.{room-first, room-rest, chain, wrote_as, numbers-one}
@@ -125,7 +125,7 @@ module _ (f : Format) (g d : ℕ) (w m v : List Float) where
 
 module _ (f : Format) (e d s : ℕ) (m v : List Float) (x : Float) where
   abbrev H1 : List ℕ
-  H1 = mHead f
+  H1 = m_head f
 
   abbrev H2 : List ℕ
   H2 = size_bytes e
@@ -134,7 +134,7 @@ module _ (f : Format) (e d s : ℕ) (m v : List Float) (x : Float) where
   X1 = H1 ++ H2
 
   abbrev X2 : List ℕ
-  X2 = mBlocks f e d s m
+  X2 = m_blocks f e d s m
 
   abbrev X3 : List ℕ
   X3 = token_bytes "<SigmaInv>"

@@ -17,37 +17,37 @@ use Rattle.leading.proofs.Comparing.{differs, same}
 use Rattle.leading.proofs.Rooms.{length_held}
 use Rattle.leading.proofs.Sorting.{length_sort}
 
-module _ (max-like : Float) (all : List Post) where
-  some_left : (k : ℕ) (likely : List Post) {h : List Post} → h ≡ ranked k max-like likely → 0 < length h → h ≡ ranked k max-like (or_else likely all)
+module _ (largest : Float) (all : List Post) where
+  some_left : (k : ℕ) (likely : List Post) {h : List Post} → h ≡ ranked k largest likely → 0 < length h → h ≡ ranked k largest (or_else likely all)
   unfolding ranked sorted
   some_left zero likely e l = e
   some_left (suc k) [] e l = absurd (omega (arith, ap length e))
   some_left (suc k) (p ∷ likely) e l = e
 
-  none_left : (k : ℕ) (likely : List Post) {h x : List Post} → h ≡ ranked k max-like likely → length h ≡ 0 → x ≡ ranked k max-like all → x ≡ ranked k max-like (or_else likely all)
+  none_left : (k : ℕ) (likely : List Post) {h x : List Post} → h ≡ ranked k largest likely → length h ≡ 0 → x ≡ ranked k largest all → x ≡ ranked k largest (or_else likely all)
   unfolding ranked sorted
   none_left zero likely e l d = d
   none_left (suc k) [] e l d = d
   none_left (suc k) (p ∷ likely) e l d =
-      let ps = likelihoods max-like (p ∷ likely) in
+      let ps = likelihoods largest (p ∷ likely) in
       absurd (omega (arith, ap length e, length-take (suc k) (sorted ps), length_sort [] ps))
 
 every-all : (ls : List Float) → those (λ p. true) (every ls) ≡ every ls
 every-all ls = those_all (λ p. true) (every ls) (at_each (λ p. true) (0, nan) (every ls) (λ i s. refl))
 
-module _ (ls : List Float) (k : ℕ) (min_post : Float) {max-like : Float} (m : max-like ≡ max_like ls) where
+module _ (ls : List Float) (k : ℕ) (min_post : Float) {largest : Float} (m : largest ≡ max_like ls) where
   -- the rooms hold n that are above the cutoff
   module _ {ln : Float} (t : ne min_post zero₃₂ ≡ true) (l : ln ≡ ln_narrow min_post) (n : ℕ) (chosen : List ℕ) (posts : List Float)
-      (e : held n chosen posts ≡ ranked k max-like (those (λ p. lt (max-like +₃₂ ln) p.1) (every ls))) (h : n ≤ length chosen) (h2 : n ≤ length posts) where
+      (e : held n chosen posts ≡ ranked k largest (those (λ p. lt (largest +₃₂ ln) p.1) (every ls))) (h : n ≤ length chosen) (h2 : n ≤ length posts) where
     pub best_some : 0 < n → held n chosen posts ≡ best_of ls k min_post
     unfolding best_of
-    best_some g = rw (differs min_post zero₃₂ t, ← m, ← l) (some_left max-like (every ls) k _ e (omega (arith, length_held n chosen posts h h2)))
+    best_some g = rw (differs min_post zero₃₂ t, ← m, ← l) (some_left largest (every ls) k _ e (omega (arith, length_held n chosen posts h h2)))
 
-    pub best_none : {x : List Post} → n ≤ 0 → x ≡ ranked k max-like (those (λ p. true) (every ls)) → x ≡ best_of ls k min_post
+    pub best_none : {x : List Post} → n ≤ 0 → x ≡ ranked k largest (those (λ p. true) (every ls)) → x ≡ best_of ls k min_post
     unfolding best_of
     best_none g d =
-        rw (differs min_post zero₃₂ t, ← m, ← l) (none_left max-like (every ls) k _ e (omega (arith, length_held n chosen posts h h2)) (rw (every-all ls) at d))
+        rw (differs min_post zero₃₂ t, ← m, ← l) (none_left largest (every ls) k _ e (omega (arith, length_held n chosen posts h h2)) (rw (every-all ls) at d))
 
-  pub best_all : {x : List Post} → ne min_post zero₃₂ ≡ false → x ≡ ranked k max-like (those (λ p. true) (every ls)) → x ≡ best_of ls k min_post
+  pub best_all : {x : List Post} → ne min_post zero₃₂ ≡ false → x ≡ ranked k largest (those (λ p. true) (every ls)) → x ≡ best_of ls k min_post
   unfolding best_of
   best_all t d = rw (same min_post zero₃₂ t, ← m) (rw (every-all ls) at d)

@@ -60,12 +60,12 @@ module _ (test : Post → Bool) (ls : List Float) where
       ∙ those_append test (take g (every ls)) ((g, at ls g) ∷ []) ∙ ap (λ (ps : List Post). those test (take g (every ls)) ++ ps) one
 
 -- one more, of which the first k are kept
-ranked_more : (k : ℕ) (max-like : Float) (ps : List Post) (p : Post) → ranked k max-like (ps ++ (p ∷ [])) ≡ take k (insert (p.0, exp_of (p.1 -₃₂ max-like)) (ranked k max-like ps))
+ranked_more : (k : ℕ) (largest : Float) (ps : List Post) (p : Post) → ranked k largest (ps ++ (p ∷ [])) ≡ take k (insert (p.0, exp_of (p.1 -₃₂ largest)) (ranked k largest ps))
 unfolding ranked sorted
-ranked_more k max-like ps p =
-    let q : Post = (p.0, exp_of (p.1 -₃₂ max-like)) in
-    ap (λ (qs : List Post). take k (into [] qs)) (map-append (λ (p : Post). (p.0, exp_of (p.1 -₃₂ max-like))) ps (p ∷ []))
-    ∙ ap (take k) (foldl-append (λ qs p. insert p qs) [] (likelihoods max-like ps) (q ∷ [])) ∙ sym (take-insert k q (into [] (likelihoods max-like ps)))
+ranked_more k largest ps p =
+    let q : Post = (p.0, exp_of (p.1 -₃₂ largest)) in
+    ap (λ (qs : List Post). take k (into [] qs)) (map-append (λ (p : Post). (p.0, exp_of (p.1 -₃₂ largest))) ps (p ∷ []))
+    ∙ ap (take k) (foldl-append (λ qs p. insert p qs) [] (likelihoods largest ps) (q ∷ [])) ∙ sym (take-insert k q (into [] (likelihoods largest ps)))
 
 -- ---- as `gather` has it
 
@@ -73,10 +73,10 @@ ranked_more k max-like ps p =
 abbrev pub passing : Bool → Float → Post → Bool
 passing all cutoff p = all || lt cutoff p.1
 
-module _ (k : ℕ) (test : Post → Bool) (max-like : Float) (ls : List Float) where
+module _ (k : ℕ) (test : Post → Bool) (largest : Float) (ls : List Float) where
   -- the first k of those in front of place g
   abbrev pub gathered : ℕ → List Post
-  gathered g = ranked k max-like (those test (take g (every ls)))
+  gathered g = ranked k largest (those test (take g (every ls)))
 
   none_gathered : gathered 0 ≡ []
   unfolding ranked sorted those
@@ -84,24 +84,24 @@ module _ (k : ℕ) (test : Post → Bool) (max-like : Float) (ls : List Float) w
 
   -- nothing is held, and none passes in front of g
   pub gather_none : {g : ℕ} {ps : List Post} → ps ≡ [] → Next (λ i. test (i, at ls i)) 0 (length ls) g → ps ≡ gathered g
-  gather_none {g} e n = e ∙ sym none_gathered ∙ sym (ap (ranked k max-like) (those_before test ls 0 g n.from n.most n.none))
+  gather_none {g} e n = e ∙ sym none_gathered ∙ sym (ap (ranked k largest) (those_before test ls 0 g n.from n.most n.none))
 
   -- g passes and is put in, and none passes between g and r
-  pub gather_turn : {g r : ℕ} {p : Float} {ps qs : List Post} → g < length ls → test (g, at ls g) ≡ true → p ≡ exp_of (at ls g -₃₂ max-like)
+  pub gather_turn : {g r : ℕ} {p : Float} {ps qs : List Post} → g < length ls → test (g, at ls g) ≡ true → p ≡ exp_of (at ls g -₃₂ largest)
       → Next (λ i. test (i, at ls i)) (g + 1) (length ls) r → ps ≡ gathered g → qs ≡ take k (insert (g, p) ps) → qs ≡ gathered r
   gather_turn {g} {r} {ps = ps} h t e n f d =
-      d ∙ ap (λ (x : Float). take k (insert (g, x) ps)) e ∙ ap (λ (l : List Post). take k (insert (g, exp_of (at ls g -₃₂ max-like)) l)) f
-      ∙ sym (ranked_more k max-like (those test (take g (every ls))) (g, at ls g)) ∙ sym (ap (ranked k max-like) (those_here test ls g h t))
-      ∙ sym (ap (ranked k max-like) (those_before test ls (g + 1) r n.from n.most n.none))
+      d ∙ ap (λ (x : Float). take k (insert (g, x) ps)) e ∙ ap (λ (l : List Post). take k (insert (g, exp_of (at ls g -₃₂ largest)) l)) f
+      ∙ sym (ranked_more k largest (those test (take g (every ls))) (g, at ls g)) ∙ sym (ap (ranked k largest) (those_here test ls g h t))
+      ∙ sym (ap (ranked k largest) (those_before test ls (g + 1) r n.from n.most n.none))
 
   -- no place is left
-  pub gather_end : {g : ℕ} {ps : List Post} → length ls ≤ g → ps ≡ gathered g → ps ≡ ranked k max-like (those test (every ls))
-  gather_end {g} h e = e ∙ ap (λ (qs : List Post). ranked k max-like (those test qs)) (take_all g (every ls) (omega (arith, length-every ls)))
+  pub gather_end : {g : ℕ} {ps : List Post} → length ls ≤ g → ps ≡ gathered g → ps ≡ ranked k largest (those test (every ls))
+  gather_end {g} h e = e ∙ ap (λ (qs : List Post). ranked k largest (those test qs)) (take_all g (every ls) (omega (arith, length-every ls)))
 
   -- what is held falls
   pub gathered_falls : (g n : ℕ) (chosen : List ℕ) (posts : List Float) → n ≤ length chosen → n ≤ length posts → held n chosen posts ≡ gathered g → Falling n posts
   unfolding ranked
   gathered_falls g n chosen posts h l e =
-      let o : Ordered (held n chosen posts) = rw e (take_ordered k (sort_ordered (likelihoods max-like (those test (take g (every ls)))))) in
+      let o : Ordered (held n chosen posts) = rw e (take_ordered k (sort_ordered (likelihoods largest (those test (take g (every ls)))))) in
       let m = length_held n chosen posts h l in
       record { behind = λ i j s t. rw (held_at n chosen posts h l (0, nan) i (omega arith), held_at n chosen posts h l (0, nan) j t) at (behind_any (0, nan) i j o s (omega arith)) }

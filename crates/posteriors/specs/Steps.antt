@@ -9,7 +9,7 @@ use Rattle.definition.specs.Posteriors.{Post}
 
 -- of log-likelihoods, the likelihoods
 abbrev pub likelihoods : Float → List Post → List Post
-likelihoods max-like ps = map (λ p. (p.0, exp_of (p.1 -₃₂ max-like))) ps
+likelihoods largest ps = map (λ p. (p.0, exp_of (p.1 -₃₂ largest))) ps
 
 -- the first r places of a room hold numbers below n, none of them twice
 pub record Fair (n r : ℕ) (chosen : List ℕ) : Type 0 where

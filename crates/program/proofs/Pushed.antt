@@ -58,7 +58,7 @@ module _ (h : List (List Float)) (x : List Float) where
 
   -- there is room for one more frame and one more prefix row
   module _ (dim mark window : ℕ) (frames rows : List Float) (wide : length x ≡ dim) (low : mark + 1 - window ≤ m)
-      (frame_room_is : m - mark < rows_in (length frames) dim) (row_room_lem : m + 1 - (mark + 1 - window) < rows_in (length rows) dim)
+      (frame_room_is : m - mark < rows_in (length frames) dim) (row_room_is : m + 1 - (mark + 1 - window) < rows_in (length rows) dim)
       (a : Agree (ring_frames dim m frames rows) (all_frames h) dim mark window) where
     -- the prefix row to come
     abbrev y : List Float

@@ -24,7 +24,7 @@ module _ (s : IvectorStream) (z : Rings) where
     pub whole_is : Whole s z.waiting_frames
     pub dims_are : DimRanges s.info.dims
     pub frame_room_is : 1 ≤ rows_in (length z.frames) s.info.dims.base_dim
-    pub row_room_lem : 2 ≤ rows_in (length z.rows) s.info.dims.base_dim
+    pub row_room_is : 2 ≤ rows_in (length z.rows) s.info.dims.base_dim
     pub waiting_frames_are : length z.waiting_frames ≡ s.lengths.rings.waiting_frames
     pub waiting_weights_are : length z.waiting_weights ≡ s.lengths.rings.waiting_weights
 
@@ -38,7 +38,7 @@ module _ (s : IvectorStream) (z : Rings) where
         whole_is = w;
         dims_are = dim-ranges _ (info_sound_lem _ w.info_is).0.dims_are;
         frame_room_is = rw (eqb-true (length z.frames) s.lengths.rings.frames h.0) r.frames_fit;
-        row_room_lem = rw (eqb-true (length z.rows) s.lengths.rings.rows h.1.0) r.rows_fit;
+        row_room_is = rw (eqb-true (length z.rows) s.lengths.rings.rows h.1.0) r.rows_fit;
         waiting_frames_are = eqb-true _ _ h.1.1.0;
         waiting_weights_are = eqb-true _ _ h.1.1.1.0;
       }

@@ -112,7 +112,7 @@ module _ (s : IvectorStream) (z : Rings) (x : List Float) where
       × (2 ≤ rows_in (length z.rows) (length x)) × (any_of (λ v. not (finite v)) x ≡ false)
   store_fits k =
       let p = k.passed in
-      (rw k.wide p.dims_are.some_base, rw k.wide p.dims_are.base_is, (few s z p).0, rw k.wide p.frame_room_is, rw k.wide p.row_room_lem, k.all-finite)
+      (rw k.wide p.dims_are.some_base, rw k.wide p.dims_are.base_is, (few s z p).0, rw k.wide p.frame_room_is, rw k.wide p.row_room_is, k.all-finite)
 
 -- ---- change
 

@@ -35,7 +35,7 @@ overflow_mul-size c =
 pub first_places-p-requires : goal.first_places-p-requires
 first_places-p-requires c =
     let p = c.requires.lent in
-    (p.some, p.frame_room_is, p.row_room_lem, omega (arith, c.less-u.ensures, c.requires.t_lt_accepted.0, p.few))
+    (p.some, p.frame_room_is, p.row_room_is, omega (arith, c.less-u.ensures, c.requires.t_lt_accepted.0, p.few))
 
 pub loop-n-init : goal.loop-n-init
 loop-n-init c =
@@ -82,7 +82,7 @@ add_frame-requires c =
     let size = a.dim * a.d in
     let first = c.loop-n.n * size in
     record {
-      lent = record { some = p.some; frame_room_is = p.frame_room_is; row_room_lem = p.row_room_lem; global_long = p.global_long; state_long = h.1; few = p.few };
+      lent = record { some = p.some; frame_room_is = p.frame_room_is; row_room_is = p.row_room_is; global_long = p.global_long; state_long = h.1; few = p.few };
       t_lt_accepted = (
         splice_under a.o a.accepted a.t c.loop-n.n c.requires.t_lt_accepted.0 h.6,
         length-take-le _ _ (view-holds (goal.at.add_frame-requires c).At-loop-n),
@@ -111,7 +111,7 @@ apart c =
 pub next_places-p-requires : goal.next_places-p-requires
 next_places-p-requires c =
     let p = c.requires.lent in
-    (p.some, c.requires.t_lt_accepted.3, p.frame_room_is, p.row_room_lem, (apart (goal.at.next_places-p-requires c).After-splice_at-v).0, (apart (goal.at.next_places-p-requires c).After-splice_at-v).1, c.loop-n.invariant.7)
+    (p.some, c.requires.t_lt_accepted.3, p.frame_room_is, p.row_room_is, (apart (goal.at.next_places-p-requires c).After-splice_at-v).0, (apart (goal.at.next_places-p-requires c).After-splice_at-v).1, c.loop-n.invariant.7)
 
 pub overflow_step-n : goal.overflow_step-n
 overflow_step-n c = omega (arith, short_row (goal.at.overflow_step-n c).In-loop-n)

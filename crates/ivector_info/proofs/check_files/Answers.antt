@@ -79,9 +79,9 @@ returns-in-Is-check_cmvn c =
     let a = c.args in (
       all_read (files (goal.at.returns-in-Is-check_cmvn c).Start) (the_gmm (goal.at.returns-in-Is-check_cmvn c).In-Is) (the_extractor (goal.at.returns-in-Is-check_cmvn c).In-Is-check_extractor) (the_lda (goal.at.returns-in-Is-check_cmvn c).In-Is-check_lda) (told (cmvn_of a.cmvn.now) c.check_cmvn.ensures.result_value c.in-Is-check_cmvn.is),
       record {
-        gmm_in_lem = subst (gmm_in a.gmm.now) c.in-Is.is c.check_gmm.ensures.gmm_in;
-        extractor_in_lem = subst (extractor_in a.extractor.now) c.in-Is-check_extractor.is c.check_extractor.ensures.extractor_in;
+        gmm_in_is = subst (gmm_in a.gmm.now) c.in-Is.is c.check_gmm.ensures.gmm_in;
+        extractor_in_is = subst (extractor_in a.extractor.now) c.in-Is-check_extractor.is c.check_extractor.ensures.extractor_in;
         lda_in = subst (matrix_in binary32 max_feat max_columns a.lda.now) c.in-Is-check_lda.is c.check_lda.ensures.matrix_in;
-        row_in_lem = row-counted _ _ _ (row_in_lem (goal.at.returns-in-Is-check_cmvn c).In-Is-check_cmvn);
+        row_in_is = row-counted _ _ _ (row_in_lem (goal.at.returns-in-Is-check_cmvn c).In-Is-check_cmvn);
       },
     )

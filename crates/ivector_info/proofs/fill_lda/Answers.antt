@@ -25,10 +25,10 @@ fill_offset-requires c =
     record { ready = l.ready; rows_bound = (omega (arith, l.rows_high), l.cols_high, c.requires.offset_fits) }
 
 pub overflow_add-dims : goal.overflow_add-dims
-overflow_add-dims c = omega (arith, c.requires.row_in_lem.high)
+overflow_add-dims c = omega (arith, c.requires.row_in_is.high)
 
 pub fill_global-requires : goal.fill_global-requires
-fill_global-requires c = record { row_in = c.requires.row_in_lem; len_in_bounds = c.requires.row_fits }
+fill_global-requires c = record { row_in = c.requires.row_in_is; len_in_bounds = c.requires.row_fits }
 
 pub returns : goal.returns
 returns c = (c.fill_transposed.ensures, c.fill_offset.ensures, c.fill_global.ensures)

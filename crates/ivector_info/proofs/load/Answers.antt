@@ -29,7 +29,7 @@ fill_gmm-requires c = gmm_fits (judged (goal.at.fill_gmm-requires c).In-Is)
 pub fill_gaussians-requires : goal.fill_gaussians-requires
 fill_gaussians-requires c =
     let j = judged (goal.at.fill_gaussians-requires c).In-Is in
-    record { extractor_in = j.files_in_is.extractor_in_lem; n_in_bounds = (sims_fit j, (tables-fitting _ _ _ j.tables_fit_is).u_fits, j.scratch_fits) }
+    record { extractor_in = j.files_in_is.extractor_in_is; n_in_bounds = (sims_fit j, (tables-fitting _ _ _ j.tables_fit_is).u_fits, j.scratch_fits) }
 
 pub fill_lda-requires : goal.fill_lda-requires
 fill_lda-requires c = lda_fits (judged (goal.at.fill_lda-requires c).In-Is)

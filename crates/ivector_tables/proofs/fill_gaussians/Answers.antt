@@ -7,11 +7,11 @@ use Rattle.loops.proofs.Flat.{rows_none, rows_turn, rows_end, length_flat}
 use Rattle.loops.proofs.Cells.{row_in_lem}
 use Rattle.loops.proofs.Parts.{length_lent}
 use Rattle.definition.specs.Model.{quadratic_term}
-use Rattle.ivector_tables.specs.Steps.{mAt, sigma_inv_mAt}
+use Rattle.ivector_tables.specs.Steps.{m_at, sigma_inv_m_at}
 use Rattle.ivector_tables.proofs.Gmm.{few}
 use Rattle.definition.proofs.Lengths.{length_sigma, length_quadratic}
 use Rattle.ivector_tables.proofs.Rows.{sigma_by, quadratic_by}
-use Rattle.ivector_tables.proofs.Again.{m_start, sigma_start, m_at, m_is, m_next, sigma_at, sigma_is, sigma_next, sims_whole, quadratics_whole}
+use Rattle.ivector_tables.proofs.Again.{m_start, sigma_start, m_at_lem, m_is, m_next, sigma_at, sigma_is, sigma_next, sims_whole, quadratics_whole}
 use Rattle.ivector_tables.proofs.fill_gaussians.Goals.{In-loop-i, Start}
 use Rattle.ivector_tables.proofs.fill_gaussians.Goals as goal
 
@@ -20,10 +20,10 @@ clauses p = record { mat = p.0; sigma_at = p.1.0; d_bound = p.1.1 }
 
 -- the two tables by Gaussian, and how long each Gaussian's part of them is
 abbrev sims : Start → ℕ → List Float
-sims c = let a = c.args in sigma_inv_mAt a.s.now a.num_gauss a.d a.n a.m a.sigma_inv
+sims c = let a = c.args in sigma_inv_m_at a.s.now a.num_gauss a.d a.n a.m a.sigma_inv
 
 abbrev terms : Start → ℕ → List Float
-terms c i = let a = c.args in quadratic_term a.d a.n (mAt a.s.now a.num_gauss a.m i) (sims c i)
+terms c i = let a = c.args in quadratic_term a.d a.n (m_at a.s.now a.num_gauss a.m i) (sims c i)
 
 abbrev size : Start → ℕ
 size c = c.args.d * c.args.n
@@ -104,7 +104,7 @@ fill_gaussian-at-requires c =
     let loop = c.loop-i in
     let x = c.requires.extractor_in in
     clauses (
-      m_at x loop.i c.loop-i-test.true loop.at.m loop.invariant.4,
+      m_at_lem x loop.i c.loop-i-test.true loop.at.m loop.invariant.4,
       (
         sigma_at x loop.i c.loop-i-test.true loop.at.sigma_inv loop.invariant.5,
         (x.feat_high, x.ivec_high, omega (arith, loop.invariant.3, c.requires.n_in_bounds.2), sim_lent (goal.at.fill_gaussian-at-requires c).In-loop-i, u_lent (goal.at.fill_gaussian-at-requires c).In-loop-i),
