@@ -1,6 +1,6 @@
 #!/usr/bin/env python3
-"""names.py: what respell.py left half turned, or gave a lemma's ending to a field. Run it at the top of the repository, after sources.py; a second run
-changes nothing. A name is a word between blanks, brackets, dots and the like, so that a longer word with the same letters stays."""
+"""names.py: what respell.py left half turned, gave a lemma's ending to a field, or did not look at (the words that a source file imports under another
+name). Run it at the top of the repository, after sources.py; a second run changes nothing. It brings tools/spelling.tsv up to date too. A name is a word between blanks, brackets, dots and the like, so that a longer word with the same letters stays."""
 import glob, re
 
 EDGE = r'\s(){}\[\].;,@"«»`'
@@ -20,6 +20,18 @@ NAMES = [
 ]
 # a field of Tables, which has the plain name in Rust
 FIELD = ("sigma_inv_m_is", "sigma_inv_m")
+# words that a source file imports under another name, as `dot as dotOf`
+ALIAS = re.compile(r"\b(?:[a-z]+Of|isAhead)\b")
+# of tools/spelling.tsv: a row's old name, and its new one
+TABLE = {
+    "m-at": "m_at_lem",
+    "mAt": "m_at",
+    "sigmaInvMAt": "sigma_inv_m_at",
+    "mHead": "m_head",
+    "mBlocks": "m_blocks",
+    "sigma-inv-m": "sigma_inv_m",
+    "max-like": "largest",
+}
 
 
 def word(text, old, new):
@@ -38,6 +50,8 @@ def turned(name, text):
         if where in ("", crate):
             text = word(text, old, new)
     text = word(text, *FIELD)
+    if "/src/" in name or name.endswith(".edit"):
+        text = ALIAS.sub(lambda m: re.sub("([A-Z])", lambda c: "_" + c.group(1).lower(), m.group(0)), text)
     if crate == "ivector_info":
         # the field, not the lemma of check_files
         text = re.sub(r"((?:\.|pub )|^ +(?=row_in_lem = ))row_in_lem\b", r"\1row_in_is", text, flags=re.M)
@@ -54,3 +68,9 @@ for name in sorted(
     if new != text:
         open(name, "w", encoding="utf-8").write(new)
         print(name)
+
+table = dict(line.rstrip("\n").split("\t") for line in open("tools/spelling.tsv", encoding="utf-8"))
+table.update(TABLE)
+with open("tools/spelling.tsv", "w", encoding="utf-8") as out:
+    for old, new in sorted(table.items()):
+        out.write(f"{old}\t{new}\n")

@@ -4,7 +4,7 @@
 ghost use Rattle.std.specs.Prelude.{◌≡◌, true, false, ◌+◌, ◌-◌, ◌*◌, ◌≤◌, length};
 ghost use Rattle.loops.specs.Steps.{fill};
 ghost use Rattle.floats.specs.Operators.{◌+₃₂◌, ◌-₃₂◌, ◌*₃₂◌, f32, zero₃₂, at};
-ghost use Rattle.definition.specs.Posteriors.{loglikes as loglikesOf, min_post_for, weighed as weighedOf, unweighted as unweightedOf};
+ghost use Rattle.definition.specs.Posteriors.{loglikes as loglikes_of, min_post_for, weighed as weighed_of, unweighted as unweighted_of};
 
 use definition::{FrameWeight, IvectorOptions};
 
@@ -38,7 +38,7 @@ pub fn loglikes(
     b: &mut [f32],
 )
     requires { (length out.old ≡ g) × (length b.old ≡ g) × (g * d ≤ length means_invvars_t.now) × (g * d ≤ length inv_vars_t.now) × (d ≤ length x.now) × (g ≤ length gconsts.now) }
-    ensures { out.new ≡ loglikesOf g d gconsts.now means_invvars_t.now inv_vars_t.now x.now }
+    ensures { out.new ≡ loglikes_of g d gconsts.now means_invvars_t.now inv_vars_t.now x.now }
 {
     clear(out);
     clear(b);
@@ -59,7 +59,7 @@ pub fn min_post_for(o: IvectorOptions, weight: f32) -> f32
 
 // How a frame of this weight enters the statistics.
 pub fn weighed(o: IvectorOptions, weight: f32) -> FrameWeight
-    ensures { result ≡ weighedOf o weight }
+    ensures { result ≡ weighed_of o weight }
 {
     if weight == 0.0 {
         return FrameWeight::Skipped;
@@ -69,7 +69,7 @@ pub fn weighed(o: IvectorOptions, weight: f32) -> FrameWeight
 
 // How a frame enters the statistics where there are no weights.
 pub fn unweighted(o: IvectorOptions) -> FrameWeight
-    ensures { result ≡ unweightedOf o }
+    ensures { result ≡ unweighted_of o }
 {
     FrameWeight::Weighed(o.min_post, o.posterior_scale)
 }

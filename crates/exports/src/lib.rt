@@ -19,7 +19,7 @@ ghost use Rattle.program.specs.Session.{program};
 ghost use Rattle.register_bytes.specs.Board.{Board, board, block_refusal, board_step, FetchTaken};
 ghost use Rattle.settings.specs.Settings.{settings_of, load_with};
 ghost use Rattle.memory.specs.Memory.{dimensions_of, dimensions_answer, tables_needed, rooms_needed};
-ghost use Rattle.trigger_steps.specs.Round.{Utterance, Voices, Bench, bench, Round, round as roundOf, worked, round_outcome};
+ghost use Rattle.trigger_steps.specs.Round.{Utterance, Voices, Bench, bench, Round, round as round_of, worked, round_outcome};
 ghost use Rattle.ivector_info.specs.Load.{files_of, scratch_kept};
 ghost use Rattle.answers.specs.Answers.{load_answer, answered, new_stream_answer, new_table_answer};
 ghost use Rattle.exports.specs.Answers.{settings_answer, counted};
@@ -728,7 +728,7 @@ pub extern "C" fn shofrakin_round(
         let v : Voices = record { count = voices; enrolled = enrolled.now; limit = limit } in
         let b : Bench = bench s z silence (table_rooms known.old is_silence.old current_weight.old)
         delta_frames.old delta_weights.old 0 out.old in
-        let x : Round = roundOf t (length scratch.old) silence_phones.now w v b in
+        let x : Round = round_of t (length scratch.old) silence_phones.now w v b in
         (result.outcome ≡ round_outcome x.result)
         × (bench result.stream y result.silence (table_rooms known.new is_silence.new current_weight.new)
         delta_frames.new delta_weights.new result.changes out.new ≡ x.bench)

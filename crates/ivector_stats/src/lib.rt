@@ -7,7 +7,7 @@ ghost use Rattle.loops.specs.Steps.{fill};
 ghost use Rattle.floats.specs.Operators.{◌+₆₄◌, ◌*₆₄◌, ◌/₆₄◌, zero₆₄, at, sum₆₄};
 ghost use Rattle.floats.specs.Extremes.{larger};
 ghost use Rattle.definition.specs.Kaldi.{triangle};
-ghost use Rattle.definition.specs.Statistics.{Entry, new_stats, add_diagonal, rescaled, acc as accOf};
+ghost use Rattle.definition.specs.Statistics.{Entry, new_stats, add_diagonal, rescaled, acc as acc_of};
 ghost use Rattle.definition.specs.Solve.{prior_vector, get_ivector};
 ghost use Rattle.batch_sums.specs.Batch.{Slots, Sums};
 ghost use Rattle.ivector_stats.specs.Steps.{linear_term, linear_over, quadratic_over, stats_in};
@@ -178,7 +178,7 @@ pub fn acc(
 ) -> f64
     requires { (0 < dim) × (dim ≤ 128) × (length linear.old ≡ dim) × (length quadratic.old ≡ triangle dim) × (num_gauss * (d * dim) ≤ length sigma_inv_m.now) × (num_gauss * triangle dim ≤ length u.now) × Slots num_gauss d m seen.now tot.now sum.now }
     ensures { (es : List Entry) → Sums d es m seen.now tot.now sum.now
-        → stats_in result linear.new quadratic.new ≡ accOf d dim sigma_inv_m.now u.now prior_offset o.max_count es (stats_in num_frames linear.old quadratic.old) }
+        → stats_in result linear.new quadratic.new ≡ acc_of d dim sigma_inv_m.now u.now prior_offset o.max_count es (stats_in num_frames linear.old quadratic.old) }
 {
     let mut row = [0.0f64; 128];
     let tot_weight = acc_batch(

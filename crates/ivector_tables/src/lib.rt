@@ -11,7 +11,7 @@ ghost use Rattle.definition.specs.Options.{max_feat, max_ivector};
 ghost use Rattle.definition.specs.Reader.{numbers};
 ghost use Rattle.definition.specs.Kaldi.{triangle, matrix, packed_matrix};
 ghost use Rattle.definition.specs.Text.{line};
-ghost use Rattle.definition.specs.Model.{gconst as gconstOf, transposed, packed, sigma_inv_m, quadratic_term, gconst_offset, lda_offset_of};
+ghost use Rattle.definition.specs.Model.{gconst as gconst_of, transposed, packed, sigma_inv_m, quadratic_term, gconst_offset, lda_offset_of};
 ghost use Rattle.kaldi_io.specs.Answers.{place_of, width, Ready};
 ghost use Rattle.kaldi_files.specs.Answers.{GmmIn, ExtractorIn};
 ghost use Rattle.kaldi_text.specs.Answers.{cells, RowIn};
@@ -58,7 +58,7 @@ fn gconst(
 ) -> f32
     requires gmm_in { GmmIn s.now num_gauss d weights weights_double means_invvars means_double inv_vars vars_double }
     requires offset_value { (offset ≡ gconst_offset d) × (g < num_gauss) }
-    ensures { result ≡ gconstOf (gmm_at s.now num_gauss d weights weights_double means_invvars means_double inv_vars vars_double) g }
+    ensures { result ≡ gconst_of (gmm_at s.now num_gauss d weights weights_double means_invvars means_double inv_vars vars_double) g }
 {
     let n = num_gauss * d;
     let start = g * d;
@@ -86,7 +86,7 @@ pub fn fill_gconsts(
 )
     requires gmm_in { GmmIn s.now num_gauss d weights weights_double means_invvars means_double inv_vars vars_double }
     requires num_gauss_in_bounds { num_gauss ≤ length out.old }
-    ensures { out.new ≡ over (build num_gauss (gconstOf (gmm_at s.now num_gauss d weights weights_double means_invvars means_double inv_vars vars_double))) out.old }
+    ensures { out.new ≡ over (build num_gauss (gconst_of (gmm_at s.now num_gauss d weights weights_double means_invvars means_double inv_vars vars_double))) out.old }
 {
     let offset = gconst_offset(d);
     for g in 0..num_gauss {

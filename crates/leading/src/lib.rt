@@ -4,12 +4,12 @@
 ghost use Rattle.std.specs.Prelude.{◌≡◌, true, false, ℕ, ◌+◌, ◌-◌, ◌<◌, ◌≤◌, length, get_or, set, take};
 ghost use Rattle.loops.specs.Lists.{those};
 ghost use Rattle.floats.specs.Operators.{f32, at};
-ghost use Rattle.definition.specs.Posteriors.{ahead as isAhead, insert as insertOf};
+ghost use Rattle.definition.specs.Posteriors.{ahead as is_ahead, insert as insert_of};
 ghost use Rattle.leading.specs.Steps.{held, Falling, Place, Moved, slid};
 
 // Whether the posterior p is ahead of q: larger; a NaN stands last.
 fn ahead(p: f32, q: f32) -> bool
-    ensures { result ≡ isAhead (0, p) (0, q) }
+    ensures { result ≡ is_ahead (0, p) (0, q) }
 {
     if p != p {
         return false;
@@ -42,7 +42,7 @@ fn slide(g: usize, p: f32, first: usize, n: usize, chosen: &mut [usize], posts: 
 // Whether p belongs in front of the first n.
 fn leads(p: f32, n: usize, posts: &[f32]) -> bool
     requires { n ≤ length posts.now }
-    ensures { result ≡ true → 0 < n → isAhead (0, p) (0, at posts.now 0) ≡ true }
+    ensures { result ≡ true → 0 < n → is_ahead (0, p) (0, at posts.now 0) ≡ true }
 {
     if n == 0 {
         return true;
@@ -53,7 +53,7 @@ fn leads(p: f32, n: usize, posts: &[f32]) -> bool
 // Whether p is ahead of the last of n, and so of one of them.
 fn enters(p: f32, n: usize, posts: &[f32]) -> bool
     requires { (n ≤ length posts.now) × Falling n posts.now }
-    ensures { (result ≡ true → (0 < n) × (isAhead (0, p) (0, at posts.now (n - 1)) ≡ true)) × (result ≡ false → (k : ℕ) → k < n → isAhead (0, p) (0, at posts.now k) ≡ false) }
+    ensures { (result ≡ true → (0 < n) × (is_ahead (0, p) (0, at posts.now (n - 1)) ≡ true)) × (result ≡ false → (k : ℕ) → k < n → is_ahead (0, p) (0, at posts.now k) ≡ false) }
 {
     if n == 0 {
         return false;
@@ -139,7 +139,7 @@ pub fn insert(
     posts: &mut [f32],
 ) -> usize
     requires { (n ≤ num_gselect) × (num_gselect ≤ length chosen.old) × (num_gselect ≤ length posts.old) × Falling n posts.old }
-    ensures { (held result chosen.new posts.new ≡ take num_gselect (insertOf (g, p) (held n chosen.old posts.old))) × (result ≤ num_gselect) }
+    ensures { (held result chosen.new posts.new ≡ take num_gselect (insert_of (g, p) (held n chosen.old posts.old))) × (result ≤ num_gselect) }
 {
     if n < num_gselect {
         settle(g, p, n, chosen, posts);

@@ -8,9 +8,9 @@ ghost use Rattle.loops.specs.Steps.{done};
 ghost use Rattle.loops.specs.Lists.{build};
 ghost use Rattle.floats.specs.Operators.{◌-₆₄◌, ◌*₆₄◌, at};
 ghost use Rattle.definition.specs.Kaldi.{triangle};
-ghost use Rattle.definition.specs.Solve.{dot as dotOf, factor as factorOf, forward as forwardOf, backward as backwardOf, solved_or, begun, residual, turn, linear_cgd};
+ghost use Rattle.definition.specs.Solve.{dot as dot_of, factor as factor_of, forward as forward_of, backward as backward_of, solved_or, begun, residual, turn, linear_cgd};
 ghost use Rattle.packed_matrix.specs.Steps.{square_of};
-ghost use Rattle.linear.specs.Steps.{started, stepped as steppedOf, recomputed as recomputedOf, is_far, is_last, is_worse, cgd_of, turn_end, is_on};
+ghost use Rattle.linear.specs.Steps.{started, stepped as stepped_of, recomputed as recomputed_of, is_far, is_last, is_worse, cgd_of, turn_end, is_on};
 
 use basics::{add_scaled, clear, difference};
 use packed_matrix::{dot, lay_out, packed_index, weighted_rows};
@@ -18,7 +18,7 @@ use packed_matrix::{dot, lay_out, packed_index, weighted_rows};
 // The lower factor L of A = L Lᵗ, by rows of n, or false at the first pivot that is at most 0.
 fn factor(a: &[f64], n: usize, l: &mut [f64]) -> bool
     requires { (n ≤ 128) × (triangle n ≤ length a.now) × (length l.old ≡ n * n) }
-    ensures { done result l.new ≡ factorOf a.now n }
+    ensures { done result l.new ≡ factor_of a.now n }
 {
     clear(l, n * n);
     let mut ok = true;
@@ -49,7 +49,7 @@ fn factor(a: &[f64], n: usize, l: &mut [f64]) -> bool
 // L y = b, from the front.
 fn forward(l: &[f64], n: usize, b: &[f64], y: &mut [f64])
     requires { (n * n ≤ length l.now) × (n ≤ length b.now) × (length y.old ≡ n) }
-    ensures { y.new ≡ forwardOf n l.now b.now }
+    ensures { y.new ≡ forward_of n l.now b.now }
 {
     clear(y, n);
     for i in 0..n {
@@ -65,7 +65,7 @@ fn forward(l: &[f64], n: usize, b: &[f64], y: &mut [f64])
 // Lᵗ x = y, from the back.
 fn backward(l: &[f64], n: usize, y: &[f64], x: &mut [f64])
     requires { (n * n ≤ length l.now) × (n ≤ length y.now) × (length x.old ≡ n) }
-    ensures { x.new ≡ backwardOf n l.now y.now }
+    ensures { x.new ≡ backward_of n l.now y.now }
 {
     clear(x, n);
     for t in 0..n {
@@ -89,7 +89,7 @@ pub fn cholesky_solve(
     y: &mut [f64],
 ) -> bool
     requires { (n ≤ 128) × (triangle n ≤ length a.now) × (n ≤ length b.now) × (length x.old ≡ n) × (length l.old ≡ n * n) × (length y.old ≡ n) }
-    ensures { (x.new ≡ solved_or x.old n b.now (factorOf a.now n)) × (result ≡ is_on (factorOf a.now n)) }
+    ensures { (x.new ≡ solved_or x.old n b.now (factor_of a.now n)) × (result ≡ is_on (factor_of a.now n)) }
 {
     if factor(a, n, l) {
         forward(l, n, b, y);
@@ -157,7 +157,7 @@ impl CgdState {
 
     fn stepped(mut self, r_next: f64) -> Self
         requires { self.k < 200 }
-        ensures { result ≡ steppedOf self r_next }
+        ensures { result ≡ stepped_of self r_next }
     {
         self.r_cur = r_next;
         self.k += 1;
@@ -175,7 +175,7 @@ impl CgdState {
     }
 
     fn recomputed(mut self, r_next: f64) -> Self
-        ensures { result ≡ recomputedOf self r_next }
+        ensures { result ≡ recomputed_of self r_next }
     {
         self.r_cur = r_next;
         self.r_recompute = r_next;
@@ -227,7 +227,7 @@ fn recompute(
     s: CgdState,
 ) -> CgdState
     requires { (n * n ≤ length square.now) × (n ≤ length b.now) × (n ≤ length x.now) × (length r.old ≡ n) × (length ap.old ≡ n) }
-    ensures { ((a : List Float) → square.now ≡ square_of n a → r.new ≡ (if is_far s then residual a n b.now x.now else r.old)) × (result ≡ (if is_far s then recomputedOf s (dotOf n r.new r.new) else s)) }
+    ensures { ((a : List Float) → square.now ≡ square_of n a → r.new ≡ (if is_far s then residual a n b.now x.now else r.old)) × (result ≡ (if is_far s then recomputed_of s (dot_of n r.new r.new) else s)) }
 {
     if s.is_far() {
         weighted_rows(square, n, n, n, x, ap);
@@ -298,7 +298,7 @@ fn exact_or_start(
     y: &mut [f64],
 )
     requires { (n ≤ 128) × (triangle n ≤ length a.now) × (n ≤ length b.now) × (length x.old ≡ n) × (length x_orig.now ≡ n) × (length l.old ≡ n * n) × (length y.old ≡ n) }
-    ensures { x.new ≡ solved_or x_orig.now n b.now (factorOf a.now n) }
+    ensures { x.new ≡ solved_or x_orig.now n b.now (factor_of a.now n) }
 {
     if !cholesky_solve(a, n, b, x, l, y) {
         copy(x_orig, n, x);

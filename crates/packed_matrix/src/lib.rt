@@ -8,7 +8,7 @@ ghost use Rattle.loops.specs.Steps.{fill};
 ghost use Rattle.floats.specs.Operators.{◌+₆₄◌, ◌*₆₄◌, zero₆₄, at, sum₆₄};
 ghost use Rattle.definition.specs.Kaldi.{triangle};
 ghost use Rattle.definition.specs.Model.{packed};
-ghost use Rattle.definition.specs.Solve.{dot as dotOf};
+ghost use Rattle.definition.specs.Solve.{dot as dot_of};
 ghost use Rattle.packed_matrix.specs.Steps.{table_row, square_of};
 
 use basics::{add_scaled, clear};
@@ -145,7 +145,7 @@ pub fn weighted_rows(rows: &[f64], d: usize, s: usize, w: usize, x: &[f64], out:
 
 pub fn dot(a: &[f64], b: &[f64], n: usize) -> f64
     requires { (n ≤ length a.now) × (n ≤ length b.now) }
-    ensures { result ≡ dotOf n a.now b.now }
+    ensures { result ≡ dot_of n a.now b.now }
 {
     let mut s = -0.0;
     for i in 0..n {

@@ -17,7 +17,7 @@ use rooms::{
     Quadratic, Rows, Scratch, SigmaInvM, U, WaitingFrames, WaitingWeights,
 };
 use session::{Session, advanced, ends_at, is_setting, new_session, settings};
-use std::io::{self, BufWriter, Read, Write};
+use std::io::{self, Read, Write};
 use stream::{fetch_line, is_fetch, new_line, ring_line};
 
 // One line, of a model's.
@@ -339,7 +339,5 @@ fn in_room(
 
 fn main(rt: HostRuntime) -> io::Result<()> {
     let mut text = [0u8; 1474560];
-    let mut writer = BufWriter::new(rt.alloc(), io::writer(&rt))?;
-    in_room(&mut rt.reader(), &mut writer, &mut text)?;
-    writer.flush()
+    in_room(&mut rt.reader(), &mut io::writer(&rt), &mut text)
 }

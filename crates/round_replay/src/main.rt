@@ -18,7 +18,7 @@ use rooms::{
 };
 use round::round_line;
 use session::{Session, forge_line, forge_table_line, new_session, settings};
-use std::io::{self, BufWriter, Read, Write};
+use std::io::{self, Read, Write};
 
 // A line that is lent a silence table's rooms at most.
 fn table_lines(
@@ -255,7 +255,5 @@ fn in_room(
 
 fn main(rt: HostRuntime) -> io::Result<()> {
     let mut text = [0u8; 262144];
-    let mut writer = BufWriter::new(rt.alloc(), io::writer(&rt))?;
-    in_room(&mut rt.reader(), &mut writer, &mut text)?;
-    writer.flush()
+    in_room(&mut rt.reader(), &mut io::writer(&rt), &mut text)
 }

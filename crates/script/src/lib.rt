@@ -1,4 +1,4 @@
-// Reads a script: its numbers, lists and lines, and the floats whose bits it writes. Every program that plays scripts reads with it.
+// Reads a script: its bytes from a reader, then its numbers, lists and lines, and the floats whose bits it writes. Every program that plays scripts reads with it.
 #![tactic(auto)]
 
 ghost use Rattle.std.specs.Prelude.{◌≡◌, ◌<◌, ◌≤◌, ◌%◌, length, take, drop, get_or, set, IfOk};
@@ -26,7 +26,8 @@ pub struct Signed {
 
 // ---- input
 
-// Reads until the room is full or the input ends; how many bytes that are.
+// Reads until the room is full or the input ends; how many bytes that are. A read that fails ends it with that error: some bytes may be in the room by
+// then, and nothing is said of how many.
 pub fn read_full<R: Read>(reader: &mut R, room: &mut [u8]) -> io::Result<usize>
     ensures bound { IfOk result (λ n. n ≤ length room.new) }
     ensures bytes { IfOk result (λ n. Consumes (R.remaining reader.old) (R.remaining reader.new) (take n room.new)) }

@@ -3,7 +3,7 @@
 #![tactic(auto)]
 
 use definition::{DecoderFrame, InputFrame, NewTable, SilenceAnswer, SilenceWeighting};
-use std::io::{self, BufWriter, Read, Write};
+use std::io::{self, Read, Write};
 
 type Phones = [i32; 128];
 
@@ -463,7 +463,5 @@ fn in_room(
 
 fn main(rt: HostRuntime) -> io::Result<()> {
     let mut text = [0u8; 262144];
-    let mut writer = BufWriter::new(rt.alloc(), io::writer(&rt))?;
-    in_room(&mut rt.reader(), &mut writer, &mut text)?;
-    writer.flush()
+    in_room(&mut rt.reader(), &mut io::writer(&rt), &mut text)
 }

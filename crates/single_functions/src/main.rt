@@ -7,7 +7,7 @@ use definition::IvectorOptions;
 use kaldi_text::Cmvn;
 use nearest_voice::NearestVoice;
 use settings::Settings;
-use std::io::{self, BufWriter, Read, Write};
+use std::io::{self, Read, Write};
 
 fn say(writer: &mut impl Write, words: &[u8]) -> io::Result<()> {
     writer.write_all(words)
@@ -563,7 +563,5 @@ fn in_room(
 
 fn main(rt: HostRuntime) -> io::Result<()> {
     let mut text = [0u8; 262144];
-    let mut writer = BufWriter::new(rt.alloc(), io::writer(&rt))?;
-    in_room(&mut rt.reader(), &mut writer, &mut text)?;
-    writer.flush()
+    in_room(&mut rt.reader(), &mut io::writer(&rt), &mut text)
 }

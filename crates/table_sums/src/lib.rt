@@ -5,11 +5,11 @@
 ghost use Rattle.std.specs.Prelude.{◌≡◌, ◌+◌, ◌*◌, ◌<◌, ◌≤◌, length};
 ghost use Rattle.loops.specs.Steps.{fill, from};
 ghost use Rattle.floats.specs.Operators.{◌+₃₂◌, ◌*₃₂◌, at, sum₃₂};
-ghost use Rattle.table_sums.specs.Factor.{factor as factorOf, row};
+ghost use Rattle.table_sums.specs.Factor.{factor as factor_of, row};
 
 // What a row is times: x, or its square.
 fn factor(squared: bool, x: f32) -> f32
-    ensures { result ≡ factorOf squared x }
+    ensures { result ≡ factor_of squared x }
 {
     if squared {
         return x * x;
@@ -80,7 +80,7 @@ fn row_at(table: &[f32], n: usize, k: usize) -> &[f32]
 // The next rows from row k on: as many as are left, at most four; and where it stops.
 fn add_next(table: &[f32], x: &[f32], squared: bool, k: usize, d: usize, sum: &mut [f32]) -> usize
     requires { (k < d) × (d * length sum.old ≤ length table.now) × (d ≤ length x.now) }
-    ensures { (k < result) × (result ≤ d) × (sum.new ≡ fill (length sum.old) (λ m. from k result (λ i a. a +₃₂ at table.now (i * length sum.old + m) *₃₂ factorOf squared (at x.now i)) (at sum.old m)) sum.old) }
+    ensures { (k < result) × (result ≤ d) × (sum.new ≡ fill (length sum.old) (λ m. from k result (λ i a. a +₃₂ at table.now (i * length sum.old + m) *₃₂ factor_of squared (at x.now i)) (at sum.old m)) sum.old) }
 {
     let n = sum.len();
     let r0 = row_at(table, n, k);
@@ -111,7 +111,7 @@ fn add_next(table: &[f32], x: &[f32], squared: bool, k: usize, d: usize, sum: &m
 // The first d rows, row k times x[k] or its square.
 pub fn add_rows(table: &[f32], x: &[f32], squared: bool, d: usize, sum: &mut [f32])
     requires { (d * length sum.old ≤ length table.now) × (d ≤ length x.now) }
-    ensures { sum.new ≡ fill (length sum.old) (λ m. sum₃₂ (at sum.old m) d (λ k. at table.now (k * length sum.old + m) *₃₂ factorOf squared (at x.now k))) sum.old }
+    ensures { sum.new ≡ fill (length sum.old) (λ m. sum₃₂ (at sum.old m) d (λ k. at table.now (k * length sum.old + m) *₃₂ factor_of squared (at x.now k))) sum.old }
 {
     let mut k = 0;
     while k < d {

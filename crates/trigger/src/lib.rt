@@ -6,7 +6,7 @@ ghost use Rattle.std.specs.Prelude.{◌≡◌, false, length};
 ghost use Rattle.definition.specs.Model.{Tables, tables_from};
 ghost use Rattle.definition.specs.Silence.{table_rooms};
 ghost use Rattle.program.specs.Rooms.{Rings, rings_from, estimate_from, Rooms, rooms_from};
-ghost use Rattle.trigger_steps.specs.Round.{Utterance, Voices, Bench, bench, with_rings, with_fetch, Round, round_from, ended, after, forgets, cut, pushed, push_all, frame_length, pushes, last_steps, round as roundOf, worked};
+ghost use Rattle.trigger_steps.specs.Round.{Utterance, Voices, Bench, bench, with_rings, with_fetch, Round, round_from, ended, after, forgets, cut, pushed, push_all, frame_length, pushes, last_steps, round as round_of, worked};
 ghost use Rattle.trigger.specs.Answer.{round_answer};
 
 use definition::{IvectorStream, SilenceWeighting};
@@ -270,7 +270,7 @@ pub fn round(
         delta_frames.old delta_weights.old 0 out.old in
         (round_from result.result (bench result.stream y result.silence (table_rooms known.new is_silence.new current_weight.new)
         delta_frames.new delta_weights.new result.changes out.new)
-        ≡ roundOf t (length scratch.old) silence_phones.now w v b)
+        ≡ round_of t (length scratch.old) silence_phones.now w v b)
         × (worked result.result ≡ false → scratch.new ≡ scratch.old)) }
 {
     let heard = hear(

@@ -4,7 +4,7 @@
 
 ghost use Rattle.std.specs.Prelude.{◌≡◌, List, ◌≤◌, length, Float};
 ghost use Rattle.definition.specs.Silence.{table_rooms};
-ghost use Rattle.trigger_steps.specs.Round.{Utterance, Bench, with_table, Round, ended, after, decoded as decodedOf, notes, ready as readyOf, weighs, result_of, round_outcome};
+ghost use Rattle.trigger_steps.specs.Round.{Utterance, Bench, with_table, Round, ended, after, decoded as decoded_of, notes, ready as ready_of, weighs, result_of, round_outcome};
 
 use definition::{DecoderFrame, InputFrame, SilenceWeighting};
 use nearest_voice::NearestVoice;
@@ -33,7 +33,7 @@ pub struct RoundOutcome {
 
 // The frames decoded.
 fn decoded(ends: &[usize]) -> usize
-    ensures { result ≡ decodedOf ends.now }
+    ensures { result ≡ decoded_of ends.now }
 {
     let mut last = 0;
     for i in 0..ends.len() {
@@ -68,9 +68,9 @@ pub fn weigh_path(
 ) -> Weighed
     ensures { (result.refusal ≡ 0 → (result.changes ≤ length delta_frames.old) × (result.changes ≤ length delta_weights.old)) × ((b : Bench) (xs : List Float) (next : Bench → Round) →
         let u : Utterance = record { start = start; numbers = xs; phones = phones.now; starts = starts.now; ends = ends.now } in
-        readyOf b.stream ≡ ready →
+        ready_of b.stream ≡ ready →
         after 3 (notes silence_phones.now u (with_table b silence (table_rooms known.old is_silence.old current_weight.old) delta_frames.old delta_weights.old 0))
-        (λ c. after 4 (weighs (readyOf c.stream) start c) next)
+        (λ c. after 4 (weighs (ready_of c.stream) start c) next)
         ≡ ended result.step result.refusal
         (with_table b result.silence (table_rooms known.new is_silence.new current_weight.new) delta_frames.new delta_weights.new result.changes) next) }
 {

@@ -6,7 +6,7 @@ ghost use Rattle.loops.specs.Lists.{build};
 ghost use Rattle.loops.specs.Refusal.{taken};
 ghost use Rattle.loops.specs.Ring.{put};
 ghost use Rattle.definition.specs.Text.{digits_value};
-ghost use Rattle.try_load.specs.Draws.{draw as drawOf, draws, number_of, numbers_of, frame_of, weight_of, state_after, drawing_at, DrawnLists, drawn_lists, filled, size_refusal, list_refusal, fill_refusal};
+ghost use Rattle.try_load.specs.Draws.{draw as draw_of, draws, number_of, numbers_of, frame_of, weight_of, state_after, drawing_at, DrawnLists, drawn_lists, filled, size_refusal, list_refusal, fill_refusal};
 ghost use Rattle.try_load.specs.Input.{a_number, asked_for, asked_of};
 ghost use Rattle.try_load.specs.Steps.{FoundIn};
 
@@ -14,7 +14,7 @@ use kaldi_text::{digit_value, skip_digits, skip_spaces};
 
 // The generator's next result, which is its state.
 pub fn draw(s: u32) -> u32
-    ensures { result ≡ drawOf s }
+    ensures { result ≡ draw_of s }
 {
     let a = s ^ (s << 13);
     let b = a ^ (a >> 17);
@@ -132,8 +132,8 @@ pub struct Place {
 // The place after one call more.
 pub fn next_place(dim: usize, p: Place) -> Place
     requires { p.pushes < 10000 }
-    ensures { (result.state ≡ state_after dim (drawOf p.state % 5) (drawOf p.state))
-        × (result.pushes ≡ p.pushes + (if eqb (drawOf p.state % 5) 0 then 1 else 0)) }
+    ensures { (result.state ≡ state_after dim (draw_of p.state % 5) (draw_of p.state))
+        × (result.pushes ≡ p.pushes + (if eqb (draw_of p.state % 5) 0 then 1 else 0)) }
 {
     let s = draw(p.state);
     let kind = s % 5;

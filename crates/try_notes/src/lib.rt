@@ -4,7 +4,7 @@
 
 ghost use Rattle.std.specs.Prelude.{◌≡◌, ◌%◌, ◌≤◌, ◌<◌, length, get_or};
 ghost use Rattle.run_calls.specs.Turns.{decoded};
-ghost use Rattle.try_load.specs.Draws.{draw as drawOf, drawing, call_in};
+ghost use Rattle.try_load.specs.Draws.{draw as draw_of, drawing, call_in};
 ghost use Rattle.try_notes.specs.Steps.{counted, tally, noted};
 
 use definition::StreamAnswer;
@@ -19,7 +19,7 @@ pub fn draw_call(
     samples: &mut [f32],
 ) -> CodedCall
     requires { (0 < dim) × (dim ≤ length samples.old) × (0 < length lists.old) × (pushes ≤ 10000) }
-    ensures { (decoded result lists.new samples.new 1 ≡ call_in dim (drawing state pushes)) × (result.kind ≡ drawOf state % 5) }
+    ensures { (decoded result lists.new samples.new 1 ≡ call_in dim (drawing state pushes)) × (result.kind ≡ draw_of state % 5) }
 {
     let s = try_load::draw(state);
     let kind = s % 5;

@@ -7,8 +7,8 @@
 ghost use Rattle.std.specs.Prelude.{◌<◌};
 
 use definition::{IvectorInfo, IvectorOptions, Loaded};
-use std::env;
-use std::io::{self, BufWriter, Read, Write};
+use std::env::{Env, FillError};
+use std::io::{self, Read, Write};
 use try_load::Asked;
 use try_play::Totals;
 
@@ -435,13 +435,15 @@ fn read_one(reader: &mut impl Read, writer: &mut impl Write, text: &mut [u8]) ->
 }
 
 fn main(rt: HostRuntime) -> io::Result<()> {
-    let mut writer = BufWriter::new(rt.alloc(), io::writer(&rt))?;
-    if env::args(&rt)?.len() > 1 {
-        let mut text = [0u8; 262144];
-        read_script(&mut rt.reader(), &mut writer, &mut text)?;
-        return writer.flush();
+    let mut writer = io::writer(&rt);
+    match rt.arg(1, &mut [0u8; 1]) {
+        Err(FillError::NotPresent) => {
+            let mut text = [0u8; 101];
+            read_one(&mut rt.reader(), &mut writer, &mut text)
+        }
+        _ => {
+            let mut text = [0u8; 262144];
+            read_script(&mut rt.reader(), &mut writer, &mut text)
+        }
     }
-    let mut text = [0u8; 101];
-    read_one(&mut rt.reader(), &mut writer, &mut text)?;
-    writer.flush()
 }

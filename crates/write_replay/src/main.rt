@@ -6,7 +6,7 @@
 
 use definition::IvectorOptions;
 use model_bytes::{ModelSizes, Written};
-use std::io::{self, BufWriter, Read, Write};
+use std::io::{self, Read, Write};
 
 fn say(writer: &mut impl Write, words: &[u8]) -> io::Result<()> {
     writer.write_all(words)
@@ -444,7 +444,5 @@ fn in_room(
 
 fn main(rt: HostRuntime) -> io::Result<()> {
     let mut text = [0u8; 131072];
-    let mut writer = BufWriter::new(rt.alloc(), io::writer(&rt))?;
-    in_room(&mut rt.reader(), &mut writer, &mut text)?;
-    writer.flush()
+    in_room(&mut rt.reader(), &mut io::writer(&rt), &mut text)
 }
