@@ -197,7 +197,7 @@ fn played(arguments: &[&str], bytes: &[u8]) -> String {
         .stdin(Stdio::piped())
         .stdout(Stdio::piped())
         .spawn()
-        .expect("the program try_program: `rt run` in crates/try_program builds it");
+        .expect("the program try_program: `echo 1 40 1 | rt run` in crates/try_program builds it");
     let mut to = p.stdin.take().unwrap();
     let all = bytes.to_vec();
     let h = std::thread::spawn(move || to.write_all(&all));
