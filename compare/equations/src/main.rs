@@ -448,7 +448,7 @@ fn main() {
         match v[0] {
             "z" => sessions.push(vec![]),
             c => {
-                let q = "mkspfwdnvtba".find(c).map_or("", |_| answer.next().expect("an answer"));
+                let q = "mkspfwdvtba".find(c).map_or("", |_| answer.next().expect("an answer"));
                 sessions.last_mut().unwrap().push((v, q.split(' ').collect()));
             }
         }
