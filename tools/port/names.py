@@ -22,7 +22,7 @@ NAMES = [
 FIELD = ("sigma_inv_m_is", "sigma_inv_m")
 # words that a source file imports under another name, as `dot as dotOf`
 ALIAS = re.compile(r"\b(?:[a-z]+Of|isAhead)\b")
-# of tools/spelling.tsv: a row's old name, and its new one
+# of tools/spelling.tsv: a row's old name, and its new one (of `gmm-in`, `extractor-in` and `row_in` the row has the lemma's; the field ends in `_is`)
 TABLE = {
     "m-at": "m_at_lem",
     "mAt": "m_at",
@@ -31,6 +31,8 @@ TABLE = {
     "mBlocks": "m_blocks",
     "sigma-inv-m": "sigma_inv_m",
     "max-like": "largest",
+    "row_room": "row_room_is",
+    "of_width": "of_width_is",
 }
 
 
