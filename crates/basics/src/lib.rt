@@ -63,9 +63,7 @@ pub fn clear(x: &mut [f64], n: usize)
     requires { length x.old ≡ n }
     ensures { x.new ≡ replicate n zero₆₄ }
 {
-    for i in 0..n {
-        x[i] = 0.0;
-    }
+    x.fill(0.0);
 }
 
 // Zeros in the first n places.
@@ -73,10 +71,10 @@ pub fn clear_front(x: &mut [f64], n: usize)
     requires { n ≤ length x.old }
     ensures { x.new ≡ over (replicate n zero₆₄) x.old }
 {
-    clear(&mut x[..n], n);
+    x[..n].fill(0.0);
 }
 
-// v times a row, added to another.
+// v times a row, added to another. By index, here and below: through `iter_mut().zip(..)` a proof knows no element of `out`.
 pub fn add_scaled(v: f64, row: &[f64], out: &mut [f64])
     requires { length out.old ≤ length row.now }
     ensures { out.new ≡ fill (length out.old) (λ c. at out.old c +₆₄ v *₆₄ at row.now c) out.old }

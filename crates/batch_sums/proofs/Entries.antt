@@ -31,11 +31,11 @@ module _ (es : List Entry) (e : Entry) where
         ∙ total_append zero₆₄ (map v (those (of g) es)) _
 
     pub sum_own : eqb e.gauss g ≡ true → sum_for (es ++ (e ∷ [])) g v ≡ sum_for es g v +₆₄ v e
-    unfolding those total₆₄
+    unfolding those
     sum_own t = sum_split ∙ rw t
 
     pub sum_other : eqb e.gauss g ≡ false → sum_for (es ++ (e ∷ [])) g v ≡ sum_for es g v
-    unfolding those total₆₄
+    unfolding those
     sum_other t = sum_split ∙ rw t
 
 -- ---- a Gaussian that was not seen has no entry
@@ -71,5 +71,5 @@ unseen_from g gs (e ∷ es) h =
     (q.0, rw q.1 r.1)
 
 pub sum_unseen : (es : List Entry) (g : ℕ) (v : Entry → Float) → any_of (eqb g) (seen es) ≡ false → sum_for es g v ≡ zero₆₄
-unfolding seen sum_for total₆₄
+unfolding seen sum_for
 sum_unseen es g v h = rw (unseen_from g [] es h).1

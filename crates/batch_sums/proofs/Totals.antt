@@ -7,12 +7,10 @@ use Rattle.loops.proofs.Folds.{iter_foldl}
 use Rattle.floats.specs.Operators.{◌+₆₄◌, sum₆₄, total₆₄}
 
 pub total_append : (s : Float) (xs ys : List Float) → total₆₄ s (xs ++ ys) ≡ total₆₄ (total₆₄ s xs) ys
-unfolding total₆₄
 total_append s [] ys = refl
 total_append s (x ∷ xs) ys = total_append (s +₆₄ x) xs ys
 
 total_foldl : (s : Float) (xs : List Float) → total₆₄ s xs ≡ foldl ◌+₆₄◌ s xs
-unfolding total₆₄
 total_foldl s [] = refl
 total_foldl s (x ∷ xs) = total_foldl (s +₆₄ x) xs
 

@@ -14,22 +14,17 @@ ghost use Rattle.batch_sums.specs.Batch.{entry_of, scaled_entry, Slots, Sums, Lo
 
 use definition::{FrameWeight, IvectorOptions};
 
-// Where Gaussian g stands among the m seen; m where it was not seen.
-fn slot(g: usize, m: usize, seen: &[usize]) -> usize
-    requires { m ≤ length seen.now }
-    ensures { (result ≤ m) × ((k : ℕ) → k < result → slice_index seen.now k ≢ g) × (result < m → slice_index seen.now result ≡ g) }
+// Where Gaussian g stands among those seen; how many were seen where it was not.
+fn slot(g: usize, seen: &[usize]) -> usize
+    ensures most { result ≤ length seen.now }
+    ensures none_before { (k : ℕ) → k < result → slice_index seen.now k ≢ g }
+    ensures here { result < length seen.now → slice_index seen.now result ≡ g }
 {
-    let mut k = 0;
-    while k < m {
-        if seen[k] == g {
-            return k;
-        }
-        k += 1;
-    }
-    k
+    seen.iter().position(|s| *s == g).unwrap_or(seen.len())
 }
 
-// The features x times w, added to a row.
+// The features x times w, added to a row. By index: of what a loop over `iter_mut().zip` writes, an invariant names no element (tried).
+#[tactic(auto, using(loops::proofs::Loop::loops))]
 fn add_features(w: f64, x: &[f32], row: &mut [f64])
     requires { length row.old ≤ length x.now }
     ensures { row.new ≡ fill (length row.old) (λ a. at row.old a +₆₄ w *₆₄ at x.now a) row.old }
@@ -48,7 +43,7 @@ fn begin(g: usize, k: usize, d: usize, seen: &mut [usize], tot: &mut [f64], sum:
     tot[k] = 0.0;
     let start = k * d;
     let end = start + d;
-    basics::clear(&mut sum[start..end], d);
+    sum[start..end].fill(0.0);
 }
 
 // The weight w and the features x times w go to slot k.
@@ -79,7 +74,7 @@ fn enter(
         × ((es : List Entry) → Sums d es m seen.old tot.old sum.old
         → Sums d (es ++ (entry_of x.now (g, w) ∷ [])) result seen.new tot.new sum.new) }
 {
-    let k = slot(g, m, seen);
+    let k = slot(g, &seen[..m]);
     if k < m {
         give(k, w, x, d, tot, sum);
         return m;

@@ -1,9 +1,15 @@
-// The types that the calls exchange. No code: the definitions stand in specs/.
+// The types that the calls exchange, and what they refuse. The definitions stand in specs/.
 #![tactic(auto)]
+
+mod lent;
+mod refusal;
+
+pub use lent::{LentFrames, LentTables, LentWaiting};
+pub use refusal::{Refusal, need, number_or_0};
 
 // The options. Their limits: specs/Options.antt.
 #[repr(C)]
-#[derive(Clone, Copy)]
+#[derive(Clone, Copy, Debug, Default, PartialEq)]
 pub struct IvectorOptions {
     pub left_context: usize,
     pub right_context: usize,
@@ -19,7 +25,7 @@ pub struct IvectorOptions {
 
 // A model's sizes. The GMM has at most as many Gaussians as the extractor.
 #[repr(C)]
-#[derive(Clone, Copy)]
+#[derive(Clone, Copy, Debug, Default, PartialEq, Eq)]
 pub struct Dimensions {
     pub num_gauss: usize,
     pub ext_gauss: usize,
@@ -31,7 +37,7 @@ pub struct Dimensions {
 
 // The lengths of the lent tables that a model is loaded into.
 #[repr(C)]
-#[derive(Clone, Copy)]
+#[derive(Clone, Copy, Debug, Default, PartialEq, Eq)]
 pub struct TableLengths {
     pub gconsts: usize,
     pub means_invvars_t: usize,
@@ -45,7 +51,7 @@ pub struct TableLengths {
 
 // A loaded model's record. Its tables are lent to each call that reads them.
 #[repr(C)]
-#[derive(Clone, Copy)]
+#[derive(Clone, Copy, Debug, Default, PartialEq)]
 pub struct IvectorInfo {
     pub opts: IvectorOptions,
     pub dims: Dimensions,
@@ -61,7 +67,7 @@ pub enum Loaded {
 }
 
 // How a frame enters the statistics: not at all, or with a prune floor and a scale.
-#[derive(Clone, Copy)]
+#[derive(Clone, Copy, Debug, PartialEq)]
 pub enum FrameWeight {
     Skipped,
     Weighed(f32, f32),
@@ -69,7 +75,7 @@ pub enum FrameWeight {
 
 // The lengths of the rings that every call on a stream is lent: of frames, of prefix rows, and of the waiting changes.
 #[repr(C)]
-#[derive(Clone, Copy)]
+#[derive(Clone, Copy, Debug, Default, PartialEq, Eq)]
 pub struct RingLengths {
     pub frames: usize,
     pub rows: usize,
@@ -79,7 +85,7 @@ pub struct RingLengths {
 
 // The lengths of the rooms that a fetch is lent besides.
 #[repr(C)]
-#[derive(Clone, Copy)]
+#[derive(Clone, Copy, Debug, Default, PartialEq, Eq)]
 pub struct EstimateLengths {
     pub cmvn_stats: usize,
     pub linear: usize,
@@ -90,7 +96,7 @@ pub struct EstimateLengths {
 
 // The lengths of the lent rooms that a stream works in.
 #[repr(C)]
-#[derive(Clone, Copy)]
+#[derive(Clone, Copy, Debug, Default, PartialEq, Eq)]
 pub struct RoomLengths {
     pub rings: RingLengths,
     pub estimate: EstimateLengths,
@@ -98,7 +104,7 @@ pub struct RoomLengths {
 
 // A stream's record. Its rooms are lent to each call.
 #[repr(C)]
-#[derive(Clone, Copy)]
+#[derive(Clone, Copy, Debug, Default, PartialEq)]
 pub struct IvectorStream {
     pub info: IvectorInfo,
     pub lengths: RoomLengths,
@@ -118,7 +124,7 @@ pub struct IvectorStream {
 // The answer of a call on a stream. A fetch's vector is in the output that it is lent; how many of its numbers are not finite, and how many
 // likelihoods of the frames that it brought in were NaN.
 #[repr(C)]
-#[derive(Clone, Copy)]
+#[derive(Clone, Copy, Debug, Default, PartialEq)]
 pub struct StreamAnswer {
     pub refusal: usize,
     pub frames_held: usize,
@@ -129,7 +135,7 @@ pub struct StreamAnswer {
 
 // What a call on a stream returns: its answer, and the record for the next call.
 #[repr(C)]
-#[derive(Clone, Copy)]
+#[derive(Clone, Copy, Debug, Default, PartialEq)]
 pub struct StreamCall {
     pub answer: StreamAnswer,
     pub stream: IvectorStream,
@@ -144,17 +150,17 @@ pub enum NewStream {
 
 // A number of input frames, or the number of one.
 #[repr(C)]
-#[derive(Clone, Copy)]
+#[derive(Clone, Copy, Debug, Default, PartialEq, Eq, PartialOrd, Ord)]
 pub struct InputFrame(pub usize);
 
 // A number of decoder frames, or the number of one. One is `subsampling` input frames.
 #[repr(C)]
-#[derive(Clone, Copy)]
+#[derive(Clone, Copy, Debug, Default, PartialEq, Eq, PartialOrd, Ord)]
 pub struct DecoderFrame(pub usize);
 
 // A silence table's record. The phones and the table's rooms are lent to each call.
 #[repr(C)]
-#[derive(Clone, Copy)]
+#[derive(Clone, Copy, Debug, Default, PartialEq)]
 pub struct SilenceWeighting {
     pub silence_weight: f32,
     pub subsampling: usize,
@@ -172,7 +178,7 @@ pub enum NewTable {
 
 // The answer of a call on a silence table: how many changes it gives, and the record for the next call.
 #[repr(C)]
-#[derive(Clone, Copy)]
+#[derive(Clone, Copy, Debug, Default, PartialEq)]
 pub struct SilenceAnswer {
     pub refusal: usize,
     pub changes: usize,

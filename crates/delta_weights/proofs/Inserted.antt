@@ -7,14 +7,15 @@ use native.Mathlib.Numerals.{add-one}
 use native.Mathlib.Omega.{arith}
 use lib.Dec.{leb}
 use lib.ListN.{length, get_or, set, take, drop, length-map}
-use lib.Seq.{append_snoc, set_at, length-take-le}
+use Rattle.std.proofs.Common.{append_assoc}
+use lib.Seq.{paste, append_snoc, set_at, length-take-le}
 use lib.Ieee.{Float, nan}
 use Rattle.loops.specs.Lists.{build, those, over}
 use Rattle.loops.specs.Steps.{fill}
 use Rattle.loops.specs.Ring.{put}
-use Rattle.loops.proofs.Build.{length_build, build_ext, build_snoc, take_build, drop_build, map-build}
-use Rattle.loops.proofs.Fill.{fill_past, fill_turn, fill_over, over_put, over_self, over_again, over_take, take_over, put_none, put_before}
-use Rattle.loops.proofs.Parts.{take_next}
+use Rattle.loops.proofs.Build.{length_build, build_part, build_snoc, take_build, drop_build, map-build}
+use Rattle.loops.proofs.Fill.{fill_over, over_put, over_self, over_again, over_take, take_over}
+use Rattle.loops.proofs.Parts.{take_next, length_part}
 use Rattle.floats.specs.Operators.{at}
 use Rattle.definition.specs.Changes.{Change, insert_change}
 use Rattle.definition.specs.Stream.{rising}
@@ -35,35 +36,18 @@ module _ {A : Type 0} (d : A) (l : List A) where
       ∙ set_at (take a l) (get_or l a d) r v a (length-take-le a l (omega arith))
       ∙ ap (λ (k : ℕ). take a l ++ (v ∷ (xs ++ drop k l))) e
 
-  -- ---- places go up by one, from the top
+  -- ---- m places from k on, moved
 
-  -- the i places below n, each one up
-  abbrev pub Raised : ℕ → ℕ → List A
-  Raised n i = put (n - i + 1) (build i (λ j. get_or l (n - i + j) d)) l
+  pub moved_up : (k m a : ℕ) → k + m ≤ length l → paste l a (drop k l) m ≡ put a (build m (λ j. get_or l (k + j) d)) l
+  unfolding put
+  moved_up k m a h =
+      rw append_assoc (sym (ap (λ (s : List A). take a l ++ (s ++ drop (a + length s) l)) (build_part d k m l h) ∙ ap (λ (n : ℕ). take a l ++ (take m (drop k l) ++ drop (a + n) l)) (length_part k m l h)))
 
-  pub raised_none : (n : ℕ) → l ≡ Raised n 0
-  raised_none n = put_none (n - 0 + 1) (λ j. get_or l (n - 0 + j) d) l
+  pub moved_down : (k m : ℕ) → k + m ≤ length l → paste l 0 (drop k l) m ≡ fill m (λ j. get_or l (k + j) d) l
+  unfolding fill
+  moved_down k m h = let e : 0 + m ≡ m = omega arith in ap (λ (n : ℕ). take m (drop k l) ++ drop n l) e ∙ sym (ap (λ (s : List A). s ++ drop m l) (build_part d k m l h))
 
   module _ (n : ℕ) (h : n < length l) where
-    pub raised_turn : (i : ℕ) {s : List A} → i < n → s ≡ Raised n i → set s (n - i) (get_or s (n - i - 1) d) ≡ Raised n (i + 1)
-    unfolding build
-    raised_turn i {s} p e =
-        let v : A = get_or l (n - i - 1) d in
-        let g : get_or s (n - i - 1) d ≡ v =
-        ap (λ (x : List A). get_or x (n - i - 1) d) e ∙ put_before d (n - i + 1) (build i (λ j. get_or l (n - i + j) d)) l (omega arith) (n - i - 1) (omega arith) in
-        let q : n - suc i + 1 ≡ n - i = omega arith in
-        let z : n - suc i + 0 ≡ n - i - 1 = omega arith in
-        ap (λ (x : List A). set x (n - i) (get_or s (n - i - 1) d)) e
-        ∙ ap (λ (x : A). set (Raised n i) (n - i) x) g
-        ∙ put_cons (n - i) v (build i (λ j. get_or l (n - i + j) d)) (omega arith)
-        ∙ rw (add-one i, q, z) (ap (λ (x : List A). put (n - i) (v ∷ x) l) (build_ext i _ _ (λ j r. let w : n - i + j ≡ n - suc i + suc j = omega arith in ap (λ (k : ℕ). get_or l k d) w)))
-
-    pub raised_end : (k m i : ℕ) {s : List A} → k ≤ n → m ≡ n - k → i ≤ m → m ≤ i → s ≡ Raised n i → s ≡ put (k + 1) (build (n - k) (λ j. get_or l (k + j) d)) l
-    raised_end k m i p e q r g =
-        let a : i ≡ n - k = omega arith in
-        let b : n - (n - k) ≡ k = omega arith in
-        g ∙ rw (a, b)
-
     -- and v at the place that is free then
     raised_put : (k : ℕ) (v : A) {s : List A} → k ≤ n → s ≡ put (k + 1) (build (n - k) (λ j. get_or l (k + j) d)) l
         → set s k v ≡ over (build k (λ j. get_or l j d) ++ (v ∷ build (n - k) (λ j. get_or l (k + j) d))) l
@@ -141,12 +125,6 @@ module _ (nf : List ℕ) (nw : List Float) (n : ℕ) (fs₀ : List ℕ) (ws₀ :
 
 -- ---- a removal of the first k
 
-pub removed_turn : {A : Type 0} (d : A) (k i : ℕ) (l : List A) {s : List A} → i < length l → s ≡ fill i (λ j. get_or l (k + j) d) l → set s i (get_or s (k + i) d) ≡ fill (i + 1) (λ j. get_or l (k + j) d) l
-removed_turn {A} d k i l h e =
-    fill_turn _ i l h e (ap (λ (x : List A). get_or x (k + i) d) e ∙ fill_past d (λ j. get_or l (k + j) d) i l (k + i) (omega arith))
-
-pub removed_end : {A : Type 0} (h : Change → A) (g : ℕ → Change) (l : List A) (n k m i : ℕ) {s : List A} → k ≤ n → m ≡ n - k → i ≤ m → m ≤ i → s ≡ fill i (λ j. h (g (k + j))) l → s ≡ over (map h (drop k (build n g))) l
-removed_end {A} h g l n k m i p e q r f =
-    let a : i ≡ n - k = omega arith in
-    f ∙ ap (λ (x : ℕ). fill x (λ j. h (g (k + j))) l) a ∙ fill_over _ (n - k) l
-    ∙ ap (λ (x : List A). over x l) (sym (ap (map h) (drop_build k n g p) ∙ map-build h (n - k) (λ j. g (k + j))))
+pub removed : {A : Type 0} (h : Change → A) (g : ℕ → Change) (l : List A) (n k : ℕ) → k ≤ n → fill (n - k) (λ j. h (g (k + j))) l ≡ over (map h (drop k (build n g))) l
+removed h g l n k p =
+    fill_over _ (n - k) l ∙ ap (λ (x : List _). over x l) (sym (ap (map h) (drop_build k n g p) ∙ map-build h (n - k) (λ j. g (k + j))))

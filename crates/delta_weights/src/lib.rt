@@ -34,12 +34,8 @@ fn open_place(frames: &mut [usize], weights: &mut [f32], k: usize, n: usize)
     ensures { (frames.new ≡ put (k + 1) (build (n - k) (λ j. get_or frames.old (k + j) 0)) frames.old)
         × (weights.new ≡ put (k + 1) (build (n - k) (λ j. at weights.old (k + j))) weights.old) }
 {
-    let m = n - k;
-    for i in 0..m {
-        let j = n - i;
-        frames[j] = frames[j - 1];
-        weights[j] = weights[j - 1];
-    }
+    frames.copy_within(k..n, k + 1);
+    weights.copy_within(k..n, k + 1);
 }
 
 // One change more, behind those of its own frame and of lower ones.
@@ -67,6 +63,7 @@ fn insert_changes(
         × (weights.new ≡ over (weights_of (inserted_to (length delta_frames.now) delta_frames.now delta_weights.now (waiting_in n frames.old weights.old))) weights.old) }
 {
     let m = delta_frames.len();
+    // By index: i is a place of both lists and counts the changes that wait, so `zip` with `enumerate` is no plainer.
     for i in 0..m {
         insert_change(frames, weights, n + i, delta_frames[i], delta_weights[i]);
     }
@@ -78,9 +75,8 @@ fn past_highest_of(past_highest: usize, delta_frames: &[usize]) -> usize
     ensures { result ≡ foldl (λ n f. max n (f + 1)) past_highest delta_frames.now }
 {
     let mut past = past_highest;
-    let m = delta_frames.len();
-    for i in 0..m {
-        past = basics::larger(past, delta_frames[i] + 1);
+    for &f in delta_frames {
+        past = past.max(f + 1);
     }
     past
 }
@@ -109,15 +105,12 @@ pub fn remove_first(frames: &mut [usize], weights: &mut [f32], n: usize, k: usiz
     ensures { (frames.new ≡ over (frames_of (drop k (waiting_in n frames.old weights.old))) frames.old)
         × (weights.new ≡ over (weights_of (drop k (waiting_in n frames.old weights.old))) weights.old) }
 {
-    let left = n - k;
-    for i in 0..left {
-        frames[i] = frames[k + i];
-        weights[i] = weights[k + i];
-    }
+    frames.copy_within(k..n, 0);
+    weights.copy_within(k..n, 0);
 }
 
 // Where the changes of one frame end, and the sum of their weights.
-#[derive(Clone, Copy)]
+#[derive(Clone, Copy, Debug, PartialEq)]
 pub struct Group {
     pub end: usize,
     pub weight: f32,
@@ -131,13 +124,11 @@ pub fn sum_group(frames: &[usize], weights: &[f32], n: usize, j: usize) -> Group
 {
     let frame = frames[j];
     let mut weight = weights[j];
-    let mut end = j + 1;
-    while end < n {
+    for end in j + 1..n {
         if frames[end] != frame {
             return Group { end, weight };
         }
         weight += weights[end];
-        end += 1;
     }
-    Group { end, weight }
+    Group { end: n, weight }
 }

@@ -8,14 +8,7 @@ ghost use Rattle.definition.specs.Posteriors.{loglikes as loglikes_of, min_post_
 
 use definition::{FrameWeight, IvectorOptions};
 
-fn clear(sum: &mut [f32])
-    ensures { sum.new ≡ fill (length sum.old) (λ m. zero₃₂) sum.old }
-{
-    for m in 0..sum.len() {
-        sum[m] = 0.0;
-    }
-}
-
+// By index: through `iter_mut().zip(..)` a proof knows no element of `out`.
 fn add_constants(gconsts: &[f32], b: &[f32], out: &mut [f32])
     requires { (length out.old ≤ length gconsts.now) × (length b.now ≡ length out.old) }
     ensures { out.new ≡ fill (length out.old) (λ m. at gconsts.now m +₃₂ at out.old m -₃₂ f32 0x3f00_0000 *₃₂ at b.now m) out.old }
@@ -40,10 +33,10 @@ pub fn loglikes(
     requires { (length out.old ≡ g) × (length b.old ≡ g) × (g * d ≤ length means_invvars_t.now) × (g * d ≤ length inv_vars_t.now) × (d ≤ length x.now) × (g ≤ length gconsts.now) }
     ensures { out.new ≡ loglikes_of g d gconsts.now means_invvars_t.now inv_vars_t.now x.now }
 {
-    clear(out);
-    clear(b);
-    table_sums::add_rows(means_invvars_t, x, false, d, out);
-    table_sums::add_rows(inv_vars_t, x, true, d, b);
+    out.fill(0.0);
+    b.fill(0.0);
+    table_sums::add_rows(means_invvars_t, x, |v| v, d, out);
+    table_sums::add_rows(inv_vars_t, x, |v| v * v, d, b);
     add_constants(gconsts, b, out);
 }
 

@@ -1,12 +1,8 @@
 -- Why a call stores only some numbers of the record that it was lent: whether it is taken or not, the others of the record that the inner call
 -- returns are those that the lent one has.
-use Rattle.std.proofs.Common.{◌≡◌, refl, sym, ap, ◌∙◌, ℕ, zero, suc, length, List}
-use lib.Ieee.{Float}
+use Rattle.std.proofs.Common.{◌≡◌, sym, ap, ◌∙◌, ℕ, zero, suc, List}
 use Rattle.loops.specs.Refusal.{taken}
-use Rattle.definition.specs.Silence.{TableRooms, TableStep, TableCall, silence_answer, table_call, table_done}
 use Rattle.definition.specs.declared.IvectorStream.{IvectorStream}
-use Rattle.definition.specs.declared.SilenceWeighting.{SilenceWeighting}
-use Rattle.definition.specs.declared.SilenceAnswer.{SilenceAnswer}
 use Rattle.definition.specs.declared.StreamCall.{StreamCall}
 use Rattle.program.specs.Rooms.{Rings, Rooms}
 use Rattle.program.specs.Calls.{RingStep, RingCall, ring_call, done_on, Step, FetchCall, fetch_call, fetched_on}
@@ -29,18 +25,3 @@ pub fetch_stored : (f : IvectorStream → IvectorStream) {r : StreamCall} {z : R
     → fetch_call (answered r.answer (f r.stream)) z out ≡ fetched_on s z₀ out₀ x
 fetch_stored f {r} {z} {out} s z₀ out₀ x e new old =
     ap (λ (t : IvectorStream). fetch_call (answered r.answer t) z out) (stored_same f x.refusal (ap (λ (c : FetchCall). c.call.stream) e) new old) ∙ e
-
--- of a call on a silence table: it stores the table's length alone
-abbrev pub lengthened : SilenceWeighting → SilenceWeighting → SilenceWeighting
-lengthened h s = record { silence_weight = h.silence_weight; subsampling = h.subsampling; phones = h.phones; table = h.table; length = s.length }
-
-lengthened_same : (h : SilenceWeighting) (m k l : ℕ) {r : SilenceAnswer} → r ≡ silence_answer m h k l → lengthened h r.silence ≡ r.silence
-unfolding silence_answer
-lengthened_same h m k l e = stored_same (lengthened h) m (ap (λ (a : SilenceAnswer). a.silence) e) refl refl
-
-pub table_stored : (h : SilenceWeighting) {r : SilenceAnswer} {z : TableRooms} {fs : List ℕ} {ws : List Float} (z₀ : TableRooms) (fs₀ : List ℕ) (ws₀ : List Float) (x : TableStep)
-    → table_call r z fs ws ≡ table_done h z₀ fs₀ ws₀ x
-    → table_call (record { refusal = r.refusal; changes = r.changes; silence = lengthened h r.silence }) z fs ws ≡ table_done h z₀ fs₀ ws₀ x
-table_stored h {r} {z} {fs} {ws} z₀ fs₀ ws₀ x e =
-    ap (λ (s : SilenceWeighting). table_call (record { refusal = r.refusal; changes = r.changes; silence = s }) z fs ws)
-    (lengthened_same h x.refusal (length x.changes) (length x.table) (ap (λ (c : TableCall). c.answer) e)) ∙ e

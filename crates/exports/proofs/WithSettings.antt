@@ -11,26 +11,10 @@ use Rattle.definition.specs.declared.TableLengths.{TableLengths}
 use Rattle.definition.specs.Reader.{Got, read, refused}
 use Rattle.definition.specs.Model.{Files, Model, load}
 use Rattle.ivector_info.specs.Load.{scratch_kept}
-use Rattle.settings.specs.declared.Settings.TheVariants as S
-use Rattle.settings.specs.Settings.{plain, settings_of, settings_read, load_with}
+use Rattle.settings.specs.Settings.{plain, settings_of, load_with}
 use Rattle.answers.specs.Answers.{no_options}
 use Rattle.exports.specs.declared.SettingsAnswer.{SettingsAnswer}
 use Rattle.exports.specs.Answers.{settings_answer}
-
--- ---- the settings' answer as a record
-
-never_both : {n : ℕ} {o : IvectorOptions} → S.Refused n ≡ S.Options o → ⊥
-never_both e = let z : ◌≡◌ {A = ℕ} 0 1 = cc in omega arith
-
-pub options_told : (g : Got IvectorOptions) {o : IvectorOptions} → settings_read g ≡ S.Options o → record { refusal = 0; opts = o } ≡ settings_answer g
-unfolding settings_answer
-options_told (refused n) e = absurd (never_both e)
-options_told (read p i) {o} e = let h : p ≡ o = cc in ap (λ (x : IvectorOptions). record { refusal = 0; opts = x }) (sym h)
-
-pub refusal_told : (g : Got IvectorOptions) {n : ℕ} {x : IvectorOptions} → settings_read g ≡ S.Refused n → x ≡ no_options → record { refusal = n; opts = x } ≡ settings_answer g
-unfolding settings_answer
-refusal_told (refused k) {n} {x} e h = let q : k ≡ n = cc in ap (λ (o : IvectorOptions). record { refusal = n; opts = o }) h ∙ ap (λ (m : ℕ). record { refusal = m; opts = no_options }) (sym q)
-refusal_told (read p i) e h = absurd (never_both (sym e))
 
 -- ---- the load with them
 

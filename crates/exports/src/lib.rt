@@ -26,13 +26,13 @@ ghost use Rattle.exports.specs.Answers.{settings_answer, counted};
 
 use answers::{LoadAnswer, NewTableAnswer};
 use definition::{
-    DecoderFrame, Dimensions, InputFrame, IvectorInfo, IvectorOptions, IvectorStream, Loaded,
-    SilenceWeighting, StreamAnswer, StreamCall,
+    DecoderFrame, Dimensions, InputFrame, IvectorInfo, IvectorOptions, IvectorStream, LentTables,
+    Loaded, SilenceWeighting, StreamAnswer, StreamCall, number_or_0,
 };
 use memory::{DimensionsAnswer, RoomsAnswer, TablesAnswer};
-use model_bytes::{ModelSizes, WrittenAnswer};
+use model_bytes::{LentParams, ModelSizes, WrittenAnswer};
 use nearest_voice::VoiceAnswer;
-use settings::Settings;
+use silence_weighting::{LentPath, SilenceRooms};
 use trigger::RoundAnswer;
 
 // The answer of a call on a silence table: the refusal, and how many changes it gives.
@@ -110,17 +110,16 @@ pub struct SettingsAnswer {
 
 // `settings::read_settings`.
 #[unsafe(no_mangle)]
+#[tactic(auto, unfolding(crate::specs::Answers::settings_answer))]
 pub extern "C" fn shofrakin_settings(splice: &[u8], online_cmvn: &[u8]) -> SettingsAnswer
     ensures { result ≡ settings_answer (settings_of splice.now online_cmvn.now) }
 {
     match settings::read_settings(splice, online_cmvn) {
-        Settings::Options(opts) => {
-            return SettingsAnswer { refusal: 0, opts };
-        }
-        Settings::Refused(refusal) => {
-            let opts = answers::no_options();
-            return SettingsAnswer { refusal, opts };
-        }
+        Ok(opts) => SettingsAnswer { refusal: 0, opts },
+        Err(e) => SettingsAnswer {
+            refusal: e.number(),
+            opts: answers::no_options(),
+        },
     }
 }
 
@@ -273,7 +272,7 @@ pub extern "C" fn shofrakin_new_stream(
 
 // ---- calls on a stream
 
-// `ivector_stream::push_frame`, by the functions that are for this call alone.
+// `ivector_stream::push_frame`.
 #[unsafe(no_mangle)]
 pub extern "C" fn shofrakin_push_frame(
     s: &mut IvectorStream,
@@ -289,14 +288,7 @@ pub extern "C" fn shofrakin_push_frame(
         ring_call (answered result s.new) (rings_from frames.new rows.new waiting_frames.now waiting_weights.now)
         ≡ done_on s₀ z (push_frame s₀ z frame.now)) }
 {
-    let c = ivector_stream::push_frame_exported(
-        *s,
-        frame,
-        frames,
-        rows,
-        waiting_frames,
-        waiting_weights,
-    );
+    let c = ivector_stream::push_frame(*s, frame, frames, rows, waiting_frames, waiting_weights);
     s.accepted = c.stream.accepted;
     c.answer
 }
@@ -508,7 +500,7 @@ pub extern "C" fn shofrakin_new_silence_weighting(
     ensures { result ≡ new_table_answer (new_table (length silence_phones.now) silence_weight subsampling table) }
 {
     let a = silence_weighting::new(silence_phones, silence_weight, subsampling, table);
-    answers::table_answer(a)
+    NewTableAnswer::from(a)
 }
 
 // Whether the weighting changes anything.
@@ -539,21 +531,26 @@ pub extern "C" fn shofrakin_compute_current_traceback(
         ≡ table_done s₀ z [] []
         (compute_current_traceback s₀ z silence_phones.now segment_phones.now starts.now ends.now num_frames_decoded)) }
 {
-    let a = silence_weighting::compute_current_traceback(
-        *s,
-        silence_phones,
+    let mut rooms = SilenceRooms {
         known,
         is_silence,
         current_weight,
-        segment_phones,
+    };
+    let path = LentPath {
+        phones: segment_phones,
         starts,
         ends,
+    };
+    let noted = silence_weighting::compute_current_traceback(
+        s,
+        silence_phones,
+        &mut rooms,
+        path,
         num_frames_decoded,
     );
-    s.length.0 = a.silence.length.0;
     SilenceCounts {
-        refusal: a.refusal,
-        changes: a.changes,
+        refusal: number_or_0(noted),
+        changes: 0,
     }
 }
 
@@ -576,20 +573,23 @@ pub extern "C" fn shofrakin_get_delta_weights(
         ≡ table_done s₀ z frames.old weights.old
         (get_delta_weights s₀ z num_frames_ready first_decoder_frame (length frames.old) (length weights.old))) }
 {
-    let a = silence_weighting::get_delta_weights(
-        *s,
+    let mut rooms = SilenceRooms {
         known,
         is_silence,
         current_weight,
+    };
+    let weighed = silence_weighting::get_delta_weights(
+        s,
+        &mut rooms,
         num_frames_ready,
         first_decoder_frame,
         frames,
         weights,
     );
-    s.length.0 = a.silence.length.0;
+    let answer = silence_weighting::answered(weighed, *s);
     SilenceCounts {
-        refusal: a.refusal,
-        changes: a.changes,
+        refusal: answer.refusal,
+        changes: answer.changes,
     }
 }
 
@@ -650,10 +650,7 @@ pub extern "C" fn shofrakin_registers_step(
         × (board (program s.new y) block.new out.new ≡ board_step t n frame.now a)
         × ((FetchTaken t n a → ⊥) → scratch.new ≡ scratch.old)) }
 {
-    let c = registers::step(
-        *s,
-        block,
-        frame,
+    let tables = LentTables {
         gconsts,
         means_invvars_t,
         inv_vars_t,
@@ -662,6 +659,12 @@ pub extern "C" fn shofrakin_registers_step(
         lda_t,
         lda_offset,
         global_mean_stats,
+    };
+    let done = registers::step(
+        s,
+        block,
+        frame,
+        tables,
         frames,
         rows,
         waiting_frames,
@@ -673,8 +676,9 @@ pub extern "C" fn shofrakin_registers_step(
         scratch,
         out,
     );
-    *s = c.stream;
-    StepAnswer { refusal: c.refusal }
+    StepAnswer {
+        refusal: definition::number_or_0(done),
+    }
 }
 
 // ---- the trigger
@@ -734,14 +738,22 @@ pub extern "C" fn shofrakin_round(
         delta_frames.new delta_weights.new result.changes out.new ≡ x.bench)
         × (worked x.result ≡ false → scratch.new ≡ scratch.old)) }
 {
+    let path = LentPath {
+        phones,
+        starts,
+        ends,
+    };
+    let mut rooms = SilenceRooms {
+        known,
+        is_silence,
+        current_weight,
+    };
     let c = trigger::round(
         s,
         silence,
         start,
         numbers,
-        phones,
-        starts,
-        ends,
+        path,
         gconsts,
         means_invvars_t,
         inv_vars_t,
@@ -760,9 +772,7 @@ pub extern "C" fn shofrakin_round(
         current,
         scratch,
         silence_phones,
-        known,
-        is_silence,
-        current_weight,
+        &mut rooms,
         delta_frames,
         delta_weights,
         out,
@@ -775,7 +785,7 @@ pub extern "C" fn shofrakin_round(
 
 // ---- a model written back
 
-// `model_writer::write_f32`, its answer as a record.
+// `model_writer::write` at f32, its answer as a record.
 #[unsafe(no_mangle)]
 pub extern "C" fn shofrakin_write_f32(
     opts: IvectorOptions,
@@ -795,10 +805,8 @@ pub extern "C" fn shofrakin_write_f32(
         (result ≡ written_answer (written binary32 opts cmvn.now p (length out.old)))
         × (out.new ≡ written_out binary32 opts cmvn.now p out.old)) }
 {
-    let a = model_writer::write_f32(
-        opts,
+    let params = LentParams {
         sizes,
-        cmvn,
         weights,
         means_invvars,
         inv_vars,
@@ -806,12 +814,11 @@ pub extern "C" fn shofrakin_write_f32(
         sigma_inv,
         prior_offset,
         lda,
-        out,
-    );
-    model_writer::written_answer(a)
+    };
+    WrittenAnswer::from(model_writer::write(opts, cmvn, &params, out))
 }
 
-// `model_writer::write_f64`, its answer as a record.
+// `model_writer::write` at f64, its answer as a record.
 #[unsafe(no_mangle)]
 pub extern "C" fn shofrakin_write_f64(
     opts: IvectorOptions,
@@ -831,10 +838,8 @@ pub extern "C" fn shofrakin_write_f64(
         (result ≡ written_answer (written binary64 opts cmvn.now p (length out.old)))
         × (out.new ≡ written_out binary64 opts cmvn.now p out.old)) }
 {
-    let a = model_writer::write_f64(
-        opts,
+    let params = LentParams {
         sizes,
-        cmvn,
         weights,
         means_invvars,
         inv_vars,
@@ -842,7 +847,6 @@ pub extern "C" fn shofrakin_write_f64(
         sigma_inv,
         prior_offset,
         lda,
-        out,
-    );
-    model_writer::written_answer(a)
+    };
+    WrittenAnswer::from(model_writer::write(opts, cmvn, &params, out))
 }

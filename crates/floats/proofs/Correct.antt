@@ -20,7 +20,7 @@ use Rattle.floats.proofs.Sizes.{size_gt, pow_le_back}
 use Rattle.floats.proofs.Closest.{between}
 use Rattle.floats.proofs.Squares.{IsRoot, sq_lt_back, sq_le_back}
 use Rattle.floats.proofs.Roots.{whole_root_is, twice_exact, twice_short, next-even}
-use Rattle.floats.proofs.RootBits.{root_at, places_dropped, places_kept}
+use Rattle.floats.proofs.RootPlaces.{root_at, places_dropped, places_kept}
 
 next_power : (k j : ℕ) → 2 ^ (suc k + j) ≡ 2 * 2 ^ (k + j)
 next_power k j = ap (λ (x : ℕ). 2 ^ x) (suc-add k j) ∙ pow-succ' 2 (k + j)
@@ -68,7 +68,7 @@ module _ (r : ℕ) (big : 2 ^ 53 ≤ r) where
         step : 2 * r + 2 ≤ (2 * (r / 2 ^ j) + 2) * 2 ^ j
         step = le_trans (below-even r ((r / 2 ^ j + 1) * 2 ^ j) ((div-lt_iff_lt-mul (pow_pos j)).0 (less (r / 2 ^ j)))) (le_of_eq (sym (mul_assoc 2 (r / 2 ^ j + 1) (2 ^ j)) ∙ ap (λ (x : ℕ). x * 2 ^ j) (next-even (r / 2 ^ j))))
 
-    rounds_alike : round binary64 false y (b * 2 ^ 601) ≡ units binary64 false (closest (2 * (r / 2 ^ j) + 1) 4) (475 + j)
+    pub rounds_alike : round binary64 false y (b * 2 ^ 601) ≡ units binary64 false (closest (2 * (r / 2 ^ j) + 1) 4) (475 + j)
     rounds_alike =
         round_is binary64 false y (b * 2 ^ 601)
         ∙ ap (λ (k : ℕ). units binary64 false (closest (y * 2 ^ 1074) (b * 2 ^ 601 * 2 ^ k)) k) (places_dropped y b j B lowest highest)
@@ -164,13 +164,13 @@ module _ (m : ℕ) (e : ℤ) (t : T (fits binary64 (fin false (suc m) e))) (a b 
   abbrev n : ℕ
   n = x * 2 ^ 1200 / down e
 
-  n_is : n * down e ≡ x * 2 ^ 1200
+  pub n_is : n * down e ≡ x * 2 ^ 1200
   n_is = exact x e (low-enough false m e t)
 
   n_big : 2 ^ 126 ≤ n
   n_big = (le-div_iff_mul-le (down_pos e)).1 (le_trans (mul-le-mul_left (2 ^ 126) (low-enough false m e t)) (le_trans (le_of_eq (sym (one-mul (2 ^ 1200)))) (mul-le-mul_right (2 ^ 1200) (mul-pos (zero-lt-suc m) (up_pos e)))))
 
-  r_big : 2 ^ 53 ≤ whole_root n
+  pub r_big : 2 ^ 53 ≤ whole_root n
   r_big = le_of_lt_next (whole_root n) (sq_lt_back (2 ^ 53) (whole_root n + 1) (lt_of_le_of_lt (le_trans (lit≤ tt) n_big) (whole_root_is n).over))
     where
       le_of_lt_next : (r : ℕ) → 9007199254740992 < r + 1 → 9007199254740992 ≤ r

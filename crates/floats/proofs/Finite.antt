@@ -4,6 +4,7 @@ use Rattle.std.proofs.Common.{◌≡◌, ℕ, zero, suc, ◌+◌, ◌/◌, ◌%�
 use mathlib.Core.Bool.{false≢true}
 use lib.Ieee.{Float, nan, inf, fin, Format, binary32, binary64, of_bits, of_fields, odd, nan_bits, is_nan, hid, ones, top, prec, low}
 use lib.Ieee.Scale.{finite}
+use Rattle.std.specs.Float.{float_is_finite}
 use lib.Ieee.Bits.{nan_bits_is}
 
 odd-finite : (d : ℕ) (s : Bool) (q k l : ℕ) → finite (odd d s q k l) ≡ true
@@ -38,3 +39,10 @@ not-nan (fin s m e) h = refl
 -- a finite pattern may become a float
 pub finite-pattern : (f : Format) (b : ℕ) → finite (of_bits f b) ≡ true → T (not (nan_bits f b))
 finite-pattern f b e = subst (λ (t : Bool). T (not t)) (sym (nan_bits_is f b ∙ not-nan (of_bits f b) e)) tt
+
+-- the library's word for it, which its methods `is_finite` answer by
+pub std_finite : (x : Float) → float_is_finite x ≡ finite x
+unfolding float_is_finite
+std_finite nan = refl
+std_finite (inf s) = refl
+std_finite (fin s m e) = refl

@@ -6,11 +6,11 @@ pub mod Patterns
 pub mod Narrowing
 pub mod Squares
 pub mod Splitting
-pub mod Rooting
 pub mod Roots
 pub mod Signs
-pub mod RootBits
+pub mod RootPlaces
 pub mod Correct
+pub mod Library
 pub mod Series
 pub mod Logs
 pub mod Extremes

@@ -1,15 +1,12 @@
--- `twice_root`: what it is at least and at most, and that the root of n * (p * p), rounded among the multiples of 4 p, is that of n, times p. So any scale that has digits enough gives the same f64.
-use Rattle.std.proofs.Common.{◌≡◌, ℕ, zero, suc, ◌+◌, ◌*◌, ◌/◌, ◌^◌, ◌<◌, ◌≤◌, Bool, true, false, cond, not, T, eqb, leb, sym, refl, ap, ◌∙◌, subst, inl, inr, le_of_eq, lt_of_lt_of_le, le_of_suc-le-suc, lt_of_le_of_lt, add-zero, le_of_lt, mul_assoc, mul_comm, div-lt_iff_lt-mul, le_antisymm, eq-or-lt_of_le, mul-lt-mul_of_pos_right, mul-pos, pow-suc, add-one, arith, lit<, lit≤, eqb→eq, leb→le, eq-eqb}
-use native.Mathlib.Nat.{mul-mul-mul_comm, pow-le-pow_left}
+-- `twice_root`: what it is at least and at most, and that it is twice the root where that is whole, and else one more than twice its whole part.
+use Rattle.std.proofs.Common.{◌≡◌, ℕ, zero, suc, ◌+◌, ◌*◌, ◌/◌, ◌^◌, ◌<◌, ◌≤◌, Bool, true, false, cond, not, T, eqb, leb, sym, refl, ap, ◌∙◌, subst, le_of_eq, lt_of_lt_of_le, le_of_suc-le-suc, lt_of_le_of_lt, add-zero, le_of_lt, mul_comm, div-lt_iff_lt-mul, le_antisymm, pow-suc, add-one, arith, lit<, lit≤, eqb→eq, leb→le, eq-eqb}
+use native.Mathlib.Nat.{pow-le-pow_left}
 use native.Mathlib.Numerals.{suc-eq-add-one}
 use lib.Dec.{nleb→lt}
 use lib.Ieee.{size}
 use lib.Ieee.Digits.{size-lt}
-use lib.Ieee.Nearest.{closest, closest_same}
 use Rattle.floats.specs.Sqrt.{root_by, whole_root, twice_root}
-use Rattle.floats.specs.Steps.{IsRooted}
-use Rattle.floats.proofs.Closest.{between}
-use Rattle.floats.proofs.Squares.{sq_twice, sq_next, sq_lt_back, sq_le_back, IsRoot, rooted_is}
+use Rattle.floats.proofs.Squares.{sq_twice, sq_next, sq_lt_back, sq_le_back, IsRoot}
 
 -- ---- `whole_root` is the whole part of the root
 next_digit : (n s : ℕ) → IsRoot (n / 4) s → IsRoot n (cond (leb (suc (2 * s) * suc (2 * s)) n) (suc (2 * s)) (2 * s))
@@ -70,7 +67,7 @@ module _ (n : ℕ) where
       go : (r s c : ℕ) → r < s → c ≤ 1 → 2 * r + c < 2 * s
       go r s c h k = omega arith
 
-  twice_gt : (s : ℕ) → s * s < n → 2 * s < twice_root n
+  pub twice_gt : (s : ℕ) → s * s < n → 2 * s < twice_root n
   twice_gt s h = subst (λ (x : ℕ). 2 * s < x) (sym twice_is) (go (eqb (root * root) n) (eqb→eq (root * root) n))
     where
       whole : (s r : ℕ) → s < r → 2 * s < 2 * r + 0
@@ -94,40 +91,5 @@ module _ (n : ℕ) where
       go : (t s : ℕ) → 2 * s < t → t < 2 * (s + 1) → t ≡ 2 * s + 1
       go t s a b = omega arith
 
--- ---- what `root` gives
-pub rooted-short : (n r d : ℕ) → IsRooted n r d → 0 < d → r * 2 + 1 ≡ twice_root n
-rooted-short n r d h p = ap (λ (x : ℕ). x + 1) (mul_comm r 2) ∙ sym (twice_short n r (rooted_is n r d h) (go (r * r) d n h.sum p))
-  where
-    go : (s d n : ℕ) → s + d ≡ n → 0 < d → s < n
-    go s d n e p = omega arith
-
-pub rooted-exact : (n r d : ℕ) → IsRooted n r d → d ≤ 0 → r * 2 ≡ twice_root n
-rooted-exact n r d h p = mul_comm r 2 ∙ sym (twice_exact n r (go (r * r) d n h.sum p))
-  where
-    go : (s d n : ℕ) → s + d ≡ n → d ≤ 0 → s ≡ n
-    go s d n e p = omega arith
-
--- ---- the root of n * (p * p), by that of n
-
 pub next-even : (r : ℕ) → 2 * (r + 1) ≡ 2 * r + 2
 next-even r = omega arith
-
-scale_by : (n p r : ℕ) → 0 < p → IsRoot n r → closest (twice_root (n * (p * p))) (4 * p) ≡ closest (twice_root n) 4
-scale_by n p r P h = elim (eq-or-lt_of_le h.under) [
-  | inl e ↦
-      ap (λ (x : ℕ). closest x (4 * p)) (twice_exact (n * (p * p)) (r * p) (mul-mul-mul_comm r p r p ∙ ap (λ (x : ℕ). x * (p * p)) e))
-      ∙ closest_same (2 * (r * p)) (4 * p) (2 * r) 4 (mul-pos (lit< tt) P) (lit< tt) turn
-      ∙ ap (λ (x : ℕ). closest x 4) (sym (twice_exact n r e))
-  | inr l ↦
-      between r p (twice_root (n * (p * p)))
-      (subst (λ (x : ℕ). x < twice_root (n * (p * p))) (sym (mul_assoc 2 r p)) (twice_gt (n * (p * p)) (r * p) (subst (λ (x : ℕ). x < n * (p * p)) (sym (mul-mul-mul_comm r p r p)) (mul-lt-mul_of_pos_right l (mul-pos P P)))))
-      (subst (λ (x : ℕ). twice_root (n * (p * p)) < x) (sym (mul_assoc 2 (r + 1) p) ∙ ap (λ (x : ℕ). x * p) (next-even r))
-      (twice_lt (n * (p * p)) ((r + 1) * p) (subst (λ (x : ℕ). n * (p * p) < x) (sym (mul-mul-mul_comm (r + 1) p (r + 1) p)) (mul-lt-mul_of_pos_right h.over (mul-pos P P)))))
-      ∙ ap (λ (x : ℕ). closest x 4) (sym (twice_short n r h l))
-]
-  where
-    turn : 2 * (r * p) * 4 ≡ 2 * r * (4 * p)
-    turn = ap (λ (x : ℕ). x * 4) (sym (mul_assoc 2 r p)) ∙ mul_assoc (2 * r) p 4 ∙ ap (λ (x : ℕ). 2 * r * x) (mul_comm p 4)
-
-pub root_scale : (n p : ℕ) → 0 < p → closest (twice_root (n * (p * p))) (4 * p) ≡ closest (twice_root n) 4
-root_scale n p P = scale_by n p (whole_root n) P (whole_root_is n)

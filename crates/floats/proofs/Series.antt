@@ -17,9 +17,10 @@ pub chain_first : (q : Float) → one₆₄ /₆₄ f64 0x4041_8000_0000_0000 �
 unfolding chained of_bits of_int
 chain_first q = refl
 
-pub chain_next : (q h : Float) (n : ℕ) → 0 < n → n ≤ 17 → h ≡ chained (17 - n) (n * 2 + 1) q → one₆₄ /₆₄ as_f64 ((n - 1) * 2 + 1) +₆₄ q *₆₄ h ≡ chained (17 - (n - 1)) ((n - 1) * 2 + 1) q
-chain_next q h n p l e =
-    ap (λ (x : Float). one₆₄ /₆₄ as_f64 ((n - 1) * 2 + 1) +₆₄ q *₆₄ x) (e ∙ ap (λ (k : ℕ). chained (17 - n) k q) (two n p))
+pub chain_next : (q h k : Float) (n : ℕ) → 0 < n → n ≤ 17 → h ≡ chained (17 - n) (n * 2 + 1) q → k ≡ as_f64 ((n - 1) * 2 + 1) → one₆₄ /₆₄ k +₆₄ q *₆₄ h ≡ chained (17 - (n - 1)) ((n - 1) * 2 + 1) q
+chain_next q h k n p l e i =
+    ap (λ (x : Float). one₆₄ /₆₄ x +₆₄ q *₆₄ h) i
+    ∙ ap (λ (x : Float). one₆₄ /₆₄ as_f64 ((n - 1) * 2 + 1) +₆₄ q *₆₄ x) (e ∙ ap (λ (k : ℕ). chained (17 - n) k q) (two n p))
     ∙ sym (chained_more (17 - n) ((n - 1) * 2 + 1) q)
     ∙ ap (λ (d : ℕ). chained d ((n - 1) * 2 + 1) q) (one n p l)
   where
@@ -41,9 +42,10 @@ pub series-first : (y : Float) → one₆₄ ≡ series (16 - 16) (16 + 1) y
 unfolding series of_bits of_int
 series-first y = refl
 
-pub series-next : (y h : Float) (k : ℕ) → 0 < k → k ≤ 16 → h ≡ series (16 - k) (k + 1) y → one₆₄ +₆₄ y /₆₄ as_f64 k *₆₄ h ≡ series (16 - (k - 1)) (k - 1 + 1) y
-series-next y h k p l e =
-    ap (λ (x : Float). one₆₄ +₆₄ y /₆₄ as_f64 k *₆₄ x) e
+pub series-next : (y h n : Float) (k : ℕ) → 0 < k → k ≤ 16 → h ≡ series (16 - k) (k + 1) y → n ≡ as_f64 (k - 1 + 1) → one₆₄ +₆₄ y /₆₄ n *₆₄ h ≡ series (16 - (k - 1)) (k - 1 + 1) y
+series-next y h n k p l e i =
+    ap (λ (x : Float). one₆₄ +₆₄ y /₆₄ x *₆₄ h) (i ∙ ap as_f64 (sym (sym (one_back k p) ∙ suc-eq-add-one (k - 1))))
+    ∙ ap (λ (x : Float). one₆₄ +₆₄ y /₆₄ as_f64 k *₆₄ x) e
     ∙ sym (series_more (16 - k) k y)
     ∙ ap (λ (d : ℕ). series d k y) (one k p l)
     ∙ ap (λ (d : ℕ). series (16 - (k - 1)) d y) (sym (one_back k p) ∙ suc-eq-add-one (k - 1))

@@ -1,7 +1,6 @@
 -- Squares, and the whole part of a root.
 use Rattle.std.proofs.Common.{◌≡◌, ℕ, ◌+◌, ◌*◌, ◌<◌, ◌≤◌, sym, ap, ◌∙◌, subst, le_of_suc-le-suc, lt_of_le_of_lt, add-mul, mul-le-mul, lt_of_not-le, mul-add, not-le_of_lt, add-one, arith}
-use native.Mathlib.Nat.{mul-mul-mul_comm, le_intro}
-use Rattle.floats.specs.Steps.{IsRooted}
+use native.Mathlib.Nat.{mul-mul-mul_comm}
 
 pub sq_twice : (r : ℕ) → r * 2 * (r * 2) ≡ r * r * 4
 sq_twice r = mul-mul-mul_comm r 2 r 2
@@ -25,9 +24,3 @@ sq_le_back a b h = le_of_suc-le-suc (subst (λ (x : ℕ). a < x) (add-one b) (sq
 pub record IsRoot (n r : ℕ) : Type 0 where
   pub under : r * r ≤ n
   pub over : n < (r + 1) * (r + 1)
-
-pub rooted_is : (n r d : ℕ) → IsRooted n r d → IsRoot n r
-rooted_is n r d h = record { under = le_intro (r * r) d h.sum; over = subst (λ (x : ℕ). n < x) (sym (sq_next r)) (top (r * r) d n r h.sum h.most) }
-  where
-    top : (s d n r : ℕ) → s + d ≡ n → d ≤ 2 * r → n < s + r * 2 + 1
-    top s d n r e h = omega arith

@@ -1,4 +1,4 @@
--- One product or quotient of two numbers that a format holds, the second a power of ten: the arms of `decimal` and `decimal_f32`. One law over the
+-- One product or quotient of two numbers that a format holds, the second a power of ten: the arms of `decimal`. One law over the
 -- format.
 use Rattle.std.proofs.Common.{◌≡◌, ℕ, zero, suc, ◌+◌, ◌-◌, ◌*◌, ◌^◌, ◌<◌, ◌≤◌, Bool, true, false, not, T, pos, sym, refl, ap, ◌∙◌, subst, true≢false, lt_of_lt_of_le, lt_of_le_of_lt, le_of_lt, mul_assoc, mul_comm, mul-pos, pow-suc, mul-one, arith, lit<, le→leb, pow_mono, pow-add, shl_lt, ne_eqb, le-leb}
 use native.Mathlib.Nat.{mul-mul-mul_comm, pow-le-pow_right, one-le-pow}
@@ -90,7 +90,7 @@ module _ (f : Format) (s : Bool) where
       ∙ mul_assoc a (down e) (down d * b)
       ∙ ap (λ (z : ℕ). a * z) (ap (λ (z : ℕ). down e * z) (mul_comm (down d) b ∙ sym q) ∙ mul_comm (down e) (n * up d))))
 
--- ---- the words of `decimal` and `decimal_f32`: x is ±m, and t the power of ten
+-- ---- the words of `decimal`: x is ±m, and t the power of ten
 module _ (f : Format) (s : Bool) (m u d : ℕ) (x t : Float) (h : HasValue x s m 1) where
   pub times_ten : d ≤ u → u ≤ d + tens f → t ≡ of_int f (pos (10 ^ (u - d))) → mul f x t ≡ scaled f s m u d
   unfolding scaled

@@ -6,4 +6,5 @@ pub mod Ln
 pub mod Exp
 pub mod Extremes
 pub mod Decimal
+pub mod Real
 pub mod Steps

@@ -1,7 +1,8 @@
 -- Rust's operators on f32 and f64, each rounded once. An f32 is an f64 as it stands, so widening is not written.
-use Rattle.std.specs.Prelude.{ℕ, List, [], ◌∷◌, pos, from_bits, slice_index_or, Float}
+use Rattle.std.specs.Prelude.{ℕ, List, pos, from_bits, slice_index_or, Float}
 use Rattle.std.specs.Float.{nan, binary32, binary64}
 use Rattle.std.specs.Float.Ieee.{add, sub, mul, div, of_int}
+use Rattle.std.specs.List.{fold}
 use Rattle.loops.specs.Loop.{iter}
 
 infixl 65 ◌+₃₂◌ ◌-₃₂◌ ◌+₆₄◌ ◌-₆₄◌
@@ -71,6 +72,5 @@ abbrev pub sum₆₄ : Float → ℕ → (ℕ → Float) → Float
 sum₆₄ s n f = iter n (λ k a. a +₆₄ f k) s
 
 -- s plus each of a list, in order
-unfoldable pub total₆₄ : Float → List Float → Float
-total₆₄ s [] = s
-total₆₄ s (x ∷ xs) = total₆₄ (s +₆₄ x) xs
+abbrev pub total₆₄ : Float → List Float → Float
+total₆₄ = fold ◌+₆₄◌

@@ -16,11 +16,6 @@ units_of f a = digits f a * 2 ^ (a / hid f - 1)
 unfoldable pub mag_bits : ℕ → ℕ
 mag_bits a = let k = a / 2 ^ 52 - 1 in min ((k - 896) * 2 ^ 23 + closest (digits binary64 a) (2 ^ (29 + (896 - k)))) (255 * 2 ^ 23)
 
--- r is the whole part of the root of n, and d is what is left
-pub record IsRooted (n r d : ℕ) : Type 0 where
-  pub sum : r * r + d ≡ n
-  pub most : d ≤ 2 * r
-
 -- q has all its digits, and q * 2 ^ e is the value of the pattern a, in units of 2 ^ -1200
 pub record IsSplit (a q e : ℕ) : Type 0 where
   pub value : q * 2 ^ e ≡ units_of binary64 a * 2 ^ 126

@@ -1,18 +1,22 @@
-// Functions on floats: narrowing, root, logarithm, exponential, decimals, and Rust's max, min, abs and is_finite.
+// Functions on floats: narrowing, root, logarithm, exponential, decimals, Rust's max, min, abs and is_finite, and what the two widths share.
 #![tactic(auto)]
 
 ghost use Rattle.std.specs.Prelude.{◌≡◌, ◌+◌, ◌*◌, ◌^◌, ◌<◌, ◌≤◌, from_bits, to_bits};
 ghost use Rattle.std.specs.Float.{binary32, binary64};
+ghost use Rattle.std.specs.Float.Ieee.{prec};
 ghost use Rattle.std.specs.Float.Ieee.Nearest.{closest};
 ghost use Rattle.std.specs.Float.Ieee.Scale.{finite};
-ghost use Rattle.floats.specs.Operators.{as_f32, as_f64};
 ghost use Rattle.floats.specs.Narrow.{narrowed};
 ghost use Rattle.floats.specs.Sqrt.{square_root};
 ghost use Rattle.floats.specs.Ln.{chained, ln_sum, ln_of, ln_narrow};
 ghost use Rattle.floats.specs.Exp.{series, squares, exp_of};
 ghost use Rattle.floats.specs.Extremes.{larger, smaller, absolute};
-ghost use Rattle.floats.specs.Decimal.{scaled};
-ghost use Rattle.floats.specs.Steps.{mag_bits, IsRooted, IsSplit};
+ghost use Rattle.floats.specs.Decimal.{scaled, tens};
+ghost use Rattle.floats.specs.Steps.{mag_bits, IsSplit};
+
+mod real;
+
+pub use real::{Arithmetic, KeepAs, Real};
 
 // The pattern of an f64: the weight of the exponent's field, an infinity, and the weight of the sign.
 const FIELD: u64 = 0x10_0000_0000_0000;
@@ -86,6 +90,7 @@ fn split(a: u64) -> Digits
         q = t + FIELD;
         e = x + 125;
     }
+    // a loop and no shift by `leading_zeros`: no plainer, since each turn keeps the value q * 2^e, and of most numbers there is none
     while q < FIELD {
         q = q * 2;
         e = e - 1;
@@ -93,73 +98,11 @@ fn split(a: u64) -> Digits
     Digits { q, e }
 }
 
-// r * r + rest is the number whose root was asked for
-#[derive(Clone, Copy)]
-struct Rooted {
-    r: u64,
-    rest: u64,
-}
-
-// The whole part of the root of w * 2^54, digit by digit.
-fn root(w: u64) -> Rooted
-    requires { w < 0x40_0000_0000_0000 }
-    ensures { IsRooted (w * 2 ^ 54) result.r result.rest }
-{
-    let mut r: u64 = 0;
-    let mut rest: u64 = 0;
-    let mut d = w;
-    let mut left: u64 = 54;
-    while left > 0 {
-        rest = rest * 4 + d / FIELD;
-        d = d % FIELD * 4;
-        let trial = r * 4 + 1;
-        r = r * 2;
-        if rest >= trial {
-            rest = rest - trial;
-            r = r + 1;
-        }
-        left = left - 1;
-    }
-    Rooted { r, rest }
-}
-
-// The pattern of the root of the f64 of the pattern a, which is above zero and finite.
-fn root_bits(a: u64) -> u64
-    requires { (0 < a) × (a < 0x7ff0_0000_0000_0000) }
-    ensures { result ≡ to_bits binary64 (square_root (from_bits binary64 a)) }
-{
-    let s = split(a);
-    let h = s.e / 2;
-    let w = s.q << (s.e % 2);
-    let o = root(w);
-    let mut y = o.r * 2;
-    if o.rest > 0 {
-        y = y + 1;
-    }
-    (h + 448) * FIELD + shifted(y, 2)
-}
-
 // The root of x, correctly rounded: of a zero that zero, and below zero a NaN.
 pub fn sqrt(x: f64) -> f64
     ensures { result ≡ square_root x }
 {
-    if x != x {
-        return x;
-    }
-    let b = f64::to_bits(x);
-    if b >= SIGN {
-        if b > SIGN {
-            return 0.0 / 0.0;
-        }
-        return x;
-    }
-    if b == 0 {
-        return x;
-    }
-    if b >= INFINITE {
-        return x;
-    }
-    f64::from_bits(root_bits(b))
+    x.sqrt()
 }
 
 // 1 + q * (1/3 + q * (1/5 + .. q * 1/35))
@@ -167,10 +110,8 @@ fn chain(q: f64) -> f64
     ensures { result ≡ chained 17 1 q }
 {
     let mut h = 1.0 / 35.0;
-    let mut n: u32 = 17;
-    while n > 0 {
-        n = n - 1;
-        h = 1.0 / ((n * 2 + 1) as f64) + q * h;
+    for n in (0u32..17).rev() {
+        h = 1.0 / f64::from(n * 2 + 1) + q * h;
     }
     h
 }
@@ -230,10 +171,8 @@ fn powers(y: f64) -> f64
     ensures { result ≡ series 16 1 y }
 {
     let mut h = 1.0;
-    let mut k: u32 = 16;
-    while k > 0 {
-        h = 1.0 + (y / (k as f64)) * h;
-        k = k - 1;
+    for k in (0u32..16).rev() {
+        h = 1.0 + y / f64::from(k + 1) * h;
     }
     h
 }
@@ -263,8 +202,9 @@ pub fn exp(x: f32) -> f32
 }
 
 // The larger of a and b, or the other where one is a NaN.
-pub fn max(a: f32, b: f32) -> f32
-    ensures { result ≡ larger a b }
+#[tactic(auto, using(crate::proofs::Extremes::nan_by_eq), unfolding(crate::specs::Extremes::larger))]
+pub fn max<W: Arithmetic>(a: W, b: W) -> W
+    ensures { W.float result ≡ larger (W.float a) (W.float b) }
 {
     if a != a {
         b
@@ -276,8 +216,9 @@ pub fn max(a: f32, b: f32) -> f32
 }
 
 // The smaller of a and b, or the other where one is a NaN.
-pub fn min(a: f32, b: f32) -> f32
-    ensures { result ≡ smaller a b }
+#[tactic(auto, using(crate::proofs::Extremes::nan_by_eq), unfolding(crate::specs::Extremes::smaller))]
+pub fn min<W: Arithmetic>(a: W, b: W) -> W
+    ensures { W.float result ≡ smaller (W.float a) (W.float b) }
 {
     if a != a {
         b
@@ -288,148 +229,33 @@ pub fn min(a: f32, b: f32) -> f32
     }
 }
 
-// The larger of x and y, or the other where one is a NaN.
-pub fn max_f64(x: f64, y: f64) -> f64
-    ensures { result ≡ larger x y }
-{
-    if x != x {
-        y
-    } else if x < y {
-        y
-    } else {
-        x
-    }
-}
-
-// The smaller of x and y, or the other where one is a NaN.
-pub fn min_f64(x: f64, y: f64) -> f64
-    ensures { result ≡ smaller x y }
-{
-    if x != x {
-        y
-    } else if y < x {
-        y
-    } else {
-        x
-    }
-}
-
 // x without its sign.
+#[tactic(auto, using(crate::proofs::Extremes::abs_std))]
 pub fn abs(x: f32) -> f32
     ensures { result ≡ absolute x }
 {
-    if x < 0.0 {
-        -x
-    } else if x == 0.0 {
-        0.0
-    } else {
-        x
-    }
+    x.abs()
 }
 
-// Whether x is neither a NaN nor an infinity: of these, and of no other, x - x is a NaN.
-pub fn is_finite(x: f32) -> bool
-    ensures { result ≡ finite x }
+// Whether x is neither a NaN nor an infinity.
+pub fn is_finite<W: Real>(x: W) -> bool
+    ensures { result ≡ finite (W.float x) }
 {
-    let d = x - x;
-    d == d
+    x.is_finite()
 }
 
-// Whether v is neither a NaN nor an infinity.
-pub fn is_finite_f64(v: f64) -> bool
-    ensures { result ≡ finite v }
+// The float nearest to ±m * 10^(up - down), a tie to the even one: by one product or quotient of two
+// numbers that the format holds.
+pub fn decimal<W: Arithmetic>(minus: bool, m: u64, up: u64, down: u64) -> W
+    requires m_bound { m < 2 ^ prec W.format }
+    requires up_bound { (up ≤ down + tens W.format) × (down ≤ up + tens W.format) }
+    ensures { W.float result ≡ scaled W.format minus m up down }
 {
-    let e = v - v;
-    e == e
-}
-
-const TENS: [f64; 23] = [
-    1.0,
-    10.0,
-    100.0,
-    1000.0,
-    10000.0,
-    100000.0,
-    1000000.0,
-    10000000.0,
-    100000000.0,
-    1000000000.0,
-    10000000000.0,
-    100000000000.0,
-    1000000000000.0,
-    10000000000000.0,
-    100000000000000.0,
-    1000000000000000.0,
-    10000000000000000.0,
-    100000000000000000.0,
-    1000000000000000000.0,
-    10000000000000000000.0,
-    100000000000000000000.0,
-    1000000000000000000000.0,
-    10000000000000000000000.0,
-];
-
-// 10^k, which an f64 holds.
-fn ten(k: u64) -> f64
-    requires { k ≤ 22 }
-    ensures { result ≡ as_f64 (10 ^ k) }
-{
-    TENS[k as usize]
-}
-
-// The f64 nearest to ±m * 10^(up - down), a tie to the even one: by one product or quotient of two
-// numbers that an f64 holds.
-pub fn decimal(minus: bool, m: u64, up: u64, down: u64) -> f64
-    requires m_bound { m < 2 ^ 53 }
-    requires up_bound { (up ≤ down + 22) × (down ≤ up + 22) }
-    ensures { result ≡ scaled binary64 minus m up down }
-{
-    let mut x = m as f64;
-    if minus {
-        x = -x;
-    }
+    let whole = W::whole(m);
+    let x = if minus { -whole } else { whole };
     if down <= up {
-        x * ten(up - down)
+        x * W::ten(up - down)
     } else {
-        x / ten(down - up)
-    }
-}
-
-const TENS_F32: [f32; 11] = [
-    1.0,
-    10.0,
-    100.0,
-    1000.0,
-    10000.0,
-    100000.0,
-    1000000.0,
-    10000000.0,
-    100000000.0,
-    1000000000.0,
-    10000000000.0,
-];
-
-// 10^k, which an f32 holds.
-fn ten_f32(k: u64) -> f32
-    requires { k ≤ 10 }
-    ensures { result ≡ as_f32 (10 ^ k) }
-{
-    TENS_F32[k as usize]
-}
-
-// The f32 nearest to ±m * 10^(up - down), likewise.
-pub fn decimal_f32(minus: bool, m: u64, up: u64, down: u64) -> f32
-    requires m_bound { m < 2 ^ 24 }
-    requires up_bound { (up ≤ down + 10) × (down ≤ up + 10) }
-    ensures { result ≡ scaled binary32 minus m up down }
-{
-    let mut x = m as f32;
-    if minus {
-        x = -x;
-    }
-    if down <= up {
-        x * ten_f32(up - down)
-    } else {
-        x / ten_f32(down - up)
+        x / W::ten(down - up)
     }
 }

@@ -16,7 +16,7 @@ ghost use Rattle.program.specs.Rooms.{ring_at, ring_frames};
 ghost use Rattle.frame_views.specs.Rows.{Lent, spliced_row};
 ghost use Rattle.frame_views.specs.Steps.{RowAt, Begins, Placed, fetched, viewed};
 
-use basics::{add_scaled, difference, less, row_after, row_place, smaller};
+use basics::{add_scaled, difference, row_after, row_place};
 use definition::IvectorOptions;
 
 // The frame that begins at `start`.
@@ -56,7 +56,7 @@ fn cmvn_window(
 {
     let raw = frame(frames, dim, here);
     if raw[0] > o.min_energy {
-        let lo = less(t + 1, o.cmn_window);
+        let lo = (t + 1).saturating_sub(o.cmn_window);
         difference(prefix(rows, dim, high), prefix(rows, dim, low), dim, cmvn);
         cmvn[dim] = std::num::nearest_u64_to_f64((t + 1 - lo) as u64);
     }
@@ -70,7 +70,7 @@ fn cmvn_smooth(o: IvectorOptions, dim: usize, global: &[f64], cmvn: &mut [f64])
     let window = std::num::nearest_u64_to_f64(o.cmn_window as u64);
     let cur_count = cmvn[dim];
     if cur_count < window {
-        let from_global = floats::min_f64(
+        let from_global = floats::min(
             window - cur_count,
             std::num::nearest_u64_to_f64(o.global_frames as u64),
         );
@@ -85,6 +85,7 @@ fn raw_less_mean(raw: &[f32], cmvn: &[f64], dim: usize, out: &mut [f32])
     ensures { out.new ≡ fill dim (λ d. at raw.now d -₃₂ narrowed (at cmvn.now d /₆₄ at cmvn.now dim)) out.old }
 {
     let count = cmvn[dim];
+    // By index: of what a loop over `iter_mut().zip` writes, an invariant names no element (tried in small).
     for d in 0..dim {
         out[d] = raw[d] - floats::narrow(cmvn[d] / count);
     }
@@ -189,7 +190,7 @@ fn add_frame(
         o, dim, accepted, t, here, high, low, normalized, global, frames, rows, cmvn, view,
     );
     let row = spliced_row(frames, view, normalized, dim, here);
-    table_sums::add_rows(part, row, false, dim, out);
+    table_sums::add_rows(part, row, |v| v, dim, out);
 }
 
 // The frame at place n of the row spliced around t, the ends clamped to frames 0 and last.
@@ -197,7 +198,7 @@ fn splice_at(o: IvectorOptions, accepted: usize, t: usize, n: usize) -> usize
     requires { (t < accepted) × (accepted ≤ 1000000000) × (n < 1000000000) }
     ensures { (result ≡ splice_at o accepted t n) × (result < accepted) }
 {
-    smaller(less(t + n, o.left_context), accepted - 1)
+    (t + n).saturating_sub(o.left_context).min(accepted - 1)
 }
 
 // What the LDA starts from.
@@ -205,13 +206,11 @@ fn copy_offset(offset: &[f32], n: usize, out: &mut [f32])
     requires { (n ≤ length offset.now) × (n ≤ length out.old) }
     ensures { out.new ≡ fill n (at offset.now) out.old }
 {
-    for r in 0..n {
-        out[r] = offset[r];
-    }
+    out[..n].copy_from_slice(&offset[..n]);
 }
 
 // Where a frame begins in its ring, and the prefix rows at the ends of its window in theirs.
-#[derive(Clone, Copy)]
+#[derive(Clone, Copy, Debug, PartialEq)]
 struct Places {
     here: usize,
     high: usize,
@@ -235,7 +234,7 @@ fn first_places(
         return Places {
             here,
             high: row_place(rows, dim, u + 1),
-            low: row_place(rows, dim, less(u + 1, window)),
+            low: row_place(rows, dim, (u + 1).saturating_sub(window)),
         };
     }
     Places {
@@ -314,8 +313,9 @@ pub fn lda_frame(
     let mut view = [0.0f32; 64];
     copy_offset(lda_offset, d, out);
     let window = o.cmn_window;
-    let mut u = less(t, o.left_context);
+    let mut u = t.saturating_sub(o.left_context);
     let mut p = first_places(normalized, window, frames.len(), rows.len(), dim, u);
+    // Over numbers: n is a part of the table and the place of the next frame, so `chunks_exact` with `enumerate` is no plainer.
     for n in 0..width {
         let start = n * size;
         let end = start + size;

@@ -5,9 +5,9 @@ use mathlib.Core.List.{List, [], ◌∷◌}
 use Prim.Native.Nat.{ℕ, ◌≤◌, ◌<◌}
 use native.Mathlib.Omega.{arith}
 use lib.Dec.{eqb, leb}
-use borrow.Author.Tests.{not-false, not-true, eqb-true, lt-leb, le-leb, leb-false}
-use Rattle.loops.proofs.Choose.{by-test, and_first, and_second, and_holds, and_both}
-use Rattle.loops.proofs.Refusal.{NoneFirst, FirstAt, number_at, none_first, first-here, first_past, first_is, first-none}
+use borrow.Author.Tests.{not-false, eqb-true, le-leb, leb-false}
+use Rattle.loops.proofs.Choose.{by-test, and_holds, and_both}
+use Rattle.loops.proofs.Refusal.{none_first, first-here, first_past}
 use Rattle.loops.proofs.Tests.{each_of, of_each, each_pair}
 use Rattle.definition.specs.declared.IvectorInfo.{IvectorInfo}
 use Rattle.definition.specs.declared.IvectorStream.{IvectorStream}
@@ -24,17 +24,6 @@ use Rattle.program.specs.Rooms.{Rooms, room_lengths_of}
 use Rattle.program.specs.Calls.{fetch_refusal}
 use Rattle.program.proofs.Steps.{four}
 use Rattle.stream_refusals.proofs.Records.{Passed, tests_passed, few}
-
--- whether no change reached f
-module _ (next past f : ℕ) (called : Bool) where
-  pub known_in : f < next → false ≡ (leb next f && called && leb past f)
-  known_in h = sym (and_first (leb next f && called) _ (and_first (leb next f) called (lt-leb next f h)))
-
-  pub not_called : not called ≡ true → false ≡ (leb next f && called && leb past f)
-  not_called h = sym (and_first (leb next f && called) _ (and_second (leb next f) called (not-true called h)))
-
-  pub by_highest : next ≤ f → not called ≡ false → leb past f ≡ (leb next f && called && leb past f)
-  by_highest h g = rw (le-leb next f h, not-false called g) refl
 
 -- lengths that pass for the same are the same
 same_tables_lem : (a b : TableLengths) → same_tables a b ≡ true → a ≡ b
@@ -87,14 +76,6 @@ module _ (s : IvectorStream) (t : TableLengths) (z : RoomLengths) (fs : List ℕ
       ∷ (not (eqb n s.info.dims.ivector_dim), 20)
       ∷ (leb (frames_ready s.info.opts s.input_finished s.accepted) f, 21)
       ∷ (leb s.num_frames_stats f && s.delta_weights_provided && leb s.past_highest f, 22) ∷ []
-
-  pub refused_at : (k : ℕ) → FirstAt k fetch_list → number_at k fetch_list ≡ fetch_refusal s t z fs f n
-  unfolding fetch_refusal fetch_tests
-  refused_at k h = first_is k fetch_list h
-
-  pub refused_none : NoneFirst fetch_list → 0 ≡ fetch_refusal s t z fs f n
-  unfolding fetch_refusal fetch_tests
-  refused_none h = first-none fetch_list h
 
 module _ (s : IvectorStream) (t : TableLengths) (w : Rooms) (scratch f n : ℕ) where
   abbrev z : RoomLengths

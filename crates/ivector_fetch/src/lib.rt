@@ -9,77 +9,60 @@ ghost use Rattle.loops.specs.Lists.{build, over};
 ghost use Rattle.floats.specs.Operators.{at};
 ghost use Rattle.definition.specs.Model.{Tables, tables_from, in_force};
 ghost use Rattle.definition.specs.Machine.{bits_of, not_finite};
+ghost use Rattle.definition.specs.Number.{refused_by};
 ghost use Rattle.program.specs.Rooms.{rings_from, estimate_from, Rooms, rooms_from};
 ghost use Rattle.program.specs.Calls.{Step, fetch_call, fetched_on, fetch_refusal, get_frame};
 ghost use Rattle.ivector_fetch.specs.Steps.{fetched_at};
 
 use definition::{
-    EstimateLengths, IvectorInfo, IvectorStream, RingLengths, RoomLengths, StreamCall, TableLengths,
+    EstimateLengths, IvectorInfo, IvectorStream, Refusal, RingLengths, RoomLengths, StreamCall,
+    TableLengths, need,
 };
 
 // Whether a fetch of f would bring in frames whose weights are not known yet: f is not in the statistics, and no change reached it.
 fn unreached(next: usize, called: bool, past_highest: usize, f: usize) -> bool
     ensures { result ≡ (leb next f && called && leb past_highest f) }
 {
-    if f < next {
-        return false;
-    }
-    if !called {
-        return false;
-    }
-    past_highest <= f
+    next <= f && called && past_highest <= f
 }
 
+#[tactic(auto, unfolding(loops::specs::Refusal::first_of, program::specs::Calls::fetch_refusal, definition::specs::Machine::fetch_tests, definition::specs::Stream::same_tables, definition::specs::Stream::same_rooms, definition::specs::Stream::same_rings))]
 fn fetch_refusal(
-    s: IvectorStream,
+    s: &IvectorStream,
     tables: TableLengths,
     lengths: RoomLengths,
     waiting_frames: &[usize],
     frame: usize,
     n: usize,
-) -> usize
-    ensures { result ≡ fetch_refusal s tables lengths waiting_frames.now frame n }
+) -> Result<(), Refusal>
+    ensures { refused_by result ≡ fetch_refusal s.now tables lengths waiting_frames.now frame n }
 {
-    let i = s.info;
-    let o = i.opts;
-    let d = i.dims;
-    let t = i.tables;
-    let z = s.lengths;
-    if !limits::same_tables(tables, t) {
-        return 10;
-    }
-    if !limits::same_rooms(lengths, z) {
-        return 10;
-    }
-    if limits::is_broken(s, waiting_frames) {
-        return 10;
-    }
-    if n != d.ivector_dim {
-        return 20;
-    }
-    let ready = limits::frames_ready(o, s.input_finished, s.accepted);
-    if ready <= frame {
-        return 21;
-    }
-    if unreached(
-        s.num_frames_stats,
-        s.delta_weights_provided,
-        s.past_highest,
-        frame,
-    ) {
-        return 22;
-    }
-    0
+    need(tables == s.info.tables, Refusal::ForeignRecord)?;
+    need(lengths == s.lengths, Refusal::ForeignRecord)?;
+    need(
+        !limits::is_broken(s, waiting_frames),
+        Refusal::ForeignRecord,
+    )?;
+    need(n == s.info.dims.ivector_dim, Refusal::OutputLength)?;
+    let ready = limits::frames_ready(s.info.opts, s.input_finished, s.accepted);
+    need(frame < ready, Refusal::NotReady)?;
+    need(
+        !unreached(
+            s.num_frames_stats,
+            s.delta_weights_provided,
+            s.past_highest,
+            frame,
+        ),
+        Refusal::AboveHighest,
+    )
 }
 
 // The model's record with the window in force in place of the options' own.
 fn in_force(info: IvectorInfo, window: usize) -> IvectorInfo
     ensures { result ≡ in_force info window }
 {
-    let mut o = info.opts;
-    o.cmn_window = window;
     let mut i = info;
-    i.opts = o;
+    i.opts.cmn_window = window;
     i
 }
 
@@ -122,6 +105,7 @@ fn write_vector(prior_offset: f64, current: &[f64], n: usize, out: &mut [u32]) -
         × (result ≡ not_finite (build n (λ i. fetched_at prior_offset i (at current.now i)))) }
 {
     let mut bad = 0;
+    // By index: of what a loop over `iter_mut().zip` writes, an invariant names no element (tried in small).
     for i in 0..n {
         let v = fetched_at(prior_offset, i, current[i]);
         out[i] = bits(v);
@@ -191,9 +175,8 @@ pub fn get_frame(
         scratch: scratch.len(),
     };
     let lengths = RoomLengths { rings, estimate };
-    let refusal = fetch_refusal(s, tables, lengths, waiting_frames, frame, out.len());
-    if refusal != 0 {
-        return ivector_stream::reply(refusal, s, 0, 0);
+    if let Err(e) = fetch_refusal(&s, tables, lengths, waiting_frames, frame, out.len()) {
+        return ivector_stream::reply(e.number(), s, 0, 0);
     }
     let i = s.info;
     if frame < s.num_frames_stats {

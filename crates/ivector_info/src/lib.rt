@@ -15,7 +15,7 @@ use definition::{Dimensions, IvectorInfo, IvectorOptions, Loaded, TableLengths};
 use ivector_tables::{fill_gaussians, fill_gconsts, fill_global, fill_offset, fill_transposed};
 use kaldi_files::{Extractor, Gmm, check_extractor, check_gmm, check_lda};
 use kaldi_io::Matrix;
-use kaldi_text::{Cmvn, check_cmvn};
+use kaldi_text::check_cmvn;
 use limits::{dims_agree, load_scratch, options_in_range, tables_fit};
 
 // Where the numbers stand in their files, and whether they are f64 (the extractor's blocks say it again when they are filled); and where the
@@ -86,18 +86,14 @@ fn check_files(gmm: &[u8], extractor: &[u8], lda: &[u8], cmvn: &[u8]) -> Checked
                     from: matrix,
                     next: _,
                 } => match check_cmvn(cmvn) {
-                    Cmvn::Refused(e) => Checked::Refused(e),
-                    Cmvn::Is {
-                        len,
-                        from: row,
-                        next: _,
-                    } => {
+                    Err(e) => Checked::Refused(e.number()),
+                    Ok(c) => {
                         let dims = Dimensions {
                             num_gauss,
                             ext_gauss,
                             feat_dim,
                             ivector_dim,
-                            base_dim: len - 1,
+                            base_dim: c.len - 1,
                             lda_cols,
                         };
                         let places = Places {
@@ -111,7 +107,7 @@ fn check_files(gmm: &[u8], extractor: &[u8], lda: &[u8], cmvn: &[u8]) -> Checked
                             sigma_inv,
                             lda: matrix,
                             lda_double,
-                            row,
+                            row: c.from,
                         };
                         Checked::Is {
                             dims,

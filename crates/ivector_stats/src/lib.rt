@@ -12,11 +12,12 @@ ghost use Rattle.definition.specs.Solve.{prior_vector, get_ivector};
 ghost use Rattle.batch_sums.specs.Batch.{Slots, Sums};
 ghost use Rattle.ivector_stats.specs.Steps.{linear_term, linear_over, quadratic_over, stats_in};
 
-use basics::{add_scaled, clear};
+use basics::add_scaled;
 use definition::IvectorOptions;
-use packed_matrix::weighted_rows;
+use packed_matrix::{Symmetric, weighted_rows};
 
 // v added to the diagonal of a packed matrix, s wide.
+#[tactic(auto, using(loops::proofs::Loop::loops))]
 fn add_diagonal(s: usize, v: f64, quadratic: &mut [f64])
     requires { (s ≤ 128) × (length quadratic.old ≡ triangle s) }
     ensures { quadratic.new ≡ add_diagonal s v quadratic.old }
@@ -32,9 +33,9 @@ pub fn new(dim: usize, prior_offset: f64, linear: &mut [f64], quadratic: &mut [f
     requires { (0 < dim) × (dim ≤ 128) × (length linear.old ≡ dim) × (length quadratic.old ≡ triangle dim) }
     ensures { (linear.new ≡ (new_stats dim prior_offset).linear) × (quadratic.new ≡ (new_stats dim prior_offset).quadratic) }
 {
-    clear(linear, dim);
+    linear.fill(0.0);
     linear[0] += prior_offset;
-    clear(quadratic, quadratic.len());
+    quadratic.fill(0.0);
     add_diagonal(dim, 1.0, quadratic);
 }
 
@@ -43,10 +44,12 @@ pub fn prior_vector(dim: usize, prior_offset: f64, ivector: &mut [f64])
     requires { (0 < dim) × (length ivector.old ≡ dim) }
     ensures { ivector.new ≡ prior_vector dim prior_offset }
 {
-    clear(ivector, dim);
+    ivector.fill(0.0);
     ivector[0] = prior_offset;
 }
 
+// A row added to another. By index: of what a loop over `iter_mut().zip` writes, an invariant names no element (tried).
+#[tactic(auto, using(loops::proofs::Loop::loops))]
 fn add(row: &[f64], out: &mut [f64])
     requires { length row.now ≡ length out.old }
     ensures { out.new ≡ fill (length out.old) (λ c. at out.old c +₆₄ at row.now c) out.old }
@@ -61,22 +64,23 @@ fn acc_gauss(
     g: usize,
     w: f64,
     x: &[f64],
-    d: usize,
-    s: usize,
     sigma_inv_m: &[f64],
     u: &[f64],
     linear: &mut [f64],
     quadratic: &mut [f64],
     row: &mut [f64],
 )
-    requires { (d ≤ length x.now) × (g * (d * s) + d * s ≤ length sigma_inv_m.now) × (g * length quadratic.old + length quadratic.old ≤ length u.now) × (length linear.old ≡ s) × (length row.old ≡ s) }
-    ensures { (linear.new ≡ fill s (λ c. at linear.old c +₆₄ linear_term d s sigma_inv_m.now g (at x.now) c) linear.old)
-        × (quadratic.new ≡ fill (length quadratic.old) (λ i. at quadratic.old i +₆₄ w *₆₄ at u.now (g * length quadratic.old + i)) quadratic.old) }
+    requires rows_in { g * (length x.now * length row.old) + length x.now * length row.old ≤ length sigma_inv_m.now }
+    requires terms_in { g * length quadratic.old + length quadratic.old ≤ length u.now }
+    requires linear_long { length linear.old ≡ length row.old }
+    ensures linear { linear.new ≡ fill (length row.old) (λ c. at linear.old c +₆₄ linear_term (length x.now) (length row.old) sigma_inv_m.now g (at x.now) c) linear.old }
+    ensures quadratic { quadratic.new ≡ fill (length quadratic.old) (λ i. at quadratic.old i +₆₄ w *₆₄ at u.now (g * length quadratic.old + i)) quadratic.old }
 {
-    let size = d * s;
+    let s = row.len();
+    let size = x.len() * s;
     let start = g * size;
     let end = start + size;
-    weighted_rows(&sigma_inv_m[start..end], d, s, s, x, row);
+    weighted_rows(&sigma_inv_m[start..end], s, x, row);
     add(row, linear);
     let from = g * quadratic.len();
     let to = from + quadratic.len();
@@ -86,7 +90,6 @@ fn acc_gauss(
 // What the m Gaussians seen add to the statistics, in the order first seen; the answer is their weight.
 fn acc_batch(
     d: usize,
-    s: usize,
     sigma_inv_m: &[f64],
     u: &[f64],
     num_gauss: usize,
@@ -98,12 +101,16 @@ fn acc_batch(
     quadratic: &mut [f64],
     row: &mut [f64],
 ) -> f64
-    requires { (num_gauss * (d * s) ≤ length sigma_inv_m.now) × (num_gauss * length quadratic.old ≤ length u.now) × (length linear.old ≡ s) × (length row.old ≡ s) × Slots num_gauss d m seen.now tot.now sum.now }
-    ensures { (linear.new ≡ linear_over d s sigma_inv_m.now seen.now sum.now linear.old m)
-        × (quadratic.new ≡ quadratic_over (length quadratic.old) u.now seen.now tot.now quadratic.old m)
-        × (result ≡ sum₆₄ zero₆₄ m (at tot.now)) }
+    requires rows_in { num_gauss * (d * length row.old) ≤ length sigma_inv_m.now }
+    requires terms_in { num_gauss * length quadratic.old ≤ length u.now }
+    requires linear_long { length linear.old ≡ length row.old }
+    requires slots { Slots num_gauss d m seen.now tot.now sum.now }
+    ensures linear { linear.new ≡ linear_over d (length row.old) sigma_inv_m.now seen.now sum.now linear.old m }
+    ensures quadratic { quadratic.new ≡ quadratic_over (length quadratic.old) u.now seen.now tot.now quadratic.old m }
+    ensures weight { result ≡ sum₆₄ zero₆₄ m (at tot.now) }
 {
     let mut tot_weight = 0.0;
+    // By index: a slot stands in three lists.
     for k in 0..m {
         let w = tot[k];
         let start = k * d;
@@ -112,8 +119,6 @@ fn acc_batch(
             seen[k],
             w,
             &sum[start..end],
-            d,
-            s,
             sigma_inv_m,
             u,
             linear,
@@ -129,7 +134,7 @@ fn acc_batch(
 fn prior_scale(num_frames: f64, max_count: f64) -> f64
     ensures { result ≡ larger num_frames max_count /₆₄ max_count }
 {
-    floats::max_f64(num_frames, max_count) / max_count
+    floats::max(num_frames, max_count) / max_count
 }
 
 // The prior as the new frame count scales it; the answer is that count.
@@ -183,7 +188,6 @@ pub fn acc(
     let mut row = [0.0f64; 128];
     let tot_weight = acc_batch(
         d,
-        dim,
         sigma_inv_m,
         u,
         num_gauss,
@@ -232,7 +236,11 @@ pub fn get_ivector(
 {
     if num_frames > 0.0 {
         raise(prior_offset, ivector);
-        linear::linear_cgd(quadratic, dim, linear, ivector, o.num_cg_iters, scratch);
+        let a = Symmetric {
+            cells: quadratic,
+            n: dim,
+        };
+        linear::linear_cgd(a, linear, ivector, o.num_cg_iters, scratch);
         return;
     }
     prior_vector(dim, prior_offset, ivector);

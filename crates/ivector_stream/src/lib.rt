@@ -16,8 +16,8 @@ ghost use Rattle.program.specs.Rooms.{Rings, rings_from, estimate_from, Rooms, r
 ghost use Rattle.program.specs.Calls.{call_of, new_answer, fresh_rooms, ring_call, done_on, push_frame, set_input_finished, update_frame_weights, forget_before, set_cmn_window};
 
 use definition::{
-    EstimateLengths, IvectorInfo, IvectorStream, NewStream, RingLengths, RoomLengths, StreamAnswer,
-    StreamCall, TableLengths,
+    EstimateLengths, IvectorInfo, IvectorStream, LentFrames, LentWaiting, NewStream, RingLengths,
+    RoomLengths, StreamAnswer, StreamCall, TableLengths,
 };
 
 // ---- answers
@@ -138,9 +138,8 @@ pub fn new(
         scratch: scratch.len(),
     };
     let lengths = RoomLengths { rings, estimate };
-    let refusal = stream_refusals::new_refusal(info, tables, lengths);
-    if refusal != 0 {
-        return NewStream::Refused(refusal);
+    if let Err(e) = stream_refusals::new_refusal(info, tables, lengths) {
+        return NewStream::Refused(e.number());
     }
     let o = info.opts;
     let d = info.dims;
@@ -168,6 +167,7 @@ pub fn new(
 
 // ---- push
 
+#[inline(always)]
 pub fn push_frame(
     mut s: IvectorStream,
     frame: &[f32],
@@ -181,48 +181,13 @@ pub fn push_frame(
         ring_call result (rings_from frames.new rows.new waiting_frames.now waiting_weights.now)
         ≡ done_on s z (push_frame s z frame.now)) }
 {
-    let refusal = stream_refusals::push_refusal(
-        s,
-        frame,
-        frames,
-        rows,
-        waiting_frames,
-        waiting_weights,
-    );
-    if refusal != 0 {
-        return reply(refusal, s, 0, 0);
-    }
-    stream_refusals::store_frame(frames, rows, s.accepted, frame);
-    s.accepted += 1;
-    reply(0, s, 0, 0)
-}
-
-// ---- the exported push
-
-// The same push, by functions that no other call of the library uses: so it is compiled into the exported one, and the record is not copied for it.
-pub fn push_frame_exported(
-    mut s: IvectorStream,
-    frame: &[f32],
-    frames: &mut [f32],
-    rows: &mut [f64],
-    waiting_frames: &[usize],
-    waiting_weights: &[f32],
-) -> StreamCall
-    ensures { (
-        let z : Rings = rings_from frames.old rows.old waiting_frames.now waiting_weights.now in
-        ring_call result (rings_from frames.new rows.new waiting_frames.now waiting_weights.now)
-        ≡ done_on s z (push_frame s z frame.now)) }
-{
-    let refusal = stream_refusals::push_refusal_exported(
-        s,
-        frame,
-        frames,
-        rows,
-        waiting_frames,
-        waiting_weights,
-    );
-    if refusal != 0 {
-        return reply(refusal, s, 0, 0);
+    let held = LentFrames { frames, rows };
+    let waiting = LentWaiting {
+        frames: waiting_frames,
+        weights: waiting_weights,
+    };
+    if let Err(e) = stream_refusals::push_refusal(&s, frame, held, waiting) {
+        return reply(e.number(), s, 0, 0);
     }
     stream_refusals::store_frame(frames, rows, s.accepted, frame);
     s.accepted += 1;
@@ -242,9 +207,13 @@ pub fn set_input_finished(
         let z : Rings = rings_from frames.now rows.now waiting_frames.now waiting_weights.now in
         ring_call result z ≡ done_on s z (set_input_finished s z)) }
 {
-    let refusal = stream_refusals::plain_refusal(s, frames, rows, waiting_frames, waiting_weights);
-    if refusal != 0 {
-        return reply(refusal, s, 0, 0);
+    let held = LentFrames { frames, rows };
+    let waiting = LentWaiting {
+        frames: waiting_frames,
+        weights: waiting_weights,
+    };
+    if let Err(e) = stream_refusals::plain_refusal(&s, held, waiting) {
+        return reply(e.number(), s, 0, 0);
     }
     s.input_finished = true;
     reply(0, s, 0, 0)
@@ -266,17 +235,19 @@ pub fn update_frame_weights(
         ring_call result (rings_from frames.now rows.now waiting_frames.new waiting_weights.new)
         ≡ done_on s z (update_frame_weights s z delta_frames.now delta_weights.now)) }
 {
-    let refusal = stream_refusals::change_refusal(
-        s,
+    let held = LentFrames { frames, rows };
+    let waiting = LentWaiting {
+        frames: waiting_frames,
+        weights: waiting_weights,
+    };
+    if let Err(e) = stream_refusals::change_refusal(
+        &s,
         delta_frames,
         delta_weights,
-        frames,
-        rows,
-        waiting_frames,
-        waiting_weights,
-    );
-    if refusal != 0 {
-        return reply(refusal, s, 0, 0);
+        held,
+        waiting,
+    ) {
+        return reply(e.number(), s, 0, 0);
     }
     let past_highest = delta_weights::update_frame_weights(
         waiting_frames,
@@ -302,17 +273,15 @@ fn lowest(low: usize, waiting_frames: &[usize], n: usize) -> usize
     if n == 0 {
         return low;
     }
-    basics::smaller(low, waiting_frames[0])
+    low.min(waiting_frames[0])
 }
 
 // The longest window after a forget that brings the mark to `raised`: from a rise on it is the one in force.
+#[tactic(auto, unfolding(definition::specs::Machine::longest_from))]
 fn longest_from(window: usize, longest: usize, mark: usize, raised: usize) -> usize
     ensures { result ≡ longest_from window longest mark raised }
 {
-    if mark < raised {
-        return window;
-    }
-    longest
+    if mark < raised { window } else { longest }
 }
 
 // An utterance begins at `frame`: no weight change may name a frame before it from now on.
@@ -328,19 +297,21 @@ pub fn forget_before(
         let z : Rings = rings_from frames.now rows.now waiting_frames.now waiting_weights.now in
         ring_call result z ≡ done_on s z (forget_before s z frame)) }
 {
-    let number = stream_refusals::plain_refusal(s, frames, rows, waiting_frames, waiting_weights);
-    if number != 0 {
-        return reply(number, s, 0, 0);
+    let held = LentFrames { frames, rows };
+    let waiting = LentWaiting {
+        frames: waiting_frames,
+        weights: waiting_weights,
+    };
+    if let Err(refusal) = stream_refusals::plain_refusal(&s, held, waiting) {
+        return reply(refusal.number(), s, 0, 0);
     }
-    let i = s.info;
-    let o = i.opts;
-    let reached = basics::smaller(frame, s.num_frames_stats);
+    let reached = frame.min(s.num_frames_stats);
     let first = lowest(reached, waiting_frames, s.waiting);
-    let kept = basics::less(first, o.left_context);
-    let mark = basics::larger(s.mark, kept);
+    let kept = first.saturating_sub(s.info.opts.left_context);
+    let mark = s.mark.max(kept);
     s.longest = longest_from(s.window, s.longest, s.mark, mark);
     s.mark = mark;
-    s.floor = basics::larger(s.floor, frame);
+    s.floor = s.floor.max(frame);
     reply(0, s, 0, 0)
 }
 
@@ -359,19 +330,16 @@ pub fn set_cmn_window(
         let z : Rings = rings_from frames.now rows.now waiting_frames.now waiting_weights.now in
         ring_call result z ≡ done_on s z (set_cmn_window s z window)) }
 {
-    let refusal = stream_refusals::window_refusal(
-        s,
-        window,
-        frames,
-        rows,
-        waiting_frames,
-        waiting_weights,
-    );
-    if refusal != 0 {
-        return reply(refusal, s, 0, 0);
+    let held = LentFrames { frames, rows };
+    let waiting = LentWaiting {
+        frames: waiting_frames,
+        weights: waiting_weights,
+    };
+    if let Err(e) = stream_refusals::window_refusal(&s, window, held, waiting) {
+        return reply(e.number(), s, 0, 0);
     }
     s.window = window;
-    s.longest = basics::larger(s.longest, window);
+    s.longest = s.longest.max(window);
     reply(0, s, 0, 0)
 }
 
@@ -381,17 +349,13 @@ pub fn set_cmn_window(
 pub fn num_frames_ready(s: IvectorStream) -> usize
     ensures { result ≡ frames_ready s.info.opts s.input_finished s.accepted }
 {
-    let i = s.info;
-    let o = i.opts;
-    limits::frames_ready(o, s.input_finished, s.accepted)
+    limits::frames_ready(s.info.opts, s.input_finished, s.accepted)
 }
 
 pub fn ivector_dim(s: IvectorStream) -> usize
     ensures { result ≡ s.info.dims.ivector_dim }
 {
-    let i = s.info;
-    let d = i.dims;
-    d.ivector_dim
+    s.info.dims.ivector_dim
 }
 
 // The first frame that is not in the statistics.

@@ -26,6 +26,11 @@ factor-first d s w table f {x} e h =
     h ∙ build_ext w _ _ (λ c p. iter_ext d _ _ zero₆₄ (λ b q v. ap (λ (t : Float). v +₆₄ t)
     (times_comm binary64 (at table (b * s + c)) (at x b) ∙ ap (λ (t : Float). t *₆₄ at table (b * s + c)) (ap (λ (x : List Float). at x b) e ∙ at_build nan d f b q))))
 
+-- the same sums, of a room of w places and of d numbers
+pub rows-of : {d w : ℕ} (s : ℕ) (table x z : List Float) {y : List Float} → length z ≡ w → length x ≡ d → y ≡ build (length z) (λ c. sum₆₄ zero₆₄ (length x) (λ b. at table (b * s + c) *₆₄ at x b))
+    → y ≡ build w (λ c. sum₆₄ zero₆₄ d (λ b. at table (b * s + c) *₆₄ at x b))
+rows-of s table x z e h f = rw (← e, ← h) f
+
 -- ---- the tables of one Gaussian, by their rows
 
 abbrev pub sigma_row : ℕ → ℕ → List Float → List Float → ℕ → ℕ → Float

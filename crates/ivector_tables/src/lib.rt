@@ -241,7 +241,7 @@ fn sigma_inv_m_row(
 {
     let start = a * (a + 1) / 2;
     column(sigma_inv, start, a, x);
-    weighted_rows(m, d, s, s, x, out);
+    weighted_rows(m, s, x, out);
 }
 
 // Σ⁻¹ M of one Gaussian, into a room that it fills.
@@ -282,7 +282,7 @@ fn quadratic_row(
     ensures { out.new ≡ build (p + 1) (λ q. sum₆₄ zero₆₄ d (λ b. at m.now (b * s + p) *₆₄ at sigma_inv_m.now (b * s + q))) }
 {
     column_of(m, s, p, x);
-    weighted_rows(sigma_inv_m, d, s, p + 1, x, out);
+    weighted_rows(sigma_inv_m, s, x, out);
 }
 
 // Mᵗ Σ⁻¹ M of one Gaussian, packed, into a room that it fills.

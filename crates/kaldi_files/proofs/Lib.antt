@@ -2,3 +2,4 @@
 pub mod GmmDims
 pub mod Runs
 pub mod ExtractorParts
+pub mod ExtractorRead

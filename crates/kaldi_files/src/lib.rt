@@ -2,6 +2,9 @@
 // `IvectorExtractor::parse` and the LDA's part of `IvectorInfo::open` in the Rust.
 #![tactic(auto)]
 
+pub mod checks;
+pub mod parts;
+
 ghost use Rattle.std.specs.Prelude.{◌≡◌, true, false, ◌&&◌};
 ghost use Rattle.std.specs.Float.{binary32, binary64};
 ghost use Rattle.definition.specs.Options.{max_gauss, max_feat, max_ivector, max_columns};

@@ -2,3 +2,5 @@
 pub mod Chain
 pub mod Bytes
 pub mod Numbers
+pub mod Words
+pub mod Values

@@ -2,6 +2,10 @@
 // numbers are read from there once everything is checked.
 #![tactic(auto)]
 
+pub mod blocks;
+pub mod reader;
+pub mod widths;
+
 ghost use Rattle.std.specs.Prelude.{◌≡◌, ◌+◌, ◌-◌, ◌<◌, ◌≤◌, not, length, take, drop, from_bits};
 ghost use Rattle.std.specs.Float.{binary32, binary64};
 ghost use Rattle.floats.specs.Operators.{at};
@@ -218,54 +222,11 @@ fn token_at(s: &[u8], at: usize, want: &[u8]) -> Next
     }
 }
 
-// ---- the reader
-
-// The lent bytes and a position. Each method takes the reader apart, and leaves the work to a function above.
-#[derive(Clone, Copy)]
-pub struct KaldiReader<'a> {
-    pub src: &'a [u8],
-    pub at: usize,
-}
-
-impl<'a> KaldiReader<'a> {
-    pub fn new(src: &'a [u8]) -> KaldiReader<'a>
-        ensures { (result.src ≡ src.entry) × (result.at ≡ 0) }
-    {
-        KaldiReader { src, at: 0 }
-    }
-
-    // The reader at another place.
-    pub fn moved(self, at: usize) -> KaldiReader<'a>
-        ensures { (result.src ≡ self.entry.src) × (result.at ≡ at) }
-    {
-        KaldiReader { src: self.src, at }
-    }
-
-    pub fn expect_binary(self) -> Next
-        ensures { next_of result ≡ binary self.entry.src.now self.entry.at }
-    {
-        expect_binary(self.src, self.at)
-    }
-
-    pub fn read_token(self) -> Word
-        ensures result_value { word_of self.entry.src.now result ≡ word self.entry.src.now self.entry.at }
-        ensures word_in { word_in self.entry.src.now result }
-    {
-        word_at(self.src, self.at)
-    }
-
-    pub fn expect_token(self, want: &[u8]) -> Next
-        ensures { next_of result ≡ token want.now self.entry.src.now self.entry.at }
-    {
-        token_at(self.src, self.at, want)
-    }
-}
-
-// What the files' checks call: a reader is made, moved to the place, and asked. Here the mark at the start of a file.
+// The mark at the start of a file.
 pub fn open_binary(s: &[u8]) -> Next
     ensures { next_of result ≡ binary s.now 0 }
 {
-    KaldiReader::new(s).expect_binary()
+    expect_binary(s, 0)
 }
 
 // The next word from a place on.
@@ -273,14 +234,14 @@ pub fn read_token(s: &[u8], at: usize) -> Word
     ensures result_value { word_of s.now result ≡ word s.now at }
     ensures word_in { word_in s.now result }
 {
-    KaldiReader::new(s).moved(at).read_token()
+    word_at(s, at)
 }
 
 // The same, where one word alone will do.
 pub fn expect_token(s: &[u8], at: usize, want: &[u8]) -> Next
     ensures { next_of result ≡ token want.now s.now at }
 {
-    KaldiReader::new(s).moved(at).expect_token(want)
+    token_at(s, at, want)
 }
 
 // ---- numbers

@@ -1,13 +1,14 @@
 -- Whole numbers by their decimal digits, and what they are below a cap.
 use mathlib.Core.Path.{◌≡◌, refl, sym, ap, ◌∙◌}
 use mathlib.Core.List.{List, [], ◌∷◌, ◌++◌}
-use Prim.Native.Nat.{ℕ, suc, ◌+◌, ◌-◌, ◌*◌, ◌≤◌, ◌<◌, min}
+use Prim.Native.Nat.{ℕ, ◌+◌, ◌-◌, ◌*◌, ◌≤◌, ◌<◌, min}
 use native.Mathlib.Nat.{le_refl, le_trans}
 use native.Mathlib.Decide.{dec_le}
 use native.Mathlib.Omega.{arith}
-use lib.ListN.{length, take, drop, get_or}
+use lib.ListN.{length, drop, get_or, drop_of_length-le}
+use Rattle.std.proofs.Common.{add-one}
+use Rattle.std.proofs.Math.Seq.{drop-cons}
 use Rattle.definition.specs.Text.{digits_value}
-use Rattle.kaldi_io.proofs.Bytes.{next-byte}
 
 pub decimal_nil : (m : ℕ) → digits_value m [] ≡ m
 unfolding digits_value
@@ -43,21 +44,10 @@ decimal_cap y cap l = go (dec_le y cap)
 
 -- ---- as the loop over the digits goes
 
-module _ (s : List ℕ) (i to x cap : ℕ) where
-  pub decimal_turn : {v z : ℕ} → i < to → to ≤ length s → v ≡ get_or s i 0 - 48 → z ≡ min (x * 10 + v) cap
-      → min (digits_value x (take (to - i) (drop i s))) cap ≡ min (digits_value z (take (to - (i + 1)) (drop (i + 1) s))) cap
-  decimal_turn {v} h k e f =
-      let n : to - i ≡ suc (to - (i + 1)) = omega arith in
-      let r : List ℕ = take (to - (i + 1)) (drop (i + 1) s) in
-      ap (λ (m : ℕ). min (digits_value x (take m (drop i s))) cap) n
-      ∙ ap (λ (l : List ℕ). min (digits_value x l) cap) (next-byte (to - (i + 1)) s i (omega arith))
-      ∙ ap (λ (d : ℕ). min d cap) (decimal_cons x (get_or s i 0) r)
-      ∙ ap (λ (d : ℕ). min (digits_value (x * 10 + d) r) cap) (sym e)
-      ∙ sym (decimal_cap (x * 10 + v) cap r)
-      ∙ ap (λ (d : ℕ). min (digits_value d r) cap) (sym f)
+pub decimal_next : (m i : ℕ) (s : List ℕ) → i < length s → digits_value m (drop i s) ≡ digits_value (m * 10 + (get_or s i 0 - 48)) (drop (i + 1) s)
+unfolding digits_value
+decimal_next m i s h = rw add-one (ap (digits_value m) (drop-cons s i 0 h))
 
-  pub decimal_end : to ≤ i → x ≤ cap → min (digits_value x (take (to - i) (drop i s))) cap ≡ x
-  decimal_end h k =
-      let n : to - i ≡ 0 = omega arith in
-      let e : min x cap ≡ x = omega arith in
-      ap (λ (m : ℕ). min (digits_value x (take m (drop i s))) cap) n ∙ ap (λ (d : ℕ). min d cap) (decimal_nil x) ∙ e
+pub decimal_end : (m i : ℕ) (s : List ℕ) → length s ≤ i → digits_value m (drop i s) ≡ m
+unfolding digits_value
+decimal_end m i s h = ap (digits_value m) (drop_of_length-le s h)

@@ -1,5 +1,5 @@
 -- The laws that the functions' proofs cite.
-pub mod Sorting
+pub mod Runs
 pub mod Decimals
 pub mod Numbers
 pub mod Rows

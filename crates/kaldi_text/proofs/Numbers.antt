@@ -25,73 +25,6 @@ use Rattle.kaldi_text.proofs.Decimals.{decimal_append, decimal_cap}
 le_of_not_lt : (m n : ℕ) → (m < n → ⊥) → n ≤ m
 le_of_not_lt m n h = omega arith
 
--- ---- a run of bytes ends within the text
-
-run-le : (t : ℕ → Bool) (l : List ℕ) → run t l ≤ length l
-unfolding run
-run-le t [] = le_refl 0
-run-le t (b ∷ l) = go (t b) (run-le t l)
-  where
-    go : (x : Bool) → run t l ≤ length l → (elim x as (λ _. ℕ) [ true ↦ suc (run t l) | false ↦ 0 ]) ≤ suc (length l)
-    go true h = omega arith
-    go false h = omega arith
-
-pub run-within : (t : ℕ → Bool) (s : List ℕ) (at : ℕ) → at ≤ length s → at + run t (drop at s) ≤ length s
-run-within t s at h = omega (arith, run-le t (drop at s), length-drop at s)
-
--- ---- sign, digits, fraction, exponent: by the test of the byte where they begin
-
-module _ (s : List ℕ) (at : ℕ) where
-  pub sign_some : {minus : Bool} → minus ≡ here (eqb 45) s at → here (λ b. eqb b 43 || eqb b 45) s at ≡ true → read minus (at + 1) ≡ sign s at
-  unfolding sign
-  sign_some e h = rw (e, h)
-
-  pub sign_none : {minus : Bool} → minus ≡ here (eqb 45) s at → here (λ b. eqb b 43 || eqb b 45) s at ≡ false → read minus at ≡ sign s at
-  unfolding sign
-  sign_none e h = rw (e, h)
-
-  pub digits_are : {to : ℕ} → to ≡ at + run (within 48 57) (drop at s) → read (take (to - at) (drop at s)) to ≡ digits s at
-  unfolding digits
-  digits_are {to} e =
-      let n : to - at ≡ run (within 48 57) (drop at s) = omega arith in
-      simp (n, ← e)
-
-  pub fraction_some : here (eqb 46) s at ≡ true → digits s (at + 1) ≡ fraction s at
-  unfolding fraction
-  fraction_some h = rw h
-
-  pub fraction_none : here (eqb 46) s at ≡ false → read (take (at - at) (drop at s)) at ≡ fraction s at
-  unfolding fraction
-  fraction_none h = let z : at - at ≡ 0 = omega arith in rw (h, z)
-
-  pub exponent_some : here (λ b. eqb b 69 || eqb b 101) s at ≡ true → signed_digits s (at + 1) ≡ exponent s at
-  unfolding exponent
-  exponent_some h = rw h
-
-  pub exponent_none : here (λ b. eqb b 69 || eqb b 101) s at ≡ false → read (record { under = false; magnitude = 0 }) at ≡ exponent s at
-  unfolding exponent
-  exponent_none h = rw h
-
-part_length : (s : List ℕ) (from to : ℕ) → from ≤ to → to ≤ length s → length (take (to - from) (drop from s)) ≡ to - from
-part_length s from to h k = length_part from (to - from) s (omega arith)
-
-module _ (s : List ℕ) (p : ℕ) {minus : Bool} {from to : ℕ} (lead : read minus from ≡ sign s p) (stop : to ≡ from + run (within 48 57) (drop from s)) (inside : to ≤ length s) where
-  pub power_none : to ≡ from → refused 7 ≡ signed_digits s p
-  unfolding signed_digits
-  power_none e =
-      let z : length (take (to - from) (drop from s)) ≡ 0 = part_length s from to (omega arith) inside ∙ omega arith in
-      simp (← lead, ← (digits_are s from stop), z)
-
-  power_read : (to ≡ from → ⊥) → read (record { under = minus; magnitude = digits_value 0 (take (to - from) (drop from s)) }) to ≡ signed_digits s p
-  unfolding signed_digits
-  power_read e =
-      let h : from < to = omega arith in
-      let z : ltb 0 (length (take (to - from) (drop from s))) ≡ true = lt-ltb 0 (length (take (to - from) (drop from s))) (rw (part_length s from to (omega arith) inside) (omega arith)) in
-      simp (← lead, ← (digits_are s from stop), z)
-
-  pub power_some : (to ≡ from → ⊥) → {n : ℕ} → n ≡ min (digits_value 0 (take (to - from) (drop from s))) 100000 → read (record { under = minus; magnitude = n }) to ≡ capped (signed_digits s p)
-  power_some e held = ap (λ (d : ℕ). read (record { under = minus; magnitude = d }) to) held ∙ ap capped (power_read e)
-
 -- ---- digits and power within their limits
 
 -- where a format comes in: the code's caps are above every limit
@@ -175,7 +108,7 @@ module _ (f : Format) (minus : Bool) (s : List ℕ) (next : ℕ) where
 -- ---- the whole number
 
 -- what follows the exponent
-abbrev tail : Format → Bool → List ℕ → List ℕ → List ℕ → Got Power → Got Float
+abbrev pub tail : Format → Bool → List ℕ → List ℕ → List ℕ → Got Power → Got Float
 tail f minus a b s g = after g (λ e. to_nearest f minus (digits_value 0 (a ++ b)) (if e.under then 0 else e.magnitude) ((if e.under then e.magnitude else 0) + length b)) s
 
 -- as the code has it: an exponent of size z below zero, or not
@@ -188,69 +121,53 @@ cap_power f minus m false e n s next h =
     let z : (x : ℕ) → to_nearest f minus m x (0 + n) s next ≡ to_nearest f minus m x n s next = λ x. ap (λ (k : ℕ). to_nearest f minus m x k s next) (zero-add n) in
     z (min e 100000) ∙ cap_up f minus s next m e n h ∙ sym (z e)
 
--- the parts of a number, as the code reads them: the sign, the digits from `from` to `to`, and those of the fraction from `start` to `stop`
-pub record Parts (s : List ℕ) (at : ℕ) (minus : Bool) (from to start stop : ℕ) : Type 0 where
+-- the parts of a number, as the code reads them: the sign, the digits, and those of the fraction
+pub record Parts (s : List ℕ) (at : ℕ) (minus : Bool) (a b : List ℕ) (from to stop : ℕ) : Type 0 where
   pub lead : read minus from ≡ sign s at
-  pub ends : to ≡ from + run (within 48 57) (drop from s)
-  pub inside : to ≤ length s
-  pub part : read (take (stop - start) (drop start s)) stop ≡ fraction s to
-  pub order : start ≤ stop
-  pub fits : stop ≤ length s
+  pub whole : read a to ≡ digits s from
+  pub part : read b stop ≡ fraction s to
 
-module _ {s : List ℕ} {at : ℕ} {minus : Bool} {from to start stop : ℕ} (o : Parts s at minus from to start stop) (f : Format) where
-  abbrev A : List ℕ
-  A = take (to - from) (drop from s)
-
-  abbrev B : List ℕ
-  B = take (stop - start) (drop start s)
-
-  count : length (A ++ B) ≡ (to - from) + (stop - start)
-  count = length-append A B ∙ ap (λ (n : ℕ). n + length B) (part_length s from to (omega arith) o.inside) ∙ ap (λ (n : ℕ). (to - from) + n) (part_length s start stop o.order o.fits)
-
-  pub number_empty : (to - from) + (stop - start) ≡ 0 → refused 7 ≡ number f s at
+module _ {s : List ℕ} {at : ℕ} {minus : Bool} {a b : List ℕ} {from to stop : ℕ} (o : Parts s at minus a b from to stop) (f : Format) where
+  -- one digit at least
+  pub number_by : number f s at ≡ if ltb 0 (length a + length b) then tail f minus a b s (exponent s stop) else refused 7
   unfolding number
-  number_empty e = let z : length (A ++ B) ≡ 0 = count ∙ e in simp (← o.lead, ← (digits_are s from o.ends), ← o.part, z)
+  number_by = simp (← o.lead, ← o.whole, ← o.part, length-append a b) (by-test (ltb 0 (length a + length b)) (λ t. rw t) (λ t. rw t))
 
-  module _ (some : (to - from) + (stop - start) ≡ 0 → ⊥) where
-    number_tail : number f s at ≡ tail f minus A B s (exponent s stop)
-    unfolding number
-    number_tail = let z : ltb 0 (length (A ++ B)) ≡ true = lt-ltb 0 (length (A ++ B)) (rw count (omega arith)) in simp (← o.lead, ← (digits_are s from o.ends), ← o.part, z)
+  module _ (some : 0 < length a + length b) where
+    number_tail : number f s at ≡ tail f minus a b s (exponent s stop)
+    number_tail = number_by ∙ rw (lt-ltb 0 (length a + length b) some)
 
     pub number_refused : {e : ℕ} → refused e ≡ capped (exponent s stop) → refused e ≡ number f s at
     number_refused {e} h = go (exponent s stop) h ∙ sym number_tail
       where
-        go : (g : Got Power) → refused e ≡ capped g → refused e ≡ tail f minus A B s g
+        go : (g : Got Power) → refused e ≡ capped g → refused e ≡ tail f minus a b s g
         go (refused n) h = ap (λ (k : ℕ). refused k) (same_refusal h)
         go (read p x) h = absurd (not-read h)
 
     -- the digits as the code has them
     module _ {u : Bool} {z next : ℕ} (held : read (record { under = u; magnitude = z }) next ≡ capped (exponent s stop))
-        {w : ℕ} (first : w ≡ min (digits_value 0 A) (2 ^ 53)) {m : ℕ} (second : m ≡ min (digits_value w B) (2 ^ 53)) where
-      digits_held : m ≡ min (digits_value 0 (A ++ B)) (2 ^ 53)
+        {w : ℕ} (first : w ≡ min (digits_value 0 a) (2 ^ 53)) {m : ℕ} (second : m ≡ min (digits_value w b) (2 ^ 53)) where
+      digits_held : m ≡ min (digits_value 0 (a ++ b)) (2 ^ 53)
       digits_held =
-          second ∙ ap (λ (k : ℕ). min (digits_value k B) (2 ^ 53)) first ∙ decimal_cap (digits_value 0 A) (2 ^ 53) B ∙ ap (λ (k : ℕ). min k (2 ^ 53)) (sym (decimal_append 0 A B))
+          second ∙ ap (λ (k : ℕ). min (digits_value k b) (2 ^ 53)) first ∙ decimal_cap (digits_value 0 a) (2 ^ 53) b ∙ ap (λ (k : ℕ). min k (2 ^ 53)) (sym (decimal_append 0 a b))
 
-      number_read : stop - start ≤ 65536 → scaled_by f minus m u z (stop - start) s next ≡ number f s at
+      number_read : length b ≤ 65536 → scaled_by f minus m u z (length b) s next ≡ number f s at
       number_read l = go (exponent s stop) held ∙ sym number_tail
         where
-          n_is : stop - start ≡ length B
-          n_is = sym (part_length s start stop o.order o.fits)
-
-          go : (g : Got Power) → read (record { under = u; magnitude = z }) next ≡ capped g → scaled_by f minus m u z (stop - start) s next ≡ tail f minus A B s g
+          go : (g : Got Power) → read (record { under = u; magnitude = z }) next ≡ capped g → scaled_by f minus m u z (length b) s next ≡ tail f minus a b s g
           go (refused n) h = absurd (not-read (sym h))
           go (read p x) h =
               let e = same-value h in
-              ap (λ (k : ℕ). scaled_by f minus k u z (stop - start) s next) digits_held
-              ∙ cap_digits f minus s next (digits_value 0 (A ++ B)) _ _
-              ∙ ap (λ (k : ℕ). scaled_by f minus (digits_value 0 (A ++ B)) u z k s next) n_is
-              ∙ ap (λ (q : Power). scaled_by f minus (digits_value 0 (A ++ B)) q.under q.magnitude (length B) s next) e
-              ∙ ap (scaled_by f minus (digits_value 0 (A ++ B)) p.under (min p.magnitude 100000) (length B) s) (same_place h)
-              ∙ cap_power f minus (digits_value 0 (A ++ B)) p.under p.magnitude (length B) s x (rw (← n_is) l)
+              ap (λ (k : ℕ). scaled_by f minus k u z (length b) s next) digits_held
+              ∙ cap_digits f minus s next (digits_value 0 (a ++ b)) _ _
+              ∙ ap (λ (q : Power). scaled_by f minus (digits_value 0 (a ++ b)) q.under q.magnitude (length b) s next) e
+              ∙ ap (scaled_by f minus (digits_value 0 (a ++ b)) p.under (min p.magnitude 100000) (length b) s) (same_place h)
+              ∙ cap_power f minus (digits_value 0 (a ++ b)) p.under p.magnitude (length b) s x l
 
-      pub number_under : u ≡ true → stop - start ≤ 65536 → to_nearest f minus m 0 (z + (stop - start)) [] next ≡ number f s at
-      number_under e l = finished_any f minus m 0 (z + (stop - start)) [] next s ∙ ap (λ (v : Bool). scaled_by f minus m v z (stop - start) s next) (sym e) ∙ number_read l
+      pub number_under : u ≡ true → length b ≤ 65536 → to_nearest f minus m 0 (z + length b) [] next ≡ number f s at
+      number_under e l = finished_any f minus m 0 (z + length b) [] next s ∙ ap (λ (v : Bool). scaled_by f minus m v z (length b) s next) (sym e) ∙ number_read l
 
-      pub number_over : u ≡ false → stop - start ≤ 65536 → to_nearest f minus m z (stop - start) [] next ≡ number f s at
+      pub number_over : u ≡ false → length b ≤ 65536 → to_nearest f minus m z (length b) [] next ≡ number f s at
       number_over e l =
-          finished_any f minus m z (stop - start) [] next s ∙ ap (λ (n : ℕ). to_nearest f minus m z n s next) (sym (zero-add (stop - start)))
-          ∙ ap (λ (v : Bool). scaled_by f minus m v z (stop - start) s next) (sym e) ∙ number_read l
+          finished_any f minus m z (length b) [] next s ∙ ap (λ (n : ℕ). to_nearest f minus m z n s next) (sym (zero-add (length b)))
+          ∙ ap (λ (v : Bool). scaled_by f minus m v z (length b) s next) (sym e) ∙ number_read l

@@ -1,19 +1,20 @@
 -- What the check of the CMVN text says: a refusal's number, or the first row and the next position, as the definition's parsers have them.
 -- The numbers stay in the bytes s, and an answer says where.
-use Rattle.std.specs.Prelude.{◌≡◌, List, [], ℕ, ◌≤◌, length, Float}
+use Rattle.std.specs.Prelude.{◌≡◌, Result, Ok, Err, List, [], ℕ, ◌≤◌, length, Float}
+use Rattle.definition.specs.declared.refusal.Refusal.{Refusal}
+use Rattle.definition.specs.Number.{number_of}
 use Rattle.definition.specs.Reader.{Got, read, refused}
 use Rattle.definition.specs.Text.{line}
 use Rattle.kaldi_text.specs.declared.Cmvn.{Cmvn}
-use Rattle.kaldi_text.specs.declared.Cmvn.TheVariants as C
 
 -- the numbers of a row that was read
 unfoldable pub cells : Got (List Float) → List Float
 cells (read xs next) = xs
 cells (refused r) = []
 
-abbrev pub cmvn_of : List ℕ → Cmvn → Got (List Float)
-cmvn_of s (C.Is len from next) = read (cells (line s from)) next
-cmvn_of s (C.Refused r) = refused r
+abbrev pub cmvn_of : List ℕ → Result Cmvn Refusal → Got (List Float)
+cmvn_of s (Ok c) = read (cells (line s c.from)) c.next
+cmvn_of s (Err e) = refused (number_of e)
 
 -- what a fill has to know: the row is there, and it has 2 .. 65 numbers
 pub record RowIn (s : List ℕ) (len from : ℕ) : Type 0 where
@@ -25,6 +26,6 @@ pub record RowIn (s : List ℕ) (len from : ℕ) : Type 0 where
   pub low : 2 ≤ len
   pub high : len ≤ 65
 
-abbrev pub cmvn_in : List ℕ → Cmvn → Type 0
-cmvn_in s (C.Is len from next) = RowIn s len from
-cmvn_in s (C.Refused r) = Unit {0}
+abbrev pub cmvn_in : List ℕ → Result Cmvn Refusal → Type 0
+cmvn_in s (Ok c) = RowIn s c.len c.from
+cmvn_in s (Err e) = Unit {0}

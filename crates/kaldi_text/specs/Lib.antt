@@ -1,3 +1,4 @@
 -- What the contracts of this crate need besides the definitions. Not for readers of the promises.
+pub mod Got
 pub mod Answers
 pub mod Steps

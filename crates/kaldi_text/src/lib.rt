@@ -1,538 +1,430 @@
 // The text matrix of the global CMVN statistics: as `parse_text_matrix` in the Rust, but the numbers are read again once everything is
-// checked.
+// checked. `TextReader` goes through a text; what it reads is what the definition's parsers read at the same place.
 #![tactic(auto)]
 
-ghost use Rattle.std.specs.Prelude.{◌≡◌, not, ◌&&◌, ◌||◌, [], ◌+◌, ◌-◌, ◌^◌, ◌≤◌, ◌<◌, min, length, take, drop, eqb};
+ghost use Rattle.std.specs.Prelude.{◌≡◌, ℕ, if◌then◌else◌, List, IfOk, not, ◌&&◌, ◌||◌, ◌+◌, ◌-◌, ◌^◌, ◌≤◌, ◌<◌, min, length, drop, eqb, leb};
 ghost use Rattle.std.specs.Float.{Format, binary64};
 ghost use Rattle.floats.specs.Operators.{zero₆₄};
 ghost use Rattle.definition.specs.Options.{within};
 ghost use Rattle.definition.specs.Reader.{read, run, here};
-ghost use Rattle.definition.specs.Text.{sign, fraction, digits_value, exponent, to_nearest, number, space, stop, row, line, bracket, ending, cmvn_rows, cmvn};
-ghost use Rattle.kaldi_io.specs.Answers.{next_of, number_of};
+ghost use Rattle.definition.specs.Text.{sign, digits, fraction, digits_value, exponent, to_nearest, number, space, stop, skip, row, line, bracket, ending, cmvn_rows, cmvn};
+ghost use Rattle.kaldi_text.specs.Got.{got, given, peeked};
 ghost use Rattle.kaldi_text.specs.Answers.{cmvn_of, cmvn_in, RowIn, cells};
-ghost use Rattle.kaldi_text.specs.Steps.{Sorted, capped, power_of, power_in, decimal_of, decimal_in, outline, row_of, row_in, next_in};
+ghost use Rattle.kaldi_text.specs.Steps.{gap, capped, power_of, nearest_of, Outlines};
 
-use kaldi_io::{Next, Number};
+mod types;
 
-// ---- a number
+use definition::{Refusal, need};
+pub use types::{Decimal, TextReader};
 
-// What a byte is in a number: a sign says whether it is a minus.
-#[derive(Clone, Copy)]
-pub enum Kind {
-    Digit,
-    Sign(bool),
-    Point,
-    Exponent,
-    Blank,
-    Other,
-}
+// The longest text.
+const MOST_BYTES: usize = 65536;
 
-fn kind_of(b: u8) -> Kind
-    ensures { Sorted (λ t. t b) result }
-{
-    match b {
-        b'0'..=b'9' => Kind::Digit,
-        b'+' => Kind::Sign(false),
-        b'-' => Kind::Sign(true),
-        b'.' => Kind::Point,
-        b'e' | b'E' => Kind::Exponent,
-        b' ' | 9..=13 => Kind::Blank,
-        _ => Kind::Other,
-    }
-}
+// What the digits of a number count up to: 2^53, past every limit.
+const MOST_DIGITS: u64 = 9_007_199_254_740_992;
 
-// The kind of the byte at a place. Past the end it is `Other`.
-fn kind_at(s: &[u8], at: usize) -> Kind
-    ensures { Sorted (λ t. here t s.now at) result }
-{
-    if at < s.len() {
-        kind_of(s[at])
-    } else {
-        Kind::Other
-    }
-}
+// ---- bytes
 
 fn is_digit(b: u8) -> bool
     ensures { result ≡ within 48 57 b }
 {
-    match kind_of(b) {
-        Kind::Digit => true,
-        _ => false,
-    }
-}
-
-// The first place from `at` on that has no digit, or the end.
-pub fn skip_digits(s: &[u8], at: usize) -> usize
-    ensures { result ≡ at + run (within 48 57) (drop at s.now) }
-{
-    let mut i = at;
-    while i < s.len() {
-        if is_digit(s[i]) {
-            i += 1;
-        } else {
-            return i;
-        }
-    }
-    i
-}
-
-// Whether a minus was read, and the place after the sign.
-#[derive(Clone, Copy)]
-pub struct Lead {
-    pub minus: bool,
-    pub next: usize,
-}
-
-// A sign, if any.
-fn read_sign(s: &[u8], at: usize) -> Lead
-    requires { at ≤ length s.now }
-    ensures next_in_bounds { result.next ≤ length s.now }
-    ensures next_value { read result.minus result.next ≡ sign s.now at }
-{
-    match kind_at(s, at) {
-        Kind::Sign(minus) => Lead {
-            minus,
-            next: at + 1,
-        },
-        _ => Lead {
-            minus: false,
-            next: at,
-        },
-    }
-}
-
-// Where digits stand.
-#[derive(Clone, Copy)]
-pub struct Digits {
-    pub from: usize,
-    pub to: usize,
-}
-
-// The digits after a point, if any.
-fn read_fraction(s: &[u8], at: usize) -> Digits
-    requires { at ≤ length s.now }
-    ensures to_value { read (take (result.to - result.from) (drop result.from s.now)) result.to ≡ fraction s.now at }
-    ensures from_le_to { (result.from ≤ result.to) × (result.to ≤ length s.now) }
-{
-    match kind_at(s, at) {
-        Kind::Point => {
-            let from = at + 1;
-            Digits {
-                from,
-                to: skip_digits(s, from),
-            }
-        }
-        _ => Digits { from: at, to: at },
-    }
+    matches!(b, b'0'..=b'9')
 }
 
 pub fn digit_value(b: u8) -> u64
-    ensures { (result ≡ b - 48) × (result < 256) }
+    ensures value { result ≡ b - 48 }
+    ensures small { result < 256 }
 {
-    if b >= 48 { (b - 48) as u64 } else { 0 }
+    u64::from(b.saturating_sub(b'0'))
 }
 
-// The whole number that the digits of a part stand for, after m: at most `cap`.
-fn decimal_of(s: &[u8], from: usize, to: usize, m: u64, cap: u64) -> u64
-    requires to_in_bounds { to ≤ length s.now }
-    requires m_le_cap { (m ≤ cap) × (cap ≤ 2 ^ 53) }
-    ensures { result ≡ min (digits_value m (take (to - from) (drop from s.now))) cap }
-{
-    let mut x = m;
-    let mut i = from;
-    while i < to {
-        let y = x * 10 + digit_value(s[i]);
-        if y < cap {
-            x = y;
-        } else {
-            x = cap;
-        }
-        i += 1;
-    }
-    x
-}
-
-// An exponent: whether it is below zero, and its magnitude.
-#[derive(Clone, Copy)]
-pub enum Power {
-    Is {
-        under: bool,
-        magnitude: u64,
-        next: usize,
-    },
-    Refused(usize),
-}
-
-// An exponent, if any. A size above 100,000 is given as that: it is refused all the same.
-fn read_exponent(s: &[u8], at: usize) -> Power
-    requires { at ≤ length s.now }
-    ensures result_value { power_of result ≡ capped (exponent s.now at) }
-    ensures power_in { power_in result }
-{
-    match kind_at(s, at) {
-        Kind::Exponent => {
-            let lead = read_sign(s, at + 1);
-            let from = lead.next;
-            let to = skip_digits(s, from);
-            if to == from {
-                return Power::Refused(7);
-            }
-            Power::Is {
-                under: lead.minus,
-                magnitude: decimal_of(s, from, to, 0, 100000),
-                next: to,
-            }
-        }
-        _ => Power::Is {
-            under: false,
-            magnitude: 0,
-            next: at,
-        },
-    }
-}
-
-// ±m * 10^(up - down), m at most 2^53: a number's digits and its power of ten, their limits still to be tested.
-#[derive(Clone, Copy)]
-pub enum Decimal {
-    Is {
-        minus: bool,
-        m: u64,
-        up: u64,
-        down: u64,
-        next: usize,
-    },
-    Refused(usize),
-}
-
-// The digits and the power of a number, for either format.
-pub fn read_decimal(s: &[u8], at: usize) -> Decimal
-    requires { (at ≤ length s.now) × (length s.now ≤ 65536) }
-    ensures result_value { (f : Format) → decimal_of f result ≡ number f s.now at }
-    ensures decimal_in { decimal_in result }
-{
-    let lead = read_sign(s, at);
-    let minus = lead.minus;
-    let from = lead.next;
-    let to = skip_digits(s, from);
-    let part = read_fraction(s, to);
-    let start = part.from;
-    let stop = part.to;
-    let behind = stop - start;
-    if to - from + behind == 0 {
-        return Decimal::Refused(7);
-    }
-    match read_exponent(s, stop) {
-        Power::Refused(e) => Decimal::Refused(e),
-        Power::Is {
-            under,
-            magnitude,
-            next,
-        } => {
-            let whole = decimal_of(s, from, to, 0, 9007199254740992);
-            let m = decimal_of(s, start, stop, whole, 9007199254740992);
-            let below = behind as u64;
-            if under {
-                Decimal::Is {
-                    minus,
-                    m,
-                    up: 0,
-                    down: magnitude + below,
-                    next,
-                }
-            } else {
-                Decimal::Is {
-                    minus,
-                    m,
-                    up: magnitude,
-                    down: below,
-                    next,
-                }
-            }
-        }
-    }
-}
-
-// The f64 ±m * 10^(up - down).
-fn finish(minus: bool, m: u64, up: u64, down: u64, next: usize) -> Number
-    requires { (up ≤ 200000) × (down ≤ 200000) }
-    ensures { number_of result ≡ to_nearest binary64 minus m up down [] next }
-{
-    if m >= 9007199254740992 {
-        return Number::Refused(7);
-    }
-    if up > down + 22 {
-        return Number::Refused(7);
-    }
-    if down > up + 22 {
-        return Number::Refused(7);
-    }
-    Number::Is {
-        x: floats::decimal(minus, m, up, down),
-        next,
-    }
-}
-
-fn read_number(s: &[u8], at: usize) -> Number
-    requires { (at ≤ length s.now) × (length s.now ≤ 65536) }
-    ensures { number_of result ≡ number binary64 s.now at }
-{
-    match read_decimal(s, at) {
-        Decimal::Refused(e) => Number::Refused(e),
-        Decimal::Is {
-            minus,
-            m,
-            up,
-            down,
-            next,
-        } => finish(minus, m, up, down, next),
-    }
-}
-
-// ---- the matrix
-
+#[tactic(auto, unfolding(definition::specs::Text::space))]
 pub fn is_space(b: u8) -> bool
     ensures { result ≡ space b }
 {
-    match kind_of(b) {
-        Kind::Blank => true,
-        _ => false,
-    }
+    matches!(b, b' ' | 9..=13)
 }
 
 // A blank that ends no row.
 fn is_gap(b: u8) -> bool
-    ensures { result ≡ (not (eqb b 10) && space b) }
+    ensures { result ≡ gap b }
 {
-    if b == 10 {
-        return false;
-    }
-    is_space(b)
+    b != b'\n' && is_space(b)
 }
 
 // What ends a row.
+#[tactic(auto, unfolding(definition::specs::Text::stop))]
 fn is_stop(b: u8) -> bool
     ensures { result ≡ stop b }
 {
-    if b == 10 {
-        return true;
-    }
-    b == 93
+    b == b'\n' || b == b']'
 }
 
 // What stands behind a number.
 fn is_end(b: u8) -> bool
     ensures { result ≡ (space b || stop b) }
 {
-    if is_space(b) {
-        return true;
-    }
-    is_stop(b)
+    is_space(b) || is_stop(b)
 }
 
-// The first place from `at` on that has no blank, or the end.
-pub fn skip_spaces(s: &[u8], at: usize) -> usize
-    ensures { result ≡ at + run space (drop at s.now) }
+// How many bytes in front are digits.
+fn digits_len(s: &[u8]) -> usize
+    ensures value { result ≡ run (within 48 57) s.now }
+    ensures in_bounds { result ≤ length s.now }
 {
-    let mut i = at;
-    while i < s.len() {
-        if is_space(s[i]) {
-            i += 1;
-        } else {
-            return i;
+    s.iter().take_while(|b| is_digit(**b)).count()
+}
+
+// How many are blanks.
+pub fn spaces_len(s: &[u8]) -> usize
+    ensures value { result ≡ run space s.now }
+    ensures in_bounds { result ≤ length s.now }
+{
+    s.iter().take_while(|b| is_space(**b)).count()
+}
+
+// How many are blanks that end no row.
+fn gaps_len(s: &[u8]) -> usize
+    ensures value { result ≡ run gap s.now }
+    ensures in_bounds { result ≤ length s.now }
+{
+    s.iter().take_while(|b| is_gap(**b)).count()
+}
+
+// The whole number that digits stand for, after m: at most `cap`.
+pub fn value_of(digits: &[u8], m: u64, cap: u64) -> u64
+    requires m_le_cap { m ≤ cap }
+    requires cap_bound { cap ≤ 2 ^ 53 }
+    ensures { result ≡ min (digits_value m digits.now) cap }
+{
+    let mut x = m;
+    for &b in digits {
+        x = (x * 10 + digit_value(b)).min(cap);
+    }
+    x
+}
+
+// ---- a number
+
+/// An exponent: whether it is below zero, and its magnitude.
+#[derive(Clone, Copy, Debug, Default, PartialEq, Eq)]
+pub struct Power {
+    pub under: bool,
+    pub magnitude: u64,
+}
+
+impl Decimal {
+    // The nearest f64, where the limits are kept.
+    #[tactic(auto, unfolding(definition::specs::Text::to_nearest, loops::specs::Refusal::first_of))]
+    fn nearest(self) -> Result<f64, Refusal>
+        ensures { (s : List ℕ) (at : ℕ) → given result at ≡ to_nearest binary64 self.minus self.m self.up self.down s at }
+    {
+        need(self.m < MOST_DIGITS, Refusal::CmvnForm)?;
+        need(self.up <= self.down + 22, Refusal::CmvnForm)?;
+        need(self.down <= self.up + 22, Refusal::CmvnForm)?;
+        Ok(floats::decimal(self.minus, self.m, self.up, self.down))
+    }
+}
+
+// ---- the reader
+
+/// A row: how many numbers, and the last.
+#[derive(Clone, Copy, Debug, PartialEq)]
+pub struct Row {
+    pub len: usize,
+    pub last: f64,
+}
+
+impl<'a> TextReader<'a> {
+    pub fn new(src: &'a [u8]) -> TextReader<'a>
+        ensures bytes { result.src.now ≡ src.now }
+        ensures front { result.at ≡ 0 }
+    {
+        TextReader { src, at: 0 }
+    }
+
+    // What is left to read.
+    fn rest(&self) -> &'a [u8]
+        ensures { result.now ≡ drop self.now.at self.now.src.now }
+    {
+        &self.src[self.at..]
+    }
+
+    // The next byte.
+    fn peek(&self) -> Option<u8>
+        ensures { result ≡ peeked self.now.src.now self.now.at }
+    {
+        self.src.get(self.at).copied()
+    }
+
+    // Whether a row ends here.
+    #[tactic(auto, unfolding(definition::specs::Reader::here))]
+    fn stops(&self) -> bool
+        ensures { result ≡ here stop self.now.src.now self.now.at }
+    {
+        self.peek().is_some_and(is_stop)
+    }
+
+    // Whether a number ends here.
+    #[tactic(auto, unfolding(definition::specs::Reader::here))]
+    fn ends(&self) -> bool
+        ensures { result ≡ here (λ b. space b || stop b) self.now.src.now self.now.at }
+    {
+        self.peek().is_some_and(is_end)
+    }
+
+    /// Whether nothing is left but blanks.
+    pub fn is_done(&self) -> bool
+        ensures { result ≡ leb (length self.now.src.now) (self.now.at + run space (drop self.now.at self.now.src.now)) }
+    {
+        self.src.len() <= self.at + spaces_len(self.rest())
+    }
+
+    /// Past blanks.
+    #[tactic(auto, unfolding(definition::specs::Text::skip))]
+    pub fn skip_spaces(&mut self)
+        ensures value { read tt self.new.at ≡ skip space self.old.src.now self.old.at }
+        ensures same_bytes { self.new.src.now ≡ self.old.src.now }
+    {
+        self.at += spaces_len(self.rest());
+    }
+
+    // Past blanks within a row.
+    #[tactic(auto, unfolding(definition::specs::Text::skip))]
+    fn skip_gaps(&mut self)
+        ensures value { read tt self.new.at ≡ skip gap self.old.src.now self.old.at }
+        ensures same_bytes { self.new.src.now ≡ self.old.src.now }
+    {
+        self.at += gaps_len(self.rest());
+    }
+
+    /// Past a byte, where it comes next.
+    #[tactic(auto, unfolding(definition::specs::Reader::here))]
+    pub fn skip_byte(&mut self, b: u8)
+        ensures value { self.new.at ≡ (if here (eqb b) self.old.src.now self.old.at then self.old.at + 1 else self.old.at) }
+        ensures same_bytes { self.new.src.now ≡ self.old.src.now }
+    {
+        if self.peek() == Some(b) {
+            self.at += 1;
         }
     }
-    i
-}
 
-// The same within a row.
-fn skip_gaps(s: &[u8], at: usize) -> usize
-    ensures { result ≡ at + run (λ b. not (eqb b 10) && space b) (drop at s.now) }
-{
-    let mut i = at;
-    while i < s.len() {
-        if is_gap(s[i]) {
-            i += 1;
-        } else {
-            return i;
-        }
+    /// The digits that come next.
+    #[tactic(auto, unfolding(definition::specs::Text::digits))]
+    pub fn digits(&mut self) -> &'a [u8]
+        ensures value { read result.now self.new.at ≡ digits self.old.src.now self.old.at }
+        ensures same_bytes { self.new.src.now ≡ self.old.src.now }
+        ensures in_bounds { length result.now ≤ length self.old.src.now }
+    {
+        let rest = self.rest();
+        let n = digits_len(rest);
+        self.at += n;
+        &rest[..n]
     }
-    i
-}
 
-fn stop_here(s: &[u8], at: usize) -> bool
-    ensures { result ≡ here stop s.now at }
-{
-    if at < s.len() { is_stop(s[at]) } else { false }
-}
-
-fn end_here(s: &[u8], at: usize) -> bool
-    ensures { result ≡ here (λ b. space b || stop b) s.now at }
-{
-    if at < s.len() { is_end(s[at]) } else { false }
-}
-
-fn byte_here(s: &[u8], at: usize, b: u8) -> bool
-    ensures { result ≡ here (eqb b) s.now at }
-{
-    if at < s.len() { b == s[at] } else { false }
-}
-
-// A bracket, blanks aside.
-fn expect_bracket(s: &[u8], at: usize, b: u8) -> Next
-    ensures result_value { next_of result ≡ bracket b s.now at }
-    ensures next_in { next_in s.now result }
-{
-    let p = skip_spaces(s, at);
-    if byte_here(s, p, b) {
-        Next::At(p + 1)
-    } else {
-        Next::Refused(7)
-    }
-}
-
-// Nothing more, blanks aside.
-fn expect_end(s: &[u8], at: usize) -> Next
-    ensures { next_of result ≡ ending s.now at }
-{
-    if skip_spaces(s, at) < s.len() {
-        Next::Refused(7)
-    } else {
-        Next::At(at)
-    }
-}
-
-// A row: how many numbers, and the last.
-#[derive(Clone, Copy)]
-pub enum Row {
-    Is { len: usize, last: f64, next: usize },
-    Refused(usize),
-}
-
-// At most 65 numbers.
-fn check_row(s: &[u8], at: usize) -> Row
-    requires { (at ≤ length s.now) × (length s.now ≤ 65536) }
-    ensures result_value { row_of result ≡ outline 0 zero₆₄ (row 66 s.now at) }
-    ensures row_in { row_in s.now result }
-{
-    let mut len = 0;
-    let mut last = 0.0;
-    let mut p = at;
-    while len < 66 {
-        let q = skip_gaps(s, p);
-        if stop_here(s, q) {
-            return Row::Is { len, last, next: q };
-        }
-        match read_number(s, q) {
-            Number::Refused(e) => return Row::Refused(e),
-            Number::Is { x, next } => {
-                if end_here(s, next) {
-                    last = x;
-                    p = next;
-                } else {
-                    return Row::Refused(7);
-                }
+    // A sign, if any: whether it is a minus.
+    #[tactic(auto, unfolding(definition::specs::Text::sign, definition::specs::Reader::here))]
+    fn sign(&mut self) -> bool
+        ensures value { read result self.new.at ≡ sign self.old.src.now self.old.at }
+        ensures same_bytes { self.new.src.now ≡ self.old.src.now }
+    {
+        match self.peek() {
+            Some(b'+') => {
+                self.at += 1;
+                false
             }
+            Some(b'-') => {
+                self.at += 1;
+                true
+            }
+            _ => false,
         }
-        len += 1;
     }
-    Row::Refused(7)
+
+    // The digits after a point, if any.
+    #[tactic(auto, unfolding(definition::specs::Text::fraction, definition::specs::Reader::here))]
+    fn fraction(&mut self) -> &'a [u8]
+        ensures value { read result.now self.new.at ≡ fraction self.old.src.now self.old.at }
+        ensures same_bytes { self.new.src.now ≡ self.old.src.now }
+        ensures in_bounds { length result.now ≤ length self.old.src.now }
+    {
+        if self.peek() == Some(b'.') {
+            self.at += 1;
+            self.digits()
+        } else {
+            &[]
+        }
+    }
+
+    // An exponent, if any. A magnitude above 100,000 is given as that: it is refused all the same.
+    #[tactic(auto, unfolding(definition::specs::Text::exponent, definition::specs::Text::signed_digits, definition::specs::Reader::here, loops::specs::Refusal::first_of))]
+    fn exponent(&mut self) -> Result<Power, Refusal>
+        ensures value { got power_of result self.new.at ≡ capped (exponent self.old.src.now self.old.at) }
+        ensures same_bytes { self.new.src.now ≡ self.old.src.now }
+        ensures bound { IfOk result (λ p. p.magnitude ≤ 100000) }
+    {
+        match self.peek() {
+            Some(b'e' | b'E') => {
+                self.at += 1;
+                let under = self.sign();
+                let digits = self.digits();
+                need(!digits.is_empty(), Refusal::CmvnForm)?;
+                Ok(Power {
+                    under,
+                    magnitude: value_of(digits, 0, 100_000),
+                })
+            }
+            _ => Ok(Power::default()),
+        }
+    }
+
+    /// The digits and the power of a number, for either format.
+    pub fn decimal(&mut self) -> Result<Decimal, Refusal>
+        requires { length self.old.src.now ≤ 65536 }
+        ensures value { (f : Format) → nearest_of f result self.new.at ≡ number f self.old.src.now self.old.at }
+        ensures same_bytes { self.new.src.now ≡ self.old.src.now }
+    {
+        let minus = self.sign();
+        let whole = self.digits();
+        let part = self.fraction();
+        need(whole.len() + part.len() > 0, Refusal::CmvnForm)?;
+        let power = self.exponent()?;
+        let m = value_of(part, value_of(whole, 0, MOST_DIGITS), MOST_DIGITS);
+        let behind = part.len() as u64;
+        if power.under {
+            return Ok(Decimal {
+                minus,
+                m,
+                up: 0,
+                down: power.magnitude + behind,
+            });
+        }
+        Ok(Decimal {
+            minus,
+            m,
+            up: power.magnitude,
+            down: behind,
+        })
+    }
+
+    fn number(&mut self) -> Result<f64, Refusal>
+        requires { length self.old.src.now ≤ 65536 }
+        ensures value { given result self.new.at ≡ number binary64 self.old.src.now self.old.at }
+        ensures same_bytes { self.new.src.now ≡ self.old.src.now }
+    {
+        self.decimal()?.nearest()
+    }
+
+    // A bracket, blanks aside.
+    #[tactic(auto, unfolding(definition::specs::Text::bracket, definition::specs::Text::byte, definition::specs::Reader::here, loops::specs::Refusal::first_of))]
+    fn bracket(&mut self, b: u8) -> Result<(), Refusal>
+        ensures value { given result self.new.at ≡ bracket b self.old.src.now self.old.at }
+        ensures same_bytes { self.new.src.now ≡ self.old.src.now }
+    {
+        self.skip_spaces();
+        need(self.peek() == Some(b), Refusal::CmvnForm)?;
+        self.at += 1;
+        Ok(())
+    }
+
+    // Nothing more, blanks aside.
+    #[tactic(auto, unfolding(definition::specs::Text::ending, loops::specs::Refusal::first_of))]
+    fn ending(&self) -> Result<(), Refusal>
+        ensures { given result self.now.at ≡ ending self.now.src.now self.now.at }
+    {
+        need(self.is_done(), Refusal::CmvnForm)
+    }
+
+    // A row of at most 65 numbers.
+    fn row(&mut self) -> Result<Row, Refusal>
+        requires { length self.old.src.now ≤ 65536 }
+        ensures value { got (λ r. cells (row 66 self.old.src.now self.old.at)) result self.new.at ≡ row 66 self.old.src.now self.old.at }
+        ensures outline { IfOk result (Outlines (cells (row 66 self.old.src.now self.old.at))) }
+        ensures same_bytes { self.new.src.now ≡ self.old.src.now }
+    {
+        let mut last = 0.0;
+        // a range: how many numbers are read is the answer, so no iterator is plainer
+        for len in 0..66 {
+            self.skip_gaps();
+            if self.stops() {
+                return Ok(Row { len, last });
+            }
+            last = self.number()?;
+            need(self.ends(), Refusal::CmvnForm)?;
+        }
+        Err(Refusal::CmvnForm)
+    }
+
+    // The same after blanks and blank rows.
+    #[tactic(auto, unfolding(definition::specs::Text::line))]
+    fn line(&mut self) -> Result<Row, Refusal>
+        requires { length self.old.src.now ≤ 65536 }
+        ensures value { got (λ r. cells (line self.old.src.now self.old.at)) result self.new.at ≡ line self.old.src.now self.old.at }
+        ensures outline { IfOk result (Outlines (cells (line self.old.src.now self.old.at))) }
+        ensures same_bytes { self.new.src.now ≡ self.old.src.now }
+    {
+        self.skip_spaces();
+        self.row()
+    }
 }
 
-// The same after blanks and blank rows.
-fn check_line(s: &[u8], at: usize) -> Row
-    requires { (at ≤ length s.now) × (length s.now ≤ 65536) }
-    ensures result_value { row_of result ≡ outline 0 zero₆₄ (line s.now at) }
-    ensures row_in { row_in s.now result }
-{
-    let p = skip_spaces(s, at);
-    check_row(s, p)
-}
+// ---- the matrix
 
-// The first row: how many numbers, and where it is looked for.
-#[derive(Clone, Copy)]
-pub enum Cmvn {
-    Is {
-        len: usize,
-        from: usize,
-        next: usize,
-    },
-    Refused(usize),
+/// The first row of a text that was checked: how many numbers, where it is looked for, and where the text ends.
+#[derive(Clone, Copy, Debug, PartialEq, Eq)]
+pub struct Cmvn {
+    pub len: usize,
+    pub from: usize,
+    pub next: usize,
 }
 
 // Two equal rows between brackets.
-fn check_rows(s: &[u8]) -> Cmvn
+#[tactic(auto, unfolding(definition::specs::Text::cmvn_rows, loops::specs::Refusal::first_of))]
+fn check_rows(s: &[u8]) -> Result<Cmvn, Refusal>
     requires { length s.now ≤ 65536 }
-    ensures result_value { cmvn_of s.now result ≡ cmvn_rows s.now 0 }
+    ensures value { cmvn_of s.now result ≡ cmvn_rows s.now 0 }
     ensures cmvn_in { cmvn_in s.now result }
 {
-    let a = match expect_bracket(s, 0, b'[') {
-        Next::At(next) => next,
-        Next::Refused(e) => return Cmvn::Refused(e),
-    };
-    match check_line(s, a) {
-        Row::Refused(e) => Cmvn::Refused(e),
-        Row::Is { len, last, next: b } => match check_line(s, b) {
-            Row::Refused(e) => Cmvn::Refused(e),
-            Row::Is {
-                len: len2,
-                last: _,
-                next: d,
-            } => {
-                let f = match expect_bracket(s, d, b']') {
-                    Next::At(next) => next,
-                    Next::Refused(e) => return Cmvn::Refused(e),
-                };
-                let g = match expect_end(s, f) {
-                    Next::At(next) => next,
-                    Next::Refused(e) => return Cmvn::Refused(e),
-                };
-                if len < 2 {
-                    return Cmvn::Refused(7);
-                }
-                if len != len2 {
-                    return Cmvn::Refused(7);
-                }
-                if 0.0 < last {
-                    Cmvn::Is {
-                        len,
-                        from: a,
-                        next: g,
-                    }
-                } else {
-                    Cmvn::Refused(7)
-                }
-            }
-        },
-    }
+    let mut r = TextReader::new(s);
+    r.bracket(b'[')?;
+    let from = r.at;
+    let first = r.line()?;
+    let second = r.line()?;
+    r.bracket(b']')?;
+    r.ending()?;
+    need(2 <= first.len, Refusal::CmvnForm)?;
+    need(first.len == second.len, Refusal::CmvnForm)?;
+    need(0.0 < first.last, Refusal::CmvnForm)?;
+    Ok(Cmvn {
+        len: first.len,
+        from,
+        next: r.at,
+    })
 }
 
-pub fn check_cmvn(s: &[u8]) -> Cmvn
-    ensures result_value { cmvn_of s.now result ≡ cmvn s.now 0 }
+/// The text's form; where it is kept, the first row.
+#[tactic(auto, unfolding(definition::specs::Text::cmvn, loops::specs::Refusal::first_of))]
+pub fn check_cmvn(s: &[u8]) -> Result<Cmvn, Refusal>
+    ensures value { cmvn_of s.now result ≡ cmvn s.now 0 }
     ensures cmvn_in { cmvn_in s.now result }
 {
-    if s.len() > 65536 {
-        return Cmvn::Refused(7);
-    }
+    need(s.len() <= MOST_BYTES, Refusal::CmvnForm)?;
     check_rows(s)
 }
 
-// The first row's numbers, once the text is checked, into a room that they fill.
+/// The first row's numbers, once the text is checked, into a room that they fill.
 pub fn fill_row(s: &[u8], from: usize, out: &mut [f64])
     requires { RowIn s.now (length out.old) from }
     ensures { out.new ≡ cells (line s.now from) }
 {
-    let n = out.len();
-    let mut p = skip_spaces(s, from);
-    let mut i = 0;
-    while i < n {
-        match read_number(s, skip_gaps(s, p)) {
+    let mut r = TextReader { src: s, at: from };
+    r.skip_spaces();
+    for i in 0..out.len() {
+        r.skip_gaps();
+        match r.number() {
+            Ok(x) => out[i] = x,
             // does not happen: the text was checked
-            Number::Refused(_) => return,
-            Number::Is { x, next } => {
-                out[i] = x;
-                p = next;
-            }
+            Err(_) => return,
         }
-        i += 1;
     }
 }

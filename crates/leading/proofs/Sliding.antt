@@ -29,8 +29,12 @@ module _ {A : Type 0} where
   slid_one d (suc j) (suc n) p [] h l = absurd (not-suc-le-zero l)
   slid_one d (suc j) (suc n) p (q ∷ z) h l = ap (λ (r : List A). q ∷ r) (slid_one d j n p z (le_of_suc-le-suc h) (le_of_suc-le-suc l))
 
-  pub slid_turn : (d : A) (j n : ℕ) (p : A) (z : List A) {y : List A} → j < n → j < length z → slid j n p z ≡ y → slid (j + 1) n (get_or z j d) (set z j p) ≡ y
+  slid_turn : (d : A) (j n : ℕ) (p : A) (z : List A) {y : List A} → j < n → j < length z → slid j n p z ≡ y → slid (j + 1) n (get_or z j d) (set z j p) ≡ y
   slid_turn d j n p z h l e = rw (add-one j) (slid_one d j n p z h l ∙ e)
+
+  -- the same, with the place's value at hand
+  pub slid_next : (j n : ℕ) (p x : A) (z : List A) {y : List A} → j < n → j < length z → x ≡ get_or z j x → slid j n p z ≡ y → slid (j + 1) n x (set z j p) ≡ y
+  slid_next j n p x z h l i e = ap (λ (v : A). slid (j + 1) n v (set z j p)) i ∙ slid_turn x j n p z h l e
 
   slid_past : (j n : ℕ) (p : A) (z : List A) → n ≤ j → slid j n p z ≡ z
   unfolding slid

@@ -11,31 +11,19 @@ ghost use Rattle.leading.specs.Steps.{held, Falling, Place, Moved, slid};
 fn ahead(p: f32, q: f32) -> bool
     ensures { result ≡ is_ahead (0, p) (0, q) }
 {
-    if p != p {
-        return false;
-    }
-    if q != q {
-        return true;
-    }
-    p > q
+    !p.is_nan() && (q.is_nan() || p > q)
 }
 
-// Gaussian g and its posterior p put down at `first`, what stood there at the next place, and so on up to n.
-fn slide(g: usize, p: f32, first: usize, n: usize, chosen: &mut [usize], posts: &mut [f32])
-    requires { (n ≤ length chosen.old) × (n ≤ length posts.old) }
-    ensures { (chosen.new ≡ slid first n g chosen.old) × (posts.new ≡ slid first n p posts.old) }
+// x put down at `first`, what stood there at the next place, and so on up to n.
+fn slide<T: Copy>(x: T, first: usize, n: usize, room: &mut [T])
+    requires { n ≤ length room.old }
+    ensures { room.new ≡ slid first n x room.old }
 {
-    let mut gauss = g;
-    let mut post = p;
-    let mut j = first;
-    while j < n {
-        let next_gauss = chosen[j];
-        let next_post = posts[j];
-        chosen[j] = gauss;
-        posts[j] = post;
-        gauss = next_gauss;
-        post = next_post;
-        j += 1;
+    let mut held = x;
+    for j in first..n {
+        let next = room[j];
+        room[j] = held;
+        held = next;
     }
 }
 
@@ -61,20 +49,12 @@ fn enters(p: f32, n: usize, posts: &[f32]) -> bool
     ahead(p, posts[n - 1])
 }
 
-// The Gaussian in front of place j, put down at j too.
-fn up_gauss(j: usize, chosen: &mut [usize])
-    requires { (0 < j) × (j < length chosen.old) }
-    ensures { chosen.new ≡ set chosen.old j (get_or chosen.old (j - 1) 0) }
+// What stands in front of place j, put down at j too.
+fn up<T: Copy>(j: usize, room: &mut [T])
+    requires { (0 < j) × (j < length room.old) }
+    ensures { (d : T) → room.new ≡ set room.old j (get_or room.old (j - 1) d) }
 {
-    chosen[j] = chosen[j - 1];
-}
-
-// The posterior in front of place j, put down at j too.
-fn up_post(j: usize, posts: &mut [f32])
-    requires { (0 < j) × (j < length posts.old) }
-    ensures { posts.new ≡ set posts.old j (at posts.old (j - 1)) }
-{
-    posts[j] = posts[j - 1];
+    room[j] = room[j - 1];
 }
 
 // From place `last` on towards the front, those that p is ahead of moved up by one, four at a time: the one at the answer stands there twice.
@@ -83,16 +63,17 @@ fn fours(p: f32, last: usize, chosen: &mut [usize], posts: &mut [f32]) -> usize
     ensures { Moved p last result chosen.old posts.old chosen.new posts.new }
 {
     let mut j = last;
+    // No `for`: the place where the walk ends is the answer, and it goes by four, since one at a time is slower.
     while j > 3 {
         if ahead(p, posts[j - 4]) {
-            up_gauss(j, chosen);
-            up_gauss(j - 1, chosen);
-            up_gauss(j - 2, chosen);
-            up_gauss(j - 3, chosen);
-            up_post(j, posts);
-            up_post(j - 1, posts);
-            up_post(j - 2, posts);
-            up_post(j - 3, posts);
+            up(j, chosen);
+            up(j - 1, chosen);
+            up(j - 2, chosen);
+            up(j - 3, chosen);
+            up(j, posts);
+            up(j - 1, posts);
+            up(j - 2, posts);
+            up(j - 3, posts);
             j -= 4;
         } else {
             return j;
@@ -108,10 +89,12 @@ fn settle(g: usize, p: f32, last: usize, chosen: &mut [usize], posts: &mut [f32]
     ensures { (chosen.new ≡ slid result (last + 1) g chosen.old) × (posts.new ≡ slid result (last + 1) p posts.old) × Place p last posts.old result }
 {
     if leads(p, last, posts) {
-        slide(g, p, 0, last + 1, chosen, posts);
+        slide(g, 0, last + 1, chosen);
+        slide(p, 0, last + 1, posts);
         return 0;
     }
     let mut j = fours(p, last, chosen, posts);
+    // No `for`: the place where the walk ends is the answer.
     while j > 0 {
         let q = posts[j - 1];
         if ahead(p, q) {

@@ -4,32 +4,45 @@ use mathlib.Core.Bool.{Bool, true, false, not}
 use mathlib.Core.List.{List, [], ◌∷◌, foldl}
 use Prim.Native.Nat.{ℕ, zero, suc, ◌+◌, ◌-◌, ◌≤◌, ◌<◌, min}
 use native.Mathlib.Nat.{not-suc-le-zero, le_of_suc-le-suc}
+use native.Mathlib.Numerals.{add-one}
 use native.Mathlib.Omega.{arith}
-use lib.ListN.{length, get_or, drop, drop_of_length-le}
+use lib.ListN.{length, get_or}
 use lib.Dec.{leb, ltb}
 use borrow.Author.Tests.{leb-true, le-leb, lt-leb, le-ltb, ltb-false}
+use Rattle.std.specs.Ordering.{is_le, is_some_and, nat_cmp}
+use Rattle.std.specs.Prelude.{Some, None}
+use Rattle.std.specs.List.{IsAllAdjacentAnswer, slice_get}
+use Rattle.std.specs.List.Sorted.{IsNonDecreasing}
+use Rattle.std.proofs.lemmas.Option.{get_or_from_slice_get, slice_get_within}
+use Rattle.std.proofs.lemmas.List.Sorted.{non_decreasing_from_is_sorted}
 use Rattle.loops.specs.Lists.{any_of}
 use Rattle.loops.proofs.Choose.{by-test, and_holds, or_first}
-use Rattle.loops.proofs.Parts.{drop_next}
 use Rattle.loops.proofs.Tests.{at_none, at_some}
 use Rattle.definition.specs.Stream.{rising}
 use Rattle.limits.specs.Steps.{waiting_broken}
 
--- ---- a loop over the list, by what is left from i
+-- ---- std's order is `rising`
 
-pub rising-turn : (xs : List ℕ) (i n : ℕ) {b : Bool} → i < length xs → n ≤ get_or xs i 0 → rising n (drop i xs) ≡ b → rising (get_or xs i 0) (drop (i + 1) xs) ≡ b
+next_above : (n : ℕ) (xs : List ℕ) → rising n xs ≡ true → (k : ℕ) → suc k < length xs → get_or xs k 0 ≤ get_or xs (suc k) 0
 unfolding rising
-rising-turn xs i n l h e =
-    let g : rising n (drop i xs) ≡ rising (get_or xs i 0) (drop (i + 1) xs) = rw (drop_next 0 xs i l, le-leb n (get_or xs i 0) h) in
-    sym g ∙ e
+next_above n [] e k l = absurd (not-suc-le-zero l)
+next_above n (x ∷ []) e k l = absurd (omega arith)
+next_above n (x ∷ y ∷ ys) e zero l = leb-true x y (and_holds (leb x y) (rising y ys) (and_holds (leb n x) (rising x (y ∷ ys)) e).1).0
+next_above n (x ∷ y ∷ ys) e (suc k) l = next_above x (y ∷ ys) (and_holds (leb n x) (rising x (y ∷ ys)) e).1 k (le_of_suc-le-suc l)
 
-pub rising-fails : (xs : List ℕ) (i n : ℕ) {b : Bool} → i < length xs → get_or xs i 0 < n → rising n (drop i xs) ≡ b → false ≡ b
-unfolding rising
-rising-fails xs i n l h e = let g : rising n (drop i xs) ≡ false = rw (drop_next 0 xs i l, lt-leb n (get_or xs i 0) h) in sym g ∙ e
+neighbours : (n : ℕ) (xs : List ℕ) → rising n xs ≡ true → (k : ℕ) → k + 1 < length xs → get_or xs k 0 ≤ get_or xs (k + 1) 0
+neighbours n xs e k l = rw add-one (next_above n xs e k (omega arith))
 
-pub rising_end : (xs : List ℕ) (i n : ℕ) {b : Bool} → length xs ≤ i → rising n (drop i xs) ≡ b → true ≡ b
+rising_from : (n : ℕ) (xs : List ℕ) → (0 < length xs → n ≤ get_or xs 0 0) → IsNonDecreasing xs → rising n xs ≡ true
 unfolding rising
-rising_end xs i n l e = let g : rising n (drop i xs) ≡ true = rw (drop_of_length-le xs l) in sym g ∙ e
+rising_from n [] f h = refl
+rising_from n (x ∷ xs) f h = rw (le-leb n x (f (omega arith))) (rising_from x xs (λ l. h 0 1 0 (omega arith) (omega arith)) (λ i j d m l. h (suc i) (suc j) d (omega arith) (omega arith)))
+
+pub sorted_rising : (xs : List ℕ) (r : Bool) → IsAllAdjacentAnswer (λ x y b. is_some_and is_le (Some (nat_cmp x y)) ≡ b) xs r → r ≡ rising 0 xs
+sorted_rising xs true a = sym (rising_from 0 xs (λ l. omega arith) (non_decreasing_from_is_sorted xs true a))
+sorted_rising xs false a =
+    let h = non_decreasing_from_is_sorted xs false a in
+    by-test (rising 0 xs) (λ t. absurd (omega (arith, h.2 0, neighbours 0 xs t h.0 h.1))) (λ f. sym f)
 
 -- ---- the lowest
 
@@ -87,3 +100,12 @@ module _ (held : List ℕ) (left mark : ℕ) where
   pub waiting_first : 0 < length held → rising 0 held ≡ true → ltb (get_or held 0 0 - left) mark ≡ waiting_broken held left mark
   unfolding waiting_broken
   waiting_first l e = any_below held left mark l e ∙ sym (rw e)
+
+  -- the first, as `first` gives it
+  pub first_decides : (x : ℕ) → Some x ≡ slice_get held 0 → rising 0 held ≡ true → ltb (x - left) mark ≡ waiting_broken held left mark
+  first_decides x e r =
+      ap (λ (n : ℕ). ltb (n - left) mark) (sym (get_or_from_slice_get held 0 x 0 (sym e))) ∙ waiting_first (slice_get_within held 0 x (sym e)) r
+
+pub no_first : (held : List ℕ) → None ≡ slice_get held 0 → length held ≡ 0
+no_first [] e = refl
+no_first (x ∷ xs) e = cc

@@ -26,7 +26,7 @@ use Rattle.definition.specs.Options.{options_in_range, dims_in_range, dims_agree
 use Rattle.definition.specs.Machine.{frames_held, rows_held, waiting_room}
 use Rattle.definition.specs.Model.{table_sizes, table_lengths, tables_fit}
 use Rattle.definition.specs.Stream.{record_sound, info_sound, same_tables, ring_lengths, same_rings, stream_scratch, estimate_lengths, estimate_sizes, rooms_fit, rising, breaks, is_broken}
-use Rattle.limits.specs.Steps.{same_estimate, waiting_broken, counts_broken}
+use Rattle.limits.specs.Steps.{waiting_broken, counts_broken}
 use Rattle.limits.proofs.Listed.{FirstAre, all-last, any_rest, pair_fail, pair_last}
 
 -- ---- lists of lengths, side by side: one pair that fails decides, or the last one
@@ -42,42 +42,6 @@ module _ (o : IvectorOptions) (d : Dimensions) (z : TableLengths) where
   pub last_table : FirstAre true 7 table_tests → get_or table_tests 7 false ≡ tables_fit o d z
   unfolding tables_fit zip_with
   last_table h = pair_last leb (table_lengths (table_sizes o d)) (table_lengths z) 7 refl refl h
-
-module _ (a b : TableLengths) where
-  abbrev pub same_table_tests : List Bool
-  same_table_tests = zip_with eqb (table_lengths a) (table_lengths b)
-
-  pub other_table : (k : ℕ) → k < length same_table_tests → get_or same_table_tests k false ≡ false → false ≡ same_tables a b
-  unfolding same_tables
-  other_table k l h = pair_fail eqb (table_lengths a) (table_lengths b) k refl l h
-
-  pub last_same_table : FirstAre true 7 same_table_tests → get_or same_table_tests 7 false ≡ same_tables a b
-  unfolding same_tables zip_with
-  last_same_table h = pair_last eqb (table_lengths a) (table_lengths b) 7 refl refl h
-
-module _ (a b : RingLengths) where
-  abbrev pub ring_tests : List Bool
-  ring_tests = zip_with eqb (ring_lengths a) (ring_lengths b)
-
-  pub other_ring : (k : ℕ) → k < length ring_tests → get_or ring_tests k false ≡ false → false ≡ same_rings a b
-  unfolding same_rings
-  other_ring k l h = pair_fail eqb (ring_lengths a) (ring_lengths b) k refl l h
-
-  pub last_ring : FirstAre true 3 ring_tests → get_or ring_tests 3 false ≡ same_rings a b
-  unfolding same_rings zip_with
-  last_ring h = pair_last eqb (ring_lengths a) (ring_lengths b) 3 refl refl h
-
-module _ (a b : EstimateLengths) where
-  abbrev pub same_room_tests : List Bool
-  same_room_tests = zip_with eqb (estimate_lengths a) (estimate_lengths b)
-
-  pub other_room : (k : ℕ) → k < length same_room_tests → get_or same_room_tests k false ≡ false → false ≡ same_estimate a b
-  unfolding same_estimate
-  other_room k l h = pair_fail eqb (estimate_lengths a) (estimate_lengths b) k refl l h
-
-  pub last_same_room : FirstAre true 4 same_room_tests → get_or same_room_tests 4 false ≡ same_estimate a b
-  unfolding same_estimate zip_with
-  last_same_room h = pair_last eqb (estimate_lengths a) (estimate_lengths b) 4 refl refl h
 
 -- ---- rooms
 
@@ -104,21 +68,6 @@ module _ (d : Dimensions) (z : RoomLengths) where
   last_room f r h =
       pair_last leb (estimate_sizes d) (estimate_lengths z.estimate) 4 refl refl h
       ∙ all-last 2 _ refl (le-leb _ _ f, (le-leb _ _ r, tt))
-
--- ---- windows: one test holds, or the last decides
-
-module _ (window longest : ℕ) where
-  abbrev broken : Bool
-  broken = eqb window 0 || ltb longest window || ltb 1000 longest
-
-  pub no_window : window ≡ 0 → true ≡ broken
-  no_window e = sym (or_first (eqb window 0 || ltb longest window) _ (or_first (eqb window 0) _ (eq-eqb window 0 e)))
-
-  pub longest_short : longest < window → true ≡ broken
-  longest_short h = sym (or_first (eqb window 0 || ltb longest window) _ (or_second (eqb window 0) _ (lt-ltb longest window h)))
-
-  pub longest_last : (window ≡ 0 → ⊥) → window ≤ longest → ltb 1000 longest ≡ broken
-  longest_last e h = sym (or_skip (eqb window 0 || ltb longest window) _ (or_none (eqb window 0) _ (ne_eqb window 0 e) (le-ltb longest window h)))
 
 -- ---- a record
 
@@ -161,11 +110,6 @@ whole s waiting e =
       held_back = h.1.1.1.1.1.1.1.1.1.1.1.0;
     }
 
--- one of the tests holds
-pub broken-at : (s : IvectorStream) (waiting : List ℕ) (k : ℕ) → k < length (breaks s waiting) → get_or (breaks s waiting) k false ≡ true → true ≡ is_broken s waiting
-unfolding is_broken
-broken-at s waiting k l h = sym (at_some (λ t. t) false (breaks s waiting) k l h)
-
 take_min : (n : ℕ) (l : List ℕ) → take (min n (length l)) l ≡ take n l
 take_min n l = go (dec_le n (length l))
   where
@@ -185,19 +129,3 @@ waiting_last s waiting e h =
     ap (λ (l : List ℕ). waiting_broken l s.info.opts.left_context s.mark) (ap (λ (k : ℕ). take k waiting) e ∙ take_min s.waiting waiting)
     ∙ ap (λ (t : Bool). not (rising 0 (take s.waiting waiting)) || t) (sym (or-false _))
     ∙ any_rest 8 (drop 2 (breaks s waiting)) h
-
--- the first two fail
-pub counts-last : (s : IvectorStream) (waiting : List ℕ) {r : Bool} → r ≡ counts_broken s waiting → FirstAre false 2 (breaks s waiting) → r ≡ is_broken s waiting
-unfolding counts_broken is_broken
-counts-last s waiting e h = e ∙ any_rest 2 (breaks s waiting) h
-
--- the model's record, by its four tests
-module _ (i : IvectorInfo) where
-  pub record_fails : (k : ℕ) → k < 3 → get_or (options_in_range i.opts ∷ dims_in_range i.dims ∷ dims_agree i.opts i.dims ∷ []) k false ≡ false → info_sound i ≡ false
-  unfolding info_sound record_sound
-  record_fails k l h = and_first _ _ (at_fail (λ t. t) false _ k l h)
-
-  module _ (o : options_in_range i.opts ≡ true) (d : dims_in_range i.dims ≡ true) (a : dims_agree i.opts i.dims ≡ true) where
-    pub tables_decide : info_sound i ≡ tables_fit i.opts i.dims i.tables
-    unfolding info_sound record_sound all_of
-    tables_decide = rw (o, d, a)

@@ -1,14 +1,17 @@
 -- The cells of Cholesky's factor, and the two solves by it.
-use mathlib.Core.Path.{◌≡◌, sym, ap, ◌∙◌}
+use mathlib.Core.Path.{◌≡◌, refl, sym, ap, ◌∙◌}
 use mathlib.Core.Bool.{Bool, true, false, true≢false, false≢true}
 use mathlib.Core.List.{List}
-use Prim.Native.Nat.{ℕ, ◌+◌, ◌*◌, ◌-◌, ◌≤◌}
-use lib.ListN.{set}
-use lib.Ieee.{Float, le}
+use Prim.Native.Nat.{ℕ, ◌+◌, ◌*◌, ◌-◌, ◌≤◌, ◌<◌, min}
+use native.Mathlib.Omega.{arith}
+use lib.ListN.{length, set, take, drop}
+use lib.Seq.{length-take-le, get_or-take}
+use lib.Ieee.{Float, nan, le}
 use borrow.Author.Tests.{eq-eqb, ne_eqb}
 use Rattle.loops.specs.Loop.{Out, on, off}
 use Rattle.loops.specs.Steps.{done}
-use Rattle.loops.proofs.Loop.{iter_none, iter_next, iter_end}
+use Rattle.loops.proofs.Loop.{iter_none, iter_next, iter_end, iter_ext}
+use Rattle.loops.proofs.Parts.{length_lent, lent_is, at_part}
 use Rattle.floats.specs.Operators.{◌-₆₄◌, ◌*₆₄◌, ◌/₆₄◌, zero₆₄, at}
 use Rattle.floats.specs.Sqrt.{square_root}
 use Rattle.definition.specs.Model.{packed}
@@ -31,6 +34,33 @@ module _ (t : Float) (x y : ℕ → Float) where
   less_end i n = iter_end _ t i n
 
 pub ruleset lessens = (less_none, less_next, less_end)
+
+-- the same of two lists of j numbers, which are parts of others
+pub less_parts : (t : Float) (j : ℕ) (p q : List Float) (x y : ℕ → Float) {s : Float} → length p ≡ j → length q ≡ j → ((k : ℕ) → k < j → at p k ≡ x k) → ((k : ℕ) → k < j → at q k ≡ y k)
+    → s ≡ less_products t (min (length p) (length q)) (at p) (at q) → s ≡ less_products t j x y
+unfolding less_products
+less_parts t j p q x y hp hq hx hy e =
+    let m : min (length p) (length q) ≡ j = omega arith in
+    e ∙ ap (λ (m : ℕ). less_products t m (at p) (at q)) m
+    ∙ iter_ext j _ _ t (λ k l v. ap (λ (x : Float). v -₆₄ x *₆₄ at q k) (hx k l) ∙ ap (λ (y : Float). v -₆₄ x k *₆₄ y) (hy k l))
+
+module _ (t : Float) (a j : ℕ) (l : List Float) (h : a + j ≤ length l) where
+  part_at : (k : ℕ) → k < j → at (take (a + j - a) (drop a l)) k ≡ at l (a + k)
+  part_at k p = ap (λ (s : List Float). at s k) (lent_is a j (a + j) l refl) ∙ at_part nan a j l k p
+
+  -- two rows
+  pub less_lent : (b : ℕ) (m : List Float) {s : Float} → b + j ≤ length m
+      → s ≡ less_products t (min (length (take (a + j - a) (drop a l))) (length (take (b + j - b) (drop b m)))) (at (take (a + j - a) (drop a l))) (at (take (b + j - b) (drop b m)))
+      → s ≡ less_products t j (λ k. at l (a + k)) (λ k. at m (b + k))
+  less_lent b m g e =
+      less_parts t j _ _ _ _ (length_lent a j (a + j) l refl h) (length_lent b j (b + j) m refl g) part_at
+      (λ k p. ap (λ (s : List Float). at s k) (lent_is b j (b + j) m refl) ∙ at_part nan b j m k p) e
+
+  -- a row and a front
+  pub less_front : (m : List Float) {s : Float} → j ≤ length m
+      → s ≡ less_products t (min (length (take (a + j - a) (drop a l))) (length (take j m))) (at (take (a + j - a) (drop a l))) (at (take j m))
+      → s ≡ less_products t j (λ k. at l (a + k)) (at m)
+  less_front m g e = less_parts t j _ _ _ _ (length_lent a j (a + j) l refl h) (length-take-le j m g) part_at (λ k p. get_or-take j m k nan p) e
 
 -- ---- the three ways through a cell, with the sum s at hand
 

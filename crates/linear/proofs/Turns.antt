@@ -7,10 +7,13 @@ use Prim.Native.Nat.{ℕ, ◌+◌, ◌≤◌, ◌<◌, min}
 use native.Mathlib.Nat.{le-min, min-le_left, min-le_right}
 use native.Mathlib.Omega.{arith}
 use lib.Dec.{eqb, ltb}
-use lib.Ieee.{Float, neg}
+use lib.ListN.{length, take}
+use lib.Seq.{length-take-le, get_or-take}
+use lib.Ieee.{Float, nan, neg}
 use borrow.Author.Tests.{eqb-true, eqb-false, lt-ltb, le-ltb}
 use Rattle.loops.specs.Loop.{Out, on, off, leave, final}
 use Rattle.loops.specs.Lists.{build}
+use Rattle.loops.proofs.Loop.{iter_ext}
 use Rattle.loops.proofs.Leave.{leave_none, leave_step, leave_end, leave_left}
 use Rattle.loops.proofs.Choose.{by-test, choose_true, choose_false}
 use Rattle.floats.specs.Operators.{◌+₆₄◌, ◌-₆₄◌, ◌*₆₄◌, ◌/₆₄◌, at}
@@ -28,6 +31,19 @@ module _ (k n m : ℕ) where
 
   pub none_left : n ≤ k → ltb k n ≡ ltb k (min n m)
   none_left h = let p : min n m ≤ k = omega (arith, min-le_left n m) in le-ltb k n h ∙ sym (le-ltb k (min n m) p)
+
+-- ---- inner products of vectors of n numbers, and of the first n of one
+
+module _ (n : ℕ) where
+  pub dot_whole : (x y : List Float) {v : Float} → length x ≡ n → length y ≡ n → v ≡ dot (min (length x) (length y)) x y → v ≡ dot n x y
+  dot_whole x y h g e = let m : min (length x) (length y) ≡ n = omega arith in e ∙ ap (λ (m : ℕ). dot m x y) m
+
+  pub dot_front : (x : List Float) {v : Float} → n ≤ length x → v ≡ dot (min (length (take n x)) (length (take n x))) (take n x) (take n x) → v ≡ dot n x x
+  unfolding dot
+  dot_front x h e =
+      let l : length (take n x) ≡ n = length-take-le n x h in
+      dot_whole (take n x) (take n x) l l e
+      ∙ iter_ext n _ _ _ (λ k p v. ap (λ (t : Float). v +₆₄ t *₆₄ t) (get_or-take n x k nan p))
 
 module _ (a : List Float) (n : ℕ) (b x : List Float) where
   -- ---- before the first turn

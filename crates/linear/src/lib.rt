@@ -7,35 +7,38 @@ ghost use Rattle.loops.specs.Loop.{leave, final};
 ghost use Rattle.loops.specs.Steps.{done};
 ghost use Rattle.loops.specs.Lists.{build};
 ghost use Rattle.floats.specs.Operators.{◌-₆₄◌, ◌*₆₄◌, at};
-ghost use Rattle.definition.specs.Kaldi.{triangle};
-ghost use Rattle.definition.specs.Solve.{dot as dot_of, factor as factor_of, forward as forward_of, backward as backward_of, solved_or, begun, residual, turn, linear_cgd};
+ghost use Rattle.definition.specs.Solve.{dot as dot_of, less_products, factor as factor_of, forward as forward_of, backward as backward_of, sp_mat_vec, solved_or, begun, residual, turn, linear_cgd};
 ghost use Rattle.packed_matrix.specs.Steps.{square_of};
 ghost use Rattle.linear.specs.Steps.{started, stepped as stepped_of, recomputed as recomputed_of, is_far, is_last, is_worse, cgd_of, turn_end, is_on};
 
-use basics::{add_scaled, clear, difference};
-use packed_matrix::{dot, lay_out, packed_index, weighted_rows};
+use basics::{add_scaled, difference};
+use packed_matrix::{Symmetric, dot, packed_index, weighted_rows};
 
-// The lower factor L of A = L Lᵗ, by rows of n, or false at the first pivot that is at most 0.
-fn factor(a: &[f64], n: usize, l: &mut [f64]) -> bool
-    requires { (n ≤ 128) × (triangle n ≤ length a.now) × (length l.old ≡ n * n) }
-    ensures { done result l.new ≡ factor_of a.now n }
+// A number less the products of two vectors, taken off one after the other.
+fn less_products(s: f64, x: &[f64], y: &[f64]) -> f64
+    ensures { result ≡ less_products s (min (length x.now) (length y.now)) (at x.now) (at y.now) }
 {
-    clear(l, n * n);
-    let mut ok = true;
-    'rows: for i in 0..n {
+    x.iter().zip(y).fold(s, |s, (x, y)| s - x * y)
+}
+
+// The lower factor L of A = L Lᵗ, by rows of n, or false at the first pivot that is at most 0. A bool is as plain as an Option here: L lies in the room.
+fn factor(a: Symmetric<'_>, l: &mut [f64]) -> bool
+    requires few { a.n ≤ 128 }
+    requires room { length l.old ≡ a.n * a.n }
+    ensures { done result l.new ≡ factor_of a.entry.cells.now a.entry.n }
+{
+    let n = a.n;
+    l.fill(0.0);
+    for i in 0..n {
         let row = i * n;
         let end = i + 1;
         for j in 0..end {
             let other = j * n;
             let place = packed_index(i, j);
-            let mut s = a[place];
-            for k in 0..j {
-                s -= l[row + k] * l[other + k];
-            }
+            let s = less_products(a.cells[place], &l[row..row + j], &l[other..other + j]);
             if i == j {
                 if s <= 0.0 {
-                    ok = false;
-                    break 'rows;
+                    return false;
                 }
                 l[row + i] = floats::sqrt(s);
             } else {
@@ -43,88 +46,108 @@ fn factor(a: &[f64], n: usize, l: &mut [f64]) -> bool
             }
         }
     }
-    ok
+    true
 }
 
-// L y = b, from the front.
-fn forward(l: &[f64], n: usize, b: &[f64], y: &mut [f64])
-    requires { (n * n ≤ length l.now) × (n ≤ length b.now) × (length y.old ≡ n) }
-    ensures { y.new ≡ forward_of n l.now b.now }
-{
-    clear(y, n);
-    for i in 0..n {
-        let row = i * n;
-        let mut s = b[i];
-        for k in 0..i {
-            s -= l[row + k] * y[k];
+// Numbers laid out square, n by n: a symmetric matrix, or a factor by rows.
+#[derive(Clone, Copy)]
+struct Square<'a> {
+    cells: &'a [f64],
+    n: usize,
+    ghost fits: { n * n ≤ length cells.now },
+}
+
+impl Square<'_> {
+    // L y = b, from the front.
+    #[tactic(auto, using(loops::proofs::Loop::loops))]
+    fn forward(self, b: &[f64], y: &mut [f64])
+        requires b_long { self.n ≤ length b.now }
+        requires y_long { length y.old ≡ self.n }
+        ensures { y.new ≡ forward_of self.entry.n self.entry.cells.now b.now }
+    {
+        let n = self.n;
+        y.fill(0.0);
+        for i in 0..n {
+            let row = i * n;
+            let s = less_products(b[i], &self.cells[row..row + i], &y[..i]);
+            y[i] = s / self.cells[row + i];
         }
-        y[i] = s / l[row + i];
     }
-}
 
-// Lᵗ x = y, from the back.
-fn backward(l: &[f64], n: usize, y: &[f64], x: &mut [f64])
-    requires { (n * n ≤ length l.now) × (n ≤ length y.now) × (length x.old ≡ n) }
-    ensures { x.new ≡ backward_of n l.now y.now }
-{
-    clear(x, n);
-    for t in 0..n {
-        let i = n - 1 - t;
-        let mut s = y[i];
-        for k in 0..t {
-            let j = i + 1 + k;
-            s -= l[j * n + i] * x[j];
+    // Lᵗ x = y, from the back. The loop inside reads a column of L, which is no slice.
+    #[tactic(auto, using(loops::proofs::Loop::loops))]
+    fn backward(self, y: &[f64], x: &mut [f64])
+        requires y_long { length y.now ≡ self.n }
+        requires x_long { length x.old ≡ self.n }
+        ensures { x.new ≡ backward_of self.entry.n self.entry.cells.now y.now }
+    {
+        let n = self.n;
+        x.fill(0.0);
+        for t in 0..n {
+            let i = n - 1 - t;
+            let mut s = y[i];
+            for k in 0..t {
+                let j = i + 1 + k;
+                s -= self.cells[j * n + i] * x[j];
+            }
+            x[i] = s / self.cells[i * n + i];
         }
-        x[i] = s / l[i * n + i];
+    }
+
+    // The product with a vector.
+    fn times(self, x: &[f64], out: &mut [f64])
+        requires x_long { length x.now ≡ self.n }
+        requires out_long { length out.old ≡ self.n }
+        ensures { (a : List Float) → self.entry.cells.now ≡ square_of self.entry.n a → out.new ≡ sp_mat_vec a self.entry.n x.now }
+    {
+        weighted_rows(self.cells, self.n, x, out);
     }
 }
 
 // A x = b with L and y in lent rooms. False, and x as it was, where A has no factor.
 pub fn cholesky_solve(
-    a: &[f64],
-    n: usize,
+    a: Symmetric<'_>,
     b: &[f64],
     x: &mut [f64],
     l: &mut [f64],
     y: &mut [f64],
 ) -> bool
-    requires { (n ≤ 128) × (triangle n ≤ length a.now) × (n ≤ length b.now) × (length x.old ≡ n) × (length l.old ≡ n * n) × (length y.old ≡ n) }
-    ensures { (x.new ≡ solved_or x.old n b.now (factor_of a.now n)) × (result ≡ is_on (factor_of a.now n)) }
+    requires few { a.n ≤ 128 }
+    requires b_long { a.n ≤ length b.now }
+    requires x_long { length x.old ≡ a.n }
+    requires l_long { length l.old ≡ a.n * a.n }
+    requires y_long { length y.old ≡ a.n }
+    ensures solved { x.new ≡ solved_or x.old a.entry.n b.now (factor_of a.entry.cells.now a.entry.n) }
+    ensures has_factor { result ≡ is_on (factor_of a.entry.cells.now a.entry.n) }
 {
-    if factor(a, n, l) {
-        forward(l, n, b, y);
-        backward(l, n, y, x);
+    if factor(a, l) {
+        let lower = Square { cells: l, n: a.n };
+        lower.forward(b, y);
+        lower.backward(y, x);
         return true;
     }
     false
 }
 
-// -p
-fn negated(p: &[f64], n: usize, r: &mut [f64])
-    requires { (n ≤ length p.now) × (length r.old ≡ n) }
-    ensures { r.new ≡ build n (λ i. neg (at p.now i)) }
+// -p. By index, here and below: of what a loop over `iter_mut().zip` writes, an invariant names no element (tried).
+#[tactic(auto, using(loops::proofs::Fill::fills))]
+fn negated(p: &[f64], r: &mut [f64])
+    requires { length r.old ≡ length p.now }
+    ensures { r.new ≡ build (length p.now) (λ i. neg (at p.now i)) }
 {
-    for i in 0..n {
+    for i in 0..p.len() {
         r[i] = -p[i];
     }
 }
 
 // beta p - r
-fn turned(beta: f64, r: &[f64], n: usize, p: &mut [f64])
-    requires { (n ≤ length r.now) × (length p.old ≡ n) }
-    ensures { p.new ≡ build n (λ i. beta *₆₄ at p.old i -₆₄ at r.now i) }
+#[tactic(auto, using(loops::proofs::Loop::loops))]
+fn turned(beta: f64, r: &[f64], p: &mut [f64])
+    requires { length r.now ≡ length p.old }
+    ensures { p.new ≡ build (length p.old) (λ i. beta *₆₄ at p.old i -₆₄ at r.now i) }
 {
-    for i in 0..n {
+    for i in 0..p.len() {
         p[i] = beta * p[i] - r[i];
-    }
-}
-
-fn copy(x: &[f64], n: usize, y: &mut [f64])
-    requires { (length x.now ≡ n) × (length y.old ≡ n) }
-    ensures { y.new ≡ x.now }
-{
-    for i in 0..n {
-        y[i] = x[i];
     }
 }
 
@@ -199,48 +222,54 @@ impl CgdState {
 
 // The first residual, the first direction against it, and the scalars. A is laid out square, here and in the turns; ap is room for A x.
 fn cgd_begin(
-    square: &[f64],
-    n: usize,
+    square: Square<'_>,
     b: &[f64],
     x: &[f64],
     r: &mut [f64],
     p: &mut [f64],
     ap: &mut [f64],
 ) -> CgdState
-    requires { (n * n ≤ length square.now) × (n ≤ length b.now) × (n ≤ length x.now) × (length r.old ≡ n) × (length p.old ≡ n) × (length ap.old ≡ n) }
-    ensures { ((a : List Float) → square.now ≡ square_of n a → cgd_of x.now r.new p.new result ≡ begun a n b.now x.now) × (result.k ≡ 0) }
+    requires b_long { square.n ≤ length b.now }
+    requires x_long { length x.now ≡ square.n }
+    requires r_long { length r.old ≡ square.n }
+    requires p_long { length p.old ≡ square.n }
+    requires ap_long { length ap.old ≡ square.n }
+    ensures begun { (a : List Float) → square.entry.cells.now ≡ square_of square.entry.n a → cgd_of x.now r.new p.new result ≡ begun a square.entry.n b.now x.now }
+    ensures no_turn { result.k ≡ 0 }
 {
-    weighted_rows(square, n, n, n, x, ap);
-    difference(b, ap, n, p);
-    negated(p, n, r);
-    CgdState::new(dot(r, r, n))
+    square.times(x, ap);
+    difference(b, ap, square.n, p);
+    negated(p, r);
+    CgdState::new(dot(r, r))
 }
 
 // The residual anew, where it is far from the last one that was.
 fn recompute(
-    square: &[f64],
-    n: usize,
+    square: Square<'_>,
     b: &[f64],
     x: &[f64],
     r: &mut [f64],
     ap: &mut [f64],
     s: CgdState,
 ) -> CgdState
-    requires { (n * n ≤ length square.now) × (n ≤ length b.now) × (n ≤ length x.now) × (length r.old ≡ n) × (length ap.old ≡ n) }
-    ensures { ((a : List Float) → square.now ≡ square_of n a → r.new ≡ (if is_far s then residual a n b.now x.now else r.old)) × (result ≡ (if is_far s then recomputed_of s (dot_of n r.new r.new) else s)) }
+    requires b_long { square.n ≤ length b.now }
+    requires x_long { length x.now ≡ square.n }
+    requires r_long { length r.old ≡ square.n }
+    requires ap_long { length ap.old ≡ square.n }
+    ensures residual { (a : List Float) → square.entry.cells.now ≡ square_of square.entry.n a → r.new ≡ (if is_far s then residual a square.entry.n b.now x.now else r.old) }
+    ensures scalars { result ≡ (if is_far s then recomputed_of s (dot_of square.entry.n r.new r.new) else s) }
 {
     if s.is_far() {
-        weighted_rows(square, n, n, n, x, ap);
-        difference(ap, b, n, r);
-        return s.recomputed(dot(r, r, n));
+        square.times(x, ap);
+        difference(ap, b, square.n, r);
+        return s.recomputed(dot(r, r));
     }
     s
 }
 
 // A turn along p, up to the residual and its scalars.
 fn cgd_turn(
-    square: &[f64],
-    n: usize,
+    square: Square<'_>,
     b: &[f64],
     x: &mut [f64],
     r: &mut [f64],
@@ -248,21 +277,27 @@ fn cgd_turn(
     ap: &mut [f64],
     s: CgdState,
 ) -> CgdState
-    requires { (s.k < 200) × (n * n ≤ length square.now) × (n ≤ length b.now) × (length x.old ≡ n) × (length r.old ≡ n) × (length p.now ≡ n) × (length ap.old ≡ n) }
-    ensures { ((a : List Float) → square.now ≡ square_of n a → turn_end n p.now s x.new r.new result ≡ turn a n b.now (cgd_of x.old r.old p.now s)) × (result.k ≡ s.k + 1) }
+    requires few { s.k < 200 }
+    requires b_long { square.n ≤ length b.now }
+    requires x_long { length x.old ≡ square.n }
+    requires r_long { length r.old ≡ square.n }
+    requires p_long { length p.now ≡ square.n }
+    requires ap_long { length ap.old ≡ square.n }
+    ensures turn { (a : List Float) → square.entry.cells.now ≡ square_of square.entry.n a
+        → turn_end square.entry.n p.now s x.new r.new result ≡ turn a square.entry.n b.now (cgd_of x.old r.old p.now s) }
+    ensures counted { result.k ≡ s.k + 1 }
 {
-    weighted_rows(square, n, n, n, p, ap);
-    let alpha = -dot(p, r, n) / dot(p, ap, n);
+    square.times(p, ap);
+    let alpha = -dot(p, r) / dot(p, ap);
     add_scaled(alpha, p, x);
     add_scaled(alpha, ap, r);
-    let moved = s.stepped(dot(r, r, n));
-    recompute(square, n, b, x, r, ap, moved)
+    let moved = s.stepped(dot(r, r));
+    recompute(square, b, x, r, ap, moved)
 }
 
 // At most n + 5 turns and at most max_iters, each but the last with the next direction.
 fn cgd_turns(
-    square: &[f64],
-    n: usize,
+    square: Square<'_>,
     b: &[f64],
     x: &mut [f64],
     r: &mut [f64],
@@ -271,44 +306,54 @@ fn cgd_turns(
     max_iters: usize,
     s: CgdState,
 ) -> CgdState
-    requires { (s.k ≡ 0) × (n ≤ 128) × (n * n ≤ length square.now) × (n ≤ length b.now) × (length x.old ≡ n) × (length r.old ≡ n) × (length p.old ≡ n) × (length ap.old ≡ n) }
-    ensures { (a : List Float) → square.now ≡ square_of n a
-        → cgd_of x.new r.new p.new result ≡ final (leave (min (n + 5) max_iters) (λ k. turn a n b.now) (cgd_of x.old r.old p.old s)) }
+    requires no_turn { s.k ≡ 0 }
+    requires few { square.n ≤ 128 }
+    requires b_long { square.n ≤ length b.now }
+    requires x_long { length x.old ≡ square.n }
+    requires r_long { length r.old ≡ square.n }
+    requires p_long { length p.old ≡ square.n }
+    requires ap_long { length ap.old ≡ square.n }
+    ensures { (a : List Float) → square.entry.cells.now ≡ square_of square.entry.n a
+        → cgd_of x.new r.new p.new result ≡ final (leave (min (square.entry.n + 5) max_iters) (λ k. turn a square.entry.n b.now) (cgd_of x.old r.old p.old s)) }
 {
     let mut t = s;
-    while t.goes_on(n, max_iters) {
+    // No `for`: the turns are counted in the scalars, whose fields end them too.
+    while t.goes_on(square.n, max_iters) {
         let before = t;
-        t = cgd_turn(square, n, b, x, r, p, ap, before);
+        t = cgd_turn(square, b, x, r, p, ap, before);
         if t.is_last() {
             break;
         }
-        turned(t.r_cur / before.r_cur, r, n, p);
+        turned(t.r_cur / before.r_cur, r, p);
     }
     t
 }
 
 // The exact solution, or the start where there is none.
 fn exact_or_start(
-    a: &[f64],
-    n: usize,
+    a: Symmetric<'_>,
     b: &[f64],
     x: &mut [f64],
     x_orig: &[f64],
     l: &mut [f64],
     y: &mut [f64],
 )
-    requires { (n ≤ 128) × (triangle n ≤ length a.now) × (n ≤ length b.now) × (length x.old ≡ n) × (length x_orig.now ≡ n) × (length l.old ≡ n * n) × (length y.old ≡ n) }
-    ensures { x.new ≡ solved_or x_orig.now n b.now (factor_of a.now n) }
+    requires few { a.n ≤ 128 }
+    requires b_long { a.n ≤ length b.now }
+    requires x_long { length x.old ≡ a.n }
+    requires start_long { length x_orig.now ≡ a.n }
+    requires l_long { length l.old ≡ a.n * a.n }
+    requires y_long { length y.old ≡ a.n }
+    ensures { x.new ≡ solved_or x_orig.now a.entry.n b.now (factor_of a.entry.cells.now a.entry.n) }
 {
-    if !cholesky_solve(a, n, b, x, l, y) {
-        copy(x_orig, n, x);
+    if !cholesky_solve(a, b, x, l, y) {
+        x.copy_from_slice(x_orig);
     }
 }
 
 // `linear_cgd` in lent rooms, with a copy of the start. l holds the square while the turns go on, and L after them.
 fn linear_cgd_in(
-    a: &[f64],
-    n: usize,
+    a: Symmetric<'_>,
     b: &[f64],
     x: &mut [f64],
     max_iters: usize,
@@ -318,42 +363,47 @@ fn linear_cgd_in(
     ap: &mut [f64],
     l: &mut [f64],
 )
-    requires { (x_orig.now ≡ x.old) × (n ≤ 128) × (triangle n ≤ length a.now) × (n ≤ length b.now) × (length x.old ≡ n) × (length r.old ≡ n) × (length p.old ≡ n) × (length ap.old ≡ n) × (length l.old ≡ n * n) }
-    ensures { x.new ≡ linear_cgd a.now n b.now x.old max_iters }
+    requires start { x_orig.now ≡ x.old }
+    requires few { a.n ≤ 128 }
+    requires b_long { a.n ≤ length b.now }
+    requires x_long { length x.old ≡ a.n }
+    requires r_long { length r.old ≡ a.n }
+    requires p_long { length p.old ≡ a.n }
+    requires ap_long { length ap.old ≡ a.n }
+    requires l_long { length l.old ≡ a.n * a.n }
+    ensures { x.new ≡ linear_cgd a.entry.cells.now a.entry.n b.now x.old max_iters }
 {
-    lay_out(a, n, l);
-    let first = cgd_begin(l, n, b, x, r, p, ap);
+    a.lay_out(l);
+    let square = Square { cells: l, n: a.n };
+    let first = cgd_begin(square, b, x, r, p, ap);
     if first.is_last() {
         return;
     }
-    let last = cgd_turns(l, n, b, x, r, p, ap, max_iters, first);
-    if last.is_worse(first.r_cur, dot(b, b, n)) {
-        exact_or_start(a, n, b, x, x_orig, l, ap);
+    let last = cgd_turns(square, b, x, r, p, ap, max_iters, first);
+    let front = &b[..a.n];
+    if last.is_worse(first.r_cur, dot(front, front)) {
+        exact_or_start(a, b, x, x_orig, l, ap);
     }
 }
 
 // A x = b from the start x, which is kept where it is the solution. Where the residual gets worse: the exact solution, or the start
 // again. The matrix laid out square, and then L, lies in scratch.
-pub fn linear_cgd(
-    a: &[f64],
-    n: usize,
-    b: &[f64],
-    x: &mut [f64],
-    max_iters: usize,
-    scratch: &mut [f64],
-)
-    requires { (n ≤ 128) × (triangle n ≤ length a.now) × (n ≤ length b.now) × (length x.old ≡ n) × (n * n ≤ length scratch.old) }
-    ensures { x.new ≡ linear_cgd a.now n b.now x.old max_iters }
+pub fn linear_cgd(a: Symmetric<'_>, b: &[f64], x: &mut [f64], max_iters: usize, scratch: &mut [f64])
+    requires few { a.n ≤ 128 }
+    requires b_long { a.n ≤ length b.now }
+    requires x_long { length x.old ≡ a.n }
+    requires scratch_long { a.n * a.n ≤ length scratch.old }
+    ensures { x.new ≡ linear_cgd a.entry.cells.now a.entry.n b.now x.old max_iters }
 {
+    let n = a.n;
     let mut x_orig = [0.0f64; 128];
     let mut r = [0.0f64; 128];
     let mut p = [0.0f64; 128];
     let mut ap = [0.0f64; 128];
-    copy(x, n, &mut x_orig[..n]);
+    x_orig[..n].copy_from_slice(x);
     let size = n * n;
     linear_cgd_in(
         a,
-        n,
         b,
         x,
         max_iters,

@@ -13,4 +13,5 @@ pub mod Triangle
 pub mod Columns
 pub mod Parts
 pub mod Tests
+pub mod Std
 pub mod Folds

@@ -1,5 +1,6 @@
 -- Lists made by index or by a test.
-use Rattle.std.specs.Prelude.{Bool, true, false, ◌||◌, ◌&&◌, List, [], ◌∷◌, ◌++◌, ℕ, zero, suc, length, drop, if◌then◌else◌}
+use Rattle.std.specs.Prelude.{Bool, true, false, ◌&&◌, List, [], ◌∷◌, ◌++◌, ℕ, zero, suc, length, drop}
+use Rattle.std.specs.List.{list_any, list_all, filter}
 
 -- the list f 0, f 1, .., f (n - 1)
 unfoldable pub build : {A : Type 0} → ℕ → (ℕ → A) → List A
@@ -13,16 +14,13 @@ flat (suc n) f = f 0 ++ flat n (λ k. f (suc k))
 
 -- those of a list that pass a test, in their order
 unfoldable pub those : {A : Type 0} → (A → Bool) → List A → List A
-those p [] = []
-those p (x ∷ xs) = let rest = those p xs in if p x then x ∷ rest else rest
+those = filter
 
 unfoldable pub any_of : {A : Type 0} → (A → Bool) → List A → Bool
-any_of p [] = false
-any_of p (x ∷ xs) = p x || any_of p xs
+any_of = list_any
 
 unfoldable pub all_of : {A : Type 0} → (A → Bool) → List A → Bool
-all_of p [] = true
-all_of p (x ∷ xs) = p x && all_of p xs
+all_of = list_all
 
 -- whether all, or any, of a list of tests hold
 abbrev pub all_true : List Bool → Bool

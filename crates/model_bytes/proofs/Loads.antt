@@ -25,7 +25,7 @@ use Rattle.definition.specs.Kaldi.{blank, token, dim, matrix_tag, skipped, Matri
 use Rattle.definition.specs.Model.{Contents, Files, Model, dims_of, contents_agree, model_of, tables_fit, load_scratch, judged, loading, load}
 use Rattle.definition.specs.Text.{cmvn}
 use Rattle.model_bytes.specs.Written.{numbers_bytes, size_bytes, mark, token_bytes, vector_bytes, matrix_bytes, packed_bytes, Params, part, gmm_bytes, extractor_bytes, lda_bytes, model_bytes, dims_with, written, written_out}
-use Rattle.model_bytes.specs.declared.Written.TheVariants as W
+use Rattle.model_bytes.specs.Written as W
 use Rattle.model_bytes.specs.Theorems.{files_in, row_of, contents_of, Loads}
 use Rattle.model_bytes.proofs.Differ.{Known, known}
 use Rattle.model_bytes.proofs.Shapes.{fit-part, long-part}

@@ -9,9 +9,8 @@ use Rattle.definition.specs.Reader.{Got, read, refused, kept_as}
 use Rattle.definition.specs.Kaldi.{triangle}
 use Rattle.definition.specs.Model.{Contents, Files, dims_of, model_of, tables_fit, load_scratch, load}
 use Rattle.definition.specs.Text.{cmvn}
-use Rattle.model_bytes.specs.declared.Written.{Written}
-use Rattle.model_bytes.specs.declared.Written.TheVariants as W
-use Rattle.model_bytes.specs.Written.{Params, part, model_bytes, write_refusal, written, written_out}
+use Rattle.model_bytes.specs.Written as W
+use Rattle.model_bytes.specs.Written.{Written, Params, part, model_bytes, write_refusal, written, written_out}
 
 -- every number is one of the width, as numbers in code are
 abbrev pub of_width : Format → Params → List Bool

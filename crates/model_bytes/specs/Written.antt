@@ -13,8 +13,6 @@ use Rattle.definition.specs.Reader.{Got, refused, read, text, byte_width, kept_a
 use Rattle.definition.specs.Kaldi.{vector_tag, matrix_tag, packed_tag, triangle}
 use Rattle.definition.specs.Text.{cmvn}
 use Rattle.model_bytes.specs.declared.ModelSizes.{ModelSizes}
-use Rattle.model_bytes.specs.declared.Written.{Written}
-use Rattle.model_bytes.specs.declared.Written.TheVariants as W
 use Rattle.model_bytes.specs.declared.WrittenAnswer.{WrittenAnswer}
 
 -- ---- items
@@ -175,15 +173,20 @@ write_refusal f o t p room =
 
 -- ---- the call
 
+-- the lengths of the three files, in bytes; or the refusal's number
+pub data Written : Type 0 where
+  Files : ℕ → ℕ → ℕ → Written
+  Refused : ℕ → Written
+
 unfoldable pub written : Format → IvectorOptions → List ℕ → Params → ℕ → Written
 written f o t p room =
     let r = write_refusal f o t p room in
-    taken r (W.Files (length (gmm_bytes f p)) (length (extractor_bytes f p)) (length (lda_bytes f p))) (W.Refused r)
+    taken r (Files (length (gmm_bytes f p)) (length (extractor_bytes f p)) (length (lda_bytes f p))) (Refused r)
 
 -- the output: nothing is written by a refusal, and places past the end keep their values
 unfoldable pub written_out : Format → IvectorOptions → List ℕ → Params → List ℕ → List ℕ
 written_out f o t p out = taken (write_refusal f o t p (length out)) (over (model_bytes f p) out) out
 
 unfoldable pub written_answer : Written → WrittenAnswer
-written_answer (W.Files gmm extractor lda) = record { refusal = 0; gmm = gmm; extractor = extractor; lda = lda }
-written_answer (W.Refused r) = record { refusal = r; gmm = 0; extractor = 0; lda = 0 }
+written_answer (Files gmm extractor lda) = record { refusal = 0; gmm = gmm; extractor = extractor; lda = lda }
+written_answer (Refused r) = record { refusal = r; gmm = 0; extractor = 0; lda = 0 }

@@ -1,9 +1,16 @@
-// The types that the calls which write a model exchange. No code: the definitions stand in specs/.
+// The types that the calls which write a model exchange. The definitions stand in specs/; the only code is how an answer becomes a record.
 #![tactic(auto)]
 
-// A model's sizes, as they are given with its parameters.
+ghost use Rattle.std.specs.Prelude.{◌≡◌};
+ghost use Rattle.model_bytes.specs.Written.{written_answer};
+ghost use Rattle.model_bytes.specs.Lent.{written_of};
+
+use definition::Refusal;
+use floats::Real;
+
+/// A model's sizes, as they are given with its parameters.
 #[repr(C)]
-#[derive(Clone, Copy)]
+#[derive(Clone, Copy, Debug, Default, PartialEq, Eq)]
 pub struct ModelSizes {
     pub num_gauss: usize,
     pub ext_gauss: usize,
@@ -12,23 +19,53 @@ pub struct ModelSizes {
     pub lda_cols: usize,
 }
 
-// The lengths of the three files, in bytes; or the refusal's number.
+/// A model's parameters as they are lent, all of one width; lists are row after row.
 #[derive(Clone, Copy)]
-pub enum Written {
-    Files {
-        gmm: usize,
-        extractor: usize,
-        lda: usize,
-    },
-    Refused(usize),
+pub struct LentParams<'a, W: Real> {
+    pub sizes: ModelSizes,
+    pub weights: &'a [W],
+    pub means_invvars: &'a [W],
+    pub inv_vars: &'a [W],
+    pub m: &'a [W],
+    pub sigma_inv: &'a [W],
+    pub prior_offset: W,
+    pub lda: &'a [W],
 }
 
-// The same as a record, for hosts without such enums: the refusal's number, 0 where the call was taken, and the lengths, 0 beside a refusal.
+/// The lengths of the three files, in bytes.
+#[derive(Clone, Copy, Debug, Default, PartialEq, Eq)]
+pub struct FileLengths {
+    pub gmm: usize,
+    pub extractor: usize,
+    pub lda: usize,
+}
+
+/// The answer as a record, for hosts without such enums: the refusal's number, 0 where the call was taken, and the lengths, 0 beside a refusal.
 #[repr(C)]
-#[derive(Clone, Copy)]
+#[derive(Clone, Copy, Debug, Default, PartialEq, Eq)]
 pub struct WrittenAnswer {
     pub refusal: usize,
     pub gmm: usize,
     pub extractor: usize,
     pub lda: usize,
+}
+
+impl From<Result<FileLengths, Refusal>> for WrittenAnswer {
+    ghost from_gives = { λ w a. a ≡ written_answer (written_of w) };
+
+    #[tactic(auto, unfolding(crate::specs::Written::written_answer))]
+    fn from(written: Result<FileLengths, Refusal>) -> WrittenAnswer {
+        match written {
+            Ok(lengths) => WrittenAnswer {
+                refusal: 0,
+                gmm: lengths.gmm,
+                extractor: lengths.extractor,
+                lda: lengths.lda,
+            },
+            Err(e) => WrittenAnswer {
+                refusal: e.number(),
+                ..Default::default()
+            },
+        }
+    }
 }

@@ -14,7 +14,7 @@ use Rattle.model_bytes.specs.Written.{numbers_bytes, size_bytes, ended, token_by
 use Rattle.model_bytes.specs.Pieces.{weights_head, means_head, vars_head, m_head, offset_head, lda_head, m_blocks, sigma_blocks, gmm_pieces, extractor_pieces}
 use Rattle.model_bytes.proofs.Encoding.{length-low, length-numbers}
 use Rattle.model_bytes.proofs.Shapes.{gmm_is, extractor_is, lda_is, long-part}
-use Rattle.model_checks.specs.Steps.{InRange, total_length}
+use Rattle.model_checks.specs.Steps.{InRange, gmm_length, extractor_length, lda_length, total_length}
 
 -- ---- blocks
 
@@ -158,3 +158,14 @@ module _ (w : ℕ) (z : ModelSizes) (few : w ≤ 8) (r : InRange z) where
 
   pub lda_low : w * (d * z.lda_cols) ≤ 557568
   lda_low = mul-le-mul {n₂ = 8} {m₂ = 69696} few columns_low
+
+  pub total_low : total_length w z ≤ 85784310
+  total_low = omega (arith, gmm_low, blocks_low, lda_low, few)
+
+-- the three lengths as code adds them, at as many bytes a number as the width has
+pub sum_is : (z : ModelSizes) {a b c w v : ℕ} → a ≡ gmm_length w z → b ≡ extractor_length w z → c ≡ lda_length w z → w ≡ v → a + b + c ≡ total_length v z
+sum_is z p q r e = rw (p, q, r, e)
+
+pub few_bytes : (f : Format) {n : ℕ} → n ≡ byte_width f → n ≤ 8
+few_bytes binary32 e = omega arith
+few_bytes binary64 e = omega arith

@@ -1,3 +1,3 @@
--- Laws of bytes written one after the other.
-pub mod Writes
-pub mod Files
+-- Laws of what is written.
+pub mod Bytes
+pub mod Call

@@ -2,7 +2,7 @@
 // are sums of rows. The inner product.
 #![tactic(auto)]
 
-ghost use Rattle.std.specs.Prelude.{◌≡◌, ◌+◌, ◌*◌, ◌<◌, ◌≤◌, length};
+ghost use Rattle.std.specs.Prelude.{◌≡◌, ◌+◌, ◌*◌, ◌<◌, ◌≤◌, length, min};
 ghost use Rattle.loops.specs.Lists.{build};
 ghost use Rattle.loops.specs.Steps.{fill};
 ghost use Rattle.floats.specs.Operators.{◌+₆₄◌, ◌*₆₄◌, zero₆₄, at, sum₆₄};
@@ -11,7 +11,7 @@ ghost use Rattle.definition.specs.Model.{packed};
 ghost use Rattle.definition.specs.Solve.{dot as dot_of};
 ghost use Rattle.packed_matrix.specs.Steps.{table_row, square_of};
 
-use basics::{add_scaled, clear};
+use basics::add_scaled;
 
 // Where element (i, j) of a packed matrix stands.
 pub fn packed_index(i: usize, j: usize) -> usize
@@ -30,31 +30,44 @@ pub fn column(a: &[f64], start: usize, i: usize, out: &mut [f64])
     requires { (start ≡ triangle i) × (i < length out.old) × (length out.old ≤ 65536) × (triangle (length out.old) ≤ length a.now) }
     ensures { out.new ≡ build (length out.old) (λ j. at a.now (packed j i)) }
 {
-    for j in 0..i {
-        out[j] = a[start + j];
-    }
-    let mut place = start + i;
+    let diagonal = start + i;
+    out[..i].copy_from_slice(&a[start..diagonal]);
+    let mut place = diagonal;
     for j in i..out.len() {
         out[j] = a[place];
         place += j + 1;
     }
 }
 
-// The packed matrix, n wide, laid out square.
-pub fn lay_out(a: &[f64], n: usize, square: &mut [f64])
-    requires { (n ≤ 65536) × (triangle n ≤ length a.now) × (length square.old ≡ n * n) }
-    ensures { square.new ≡ square_of n a.now }
-{
-    let mut start = 0;
-    for i in 0..n {
-        let from = i * n;
-        let end = from + n;
-        column(a, start, i, &mut square[from..end]);
-        start += i + 1;
+// A packed matrix of n rows.
+#[derive(Clone, Copy)]
+pub struct Symmetric<'a> {
+    pub cells: &'a [f64],
+    pub n: usize,
+    pub ghost fits: { triangle n ≤ length cells.now },
+}
+
+impl Symmetric<'_> {
+    // The matrix laid out square.
+    pub fn lay_out(self, square: &mut [f64])
+        requires few { self.n ≤ 65536 }
+        requires room { length square.old ≡ self.n * self.n }
+        ensures { square.new ≡ square_of self.entry.n self.entry.cells.now }
+    {
+        let n = self.n;
+        let mut start = 0;
+        // No `chunks_exact_mut`: the matrix may have no rows, and a part of no places is refused.
+        for i in 0..n {
+            let from = i * n;
+            let end = from + n;
+            column(self.cells, start, i, &mut square[from..end]);
+            start += i + 1;
+        }
     }
 }
 
-// Four rows, each times its number, one after the other.
+// Four rows, each times its number, one after the other. By index: of what a loop over `iter_mut().zip` writes, an invariant names no element (tried).
+#[tactic(auto, using(loops::proofs::Fill::fills))]
 fn add_four(
     r0: &[f64],
     r1: &[f64],
@@ -74,7 +87,8 @@ fn add_four(
     }
 }
 
-// The same, from 0.0 on.
+// The same, from 0.0 on. Not one function with a const parameter: that was tried, and the loop's invariant cannot name the value of a const `bool`.
+#[tactic(auto, using(loops::proofs::Fill::fills))]
 fn set_four(
     r0: &[f64],
     r1: &[f64],
@@ -104,13 +118,16 @@ fn row_at(table: &[f64], s: usize, w: usize, k: usize) -> &[f64]
     &table[start..end]
 }
 
-// The sums over the first four of d rows, or, where there are fewer, over none; and over how many.
-fn begin_sums(rows: &[f64], d: usize, s: usize, w: usize, x: &[f64], out: &mut [f64]) -> usize
-    requires { (w ≤ s) × (d * s ≤ length rows.now) × (d ≤ length x.now) × (length out.old ≡ w) }
-    ensures { (result ≤ d) × (out.new ≡ build w (λ c. sum₆₄ zero₆₄ result (λ a. at rows.now (a * s + c) *₆₄ at x.now a))) }
+// The sums over the first four rows, or, where x has fewer numbers, over none; and over how many.
+fn begin_sums(rows: &[f64], s: usize, x: &[f64], out: &mut [f64]) -> usize
+    requires apart { length out.old ≤ s }
+    requires rows_in { length x.now * s ≤ length rows.now }
+    ensures few { result ≤ length x.now }
+    ensures sums { out.new ≡ build (length out.old) (λ c. sum₆₄ zero₆₄ result (λ a. at rows.now (a * s + c) *₆₄ at x.now a)) }
 {
-    if d < 4 {
-        clear(out, w);
+    let w = out.len();
+    if x.len() < 4 {
+        out.fill(0.0);
         return 0;
     }
     let r0 = row_at(rows, s, w, 0);
@@ -121,14 +138,17 @@ fn begin_sums(rows: &[f64], d: usize, s: usize, w: usize, x: &[f64], out: &mut [
     4
 }
 
-// The first w numbers of d rows that stand s apart, each row times its element of x, added up, four in a pass over the sums: each sum is added in the
-// order of the rows. Of a matrix that is laid out square, and of a vector, that is their product.
-pub fn weighted_rows(rows: &[f64], d: usize, s: usize, w: usize, x: &[f64], out: &mut [f64])
-    requires { (w ≤ s) × (d * s ≤ length rows.now) × (d ≤ length x.now) × (length out.old ≡ w) }
-    ensures { out.new ≡ build w (λ c. sum₆₄ zero₆₄ d (λ a. at rows.now (a * s + c) *₆₄ at x.now a)) }
+// As many numbers as the sums have of each row, where rows stand s apart, the row times its element of x, added up, four in a pass over the sums:
+// each sum is added in the order of the rows. Of a matrix that is laid out square, and of a vector, that is their product.
+pub fn weighted_rows(rows: &[f64], s: usize, x: &[f64], out: &mut [f64])
+    requires apart { length out.old ≤ s }
+    requires rows_in { length x.now * s ≤ length rows.now }
+    ensures { out.new ≡ build (length out.old) (λ c. sum₆₄ zero₆₄ (length x.now) (λ a. at rows.now (a * s + c) *₆₄ at x.now a)) }
 {
-    let mut k = begin_sums(rows, d, s, w, x, out);
-    while d - k >= 4 {
+    let w = out.len();
+    let mut k = begin_sums(rows, s, x, out);
+    // No `for`: the last fewer than four rows begin where k is.
+    while x.len() - k >= 4 {
         let r0 = row_at(rows, s, w, k);
         let r1 = row_at(rows, s, w, k + 1);
         let r2 = row_at(rows, s, w, k + 2);
@@ -136,20 +156,15 @@ pub fn weighted_rows(rows: &[f64], d: usize, s: usize, w: usize, x: &[f64], out:
         add_four(r0, r1, r2, r3, x[k], x[k + 1], x[k + 2], x[k + 3], out);
         k += 4;
     }
-    while k < d {
-        let r = row_at(rows, s, w, k);
-        add_scaled(x[k], r, out);
-        k += 1;
+    for i in k..x.len() {
+        let r = row_at(rows, s, w, i);
+        add_scaled(x[i], r, out);
     }
 }
 
-pub fn dot(a: &[f64], b: &[f64], n: usize) -> f64
-    requires { (n ≤ length a.now) × (n ≤ length b.now) }
-    ensures { result ≡ dot_of n a.now b.now }
+// The inner product, of as many numbers as the shorter vector has.
+pub fn dot(a: &[f64], b: &[f64]) -> f64
+    ensures { result ≡ dot_of (min (length a.now) (length b.now)) a.now b.now }
 {
-    let mut s = -0.0;
-    for i in 0..n {
-        s += a[i] * b[i];
-    }
-    s
+    a.iter().zip(b).map(|(x, y)| x * y).sum()
 }

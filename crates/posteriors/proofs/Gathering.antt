@@ -1,4 +1,5 @@
 -- The loop over the log-likelihoods puts in those that pass, one after the other: what is held are the first k of those in front of place g.
+use Rattle.std.specs.Prelude.{Option}
 use mathlib.Core.Path.{◌≡◌, sym, ap, ◌∙◌}
 use mathlib.Core.Bool.{Bool, true, false, ◌||◌}
 use mathlib.Core.List.{List, [], ◌∷◌, ◌++◌, append-nil, map-append, foldl-append}
@@ -17,7 +18,7 @@ use Rattle.floats.specs.Operators.{◌-₃₂◌, at}
 use Rattle.floats.specs.Exp.{exp_of}
 use Rattle.definition.specs.Posteriors.{Post, insert, sorted, every, ranked}
 use Rattle.leading.specs.Steps.{held, Falling}
-use Rattle.posteriors.specs.Steps.{likelihoods, Next}
+use Rattle.posteriors.specs.Steps.{likelihoods, Next, passes}
 use Rattle.leading.proofs.Sorting.{into, take-insert}
 use Rattle.leading.proofs.Ordered.{Ordered, sort_ordered, take_ordered, behind_any}
 use Rattle.leading.proofs.Rooms.{length_held, held_at}
@@ -69,9 +70,9 @@ ranked_more k largest ps p =
 
 -- ---- as `gather` has it
 
--- whether a Gaussian passes: all do, or its log-likelihood is above the cutoff
-abbrev pub passing : Bool → Float → Post → Bool
-passing all cutoff p = all || lt cutoff p.1
+-- whether a Gaussian passes: its log-likelihood does
+abbrev pub passing : Option Float → Post → Bool
+passing cutoff p = passes cutoff p.1
 
 module _ (k : ℕ) (test : Post → Bool) (largest : Float) (ls : List Float) where
   -- the first k of those in front of place g

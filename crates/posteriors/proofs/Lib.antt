@@ -6,3 +6,4 @@ mod Choosing
 mod Counting
 pub mod Apart
 pub mod Selecting
+mod Folds

@@ -1,5 +1,5 @@
 -- What the contracts say besides the definition: `Fair` of the rooms that a caller lends. The rest is not for readers.
-use Rattle.std.specs.Prelude.{◌≡◌, Bool, true, false, ℕ, ◌<◌, ◌≤◌, get_or, Float, if◌then◌else◌}
+use Rattle.std.specs.Prelude.{◌≡◌, Option, None, Some, Bool, true, false, ℕ, ◌<◌, ◌≤◌, get_or, Float, if◌then◌else◌}
 use mathlib.Core.List.{List, [], ◌∷◌, map, foldl}
 use Rattle.std.specs.Float.{inf}
 use Rattle.std.specs.Float.Ieee.{lt}
@@ -15,6 +15,16 @@ likelihoods largest ps = map (λ p. (p.0, exp_of (p.1 -₃₂ largest))) ps
 pub record Fair (n r : ℕ) (chosen : List ℕ) : Type 0 where
   pub below : (k : ℕ) → k < r → get_or chosen k 0 < n
   pub once : (j k : ℕ) → j < k → k < r → get_or chosen j 0 ≡ get_or chosen k 0 → ⊥
+
+-- whether a log-likelihood passes: all do where there is no cutoff
+abbrev pub passes : Option Float → Float → Bool
+passes None l = true
+passes (Some cutoff) l = lt cutoff l
+
+-- the place that was found, or the end
+abbrev pub place_or : ℕ → Option ℕ → ℕ
+place_or end None = end
+place_or end (Some k) = k
 
 -- r is the first place from g on where a test holds, or n where none does below it
 pub record Next (test : ℕ → Bool) (g n r : ℕ) : Type 0 where

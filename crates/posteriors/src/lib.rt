@@ -1,7 +1,7 @@
 // The posteriors of the most likely Gaussians, from the log-likelihoods of all.
 #![tactic(auto)]
 
-ghost use Rattle.std.specs.Prelude.{◌≡◌, ◌||◌, true, false, List, [], ◌∷◌, ℕ, ◌+◌, ◌-◌, ◌*◌, ◌<◌, ◌≤◌, length, take, drop, if◌then◌else◌};
+ghost use Rattle.std.specs.Prelude.{◌≡◌, IfSome, ◌||◌, true, false, List, [], ◌∷◌, ℕ, ◌+◌, ◌-◌, ◌*◌, ◌<◌, ◌≤◌, length, take, drop, if◌then◌else◌};
 ghost use Rattle.std.specs.Float.Ieee.{lt, neg};
 ghost use Rattle.loops.specs.Lists.{those};
 ghost use Rattle.loops.specs.Steps.{fill};
@@ -10,7 +10,7 @@ ghost use Rattle.floats.specs.Exp.{exp_of};
 ghost use Rattle.floats.specs.Ln.{ln_narrow};
 ghost use Rattle.definition.specs.Posteriors.{pruned, every, max_like, ranked, best_of, select_posteriors, nan_count};
 ghost use Rattle.leading.specs.Steps.{held};
-ghost use Rattle.posteriors.specs.Steps.{Fair, Next, above as above_of, least, top, joined};
+ghost use Rattle.posteriors.specs.Steps.{Fair, Next, passes, place_or, above as above_of, least, top, joined};
 
 // The likelihood of a difference d from the largest log-likelihood; the largest itself has one of the two zeros.
 fn likelihood(d: f32) -> f32
@@ -26,16 +26,7 @@ fn likelihood(d: f32) -> f32
 fn any_above(cutoff: f32, a: f32, b: f32, c: f32, d: f32) -> bool
     ensures { result ≡ (lt cutoff a || (lt cutoff b || (lt cutoff c || lt cutoff d))) }
 {
-    if a > cutoff {
-        return true;
-    }
-    if b > cutoff {
-        return true;
-    }
-    if c > cutoff {
-        return true;
-    }
-    d > cutoff
+    a > cutoff || b > cutoff || c > cutoff || d > cutoff
 }
 
 // From g on past fours of which none is above the cutoff.
@@ -44,6 +35,7 @@ fn skip(cutoff: f32, g: usize, loglikes: &[f32]) -> usize
     ensures { (g ≤ result) × (result ≤ length loglikes.now) × ((k : ℕ) → k < result → g ≤ k → lt cutoff (at loglikes.now k) ≡ false) }
 {
     let mut k = g;
+    // No `for`: the place where it stops is the answer. Four at a time, since one at a time is slower.
     while loglikes.len() - k >= 4 {
         if any_above(
             cutoff,
@@ -59,29 +51,27 @@ fn skip(cutoff: f32, g: usize, loglikes: &[f32]) -> usize
     k
 }
 
-// The first from g on that is above the cutoff, or g itself where all are taken; the length where there is none.
-fn next(all: bool, cutoff: f32, g: usize, loglikes: &[f32]) -> usize
+// The first from g on that is above the cutoff, or g itself where there is no cutoff.
+fn next(cutoff: Option<f32>, g: usize, loglikes: &[f32]) -> Option<usize>
     requires { g ≤ length loglikes.now }
-    ensures { Next (λ k. all || lt cutoff (at loglikes.now k)) g (length loglikes.now) result }
+    ensures first { Next (λ k. passes cutoff (at loglikes.now k)) g (length loglikes.now) (place_or (length loglikes.now) result) }
+    ensures in_list { IfSome result (λ k. k < length loglikes.now) }
 {
-    if all {
-        return g;
-    }
-    let mut k = skip(cutoff, g, loglikes);
-    while k < loglikes.len() {
+    let Some(cutoff) = cutoff else {
+        return (g < loglikes.len()).then_some(g);
+    };
+    for k in skip(cutoff, g, loglikes)..loglikes.len() {
         if loglikes[k] > cutoff {
-            return k;
+            return Some(k);
         }
-        k += 1;
     }
-    k
+    None
 }
 
-// The most likely of the Gaussians above the cutoff, or of all. A Gaussian's likelihood is computed before the one found before it is put in: that
-// one's place then waits for no exponential.
+// The most likely of the Gaussians above the cutoff, or of all where there is none. A Gaussian's likelihood is computed before the one found before it
+// is put in: that one's place then waits for no exponential.
 fn gather(
-    all: bool,
-    cutoff: f32,
+    cutoff: Option<f32>,
     max_like: f32,
     loglikes: &[f32],
     num_gselect: usize,
@@ -89,21 +79,19 @@ fn gather(
     posts: &mut [f32],
 ) -> usize
     requires { (num_gselect ≤ length chosen.old) × (num_gselect ≤ length posts.old) }
-    ensures { (held result chosen.new posts.new ≡ ranked num_gselect max_like (those (λ p. all || lt cutoff p.1) (every loglikes.now))) × (result ≤ num_gselect) }
+    ensures { (held result chosen.new posts.new ≡ ranked num_gselect max_like (those (λ p. passes cutoff p.1) (every loglikes.now))) × (result ≤ num_gselect) }
 {
-    let mut g = next(all, cutoff, 0, loglikes);
-    if g >= loglikes.len() {
+    let Some(first) = next(cutoff, 0, loglikes) else {
         return 0;
-    }
+    };
+    let mut g = first;
     let mut p = likelihood(loglikes[g] - max_like);
     let mut n = 0;
-    let mut after = next(all, cutoff, g + 1, loglikes);
-    while after < loglikes.len() {
+    while let Some(after) = next(cutoff, g + 1, loglikes) {
         let q = likelihood(loglikes[after] - max_like);
         n = leading::insert(g, p, n, num_gselect, chosen, posts);
         g = after;
         p = q;
-        after = next(all, cutoff, g + 1, loglikes);
     }
     leading::insert(g, p, n, num_gselect, chosen, posts)
 }
@@ -159,6 +147,7 @@ fn eight(
     let mut mf = -1.0 / 0.0;
     let mut mg = -1.0 / 0.0;
     let mut mh = -1.0 / 0.0;
+    // By index: eight parts go side by side.
     for i in 0..a.len() {
         ma = above(ma, a[i]);
         mb = above(mb, b[i]);
@@ -182,11 +171,7 @@ fn eight(
 fn rest(m: f32, loglikes: &[f32]) -> f32
     ensures { result ≡ top m loglikes.now }
 {
-    let mut max_like = m;
-    for g in 0..loglikes.len() {
-        max_like = above(max_like, loglikes[g]);
-    }
-    max_like
+    loglikes.iter().fold(m, |m, l| above(m, *l))
 }
 
 // The largest, a NaN passed over. Parts and joins keep the order: of equal ones the first is the answer.
@@ -221,32 +206,19 @@ fn best(
 {
     let max_like = largest(loglikes);
     if min_post != 0.0 {
-        let cutoff = max_like + ln;
-        let n = gather(
-            false,
-            cutoff,
-            max_like,
-            loglikes,
-            num_gselect,
-            chosen,
-            posts,
-        );
+        let cutoff = Some(max_like + ln);
+        let n = gather(cutoff, max_like, loglikes, num_gselect, chosen, posts);
         if n > 0 {
             return n;
         }
     }
-    gather(true, 0.0, max_like, loglikes, num_gselect, chosen, posts)
+    gather(None, max_like, loglikes, num_gselect, chosen, posts)
 }
 
-fn total(n: usize, posts: &[f32]) -> f32
-    requires { n ≤ length posts.now }
-    ensures { result ≡ sum₃₂ (neg zero₃₂) n (at posts.now) }
+fn total(posts: &[f32]) -> f32
+    ensures { result ≡ sum₃₂ (neg zero₃₂) (length posts.now) (at posts.now) }
 {
-    let mut tot = -0.0;
-    for i in 0..n {
-        tot += posts[i];
-    }
-    tot
+    posts.iter().sum()
 }
 
 // How many are left after pruning, and their total.
@@ -262,6 +234,7 @@ fn prune(n: usize, posts: &[f32], cutoff: f32, tot: f32) -> Left
 {
     let mut count = n;
     let mut left = tot;
+    // No `for`: how many are left is the answer.
     while count > 1 {
         let last = posts[count - 1];
         if last < cutoff {
@@ -274,6 +247,7 @@ fn prune(n: usize, posts: &[f32], cutoff: f32, tot: f32) -> Left
     Left { count, tot: left }
 }
 
+#[tactic(auto, using(loops::proofs::Loop::loops))]
 fn scale(v: f32, n: usize, posts: &mut [f32])
     requires { n ≤ length posts.old }
     ensures { posts.new ≡ fill n (λ k. at posts.old k *₃₂ v) posts.old }
@@ -297,13 +271,14 @@ fn select(
     ensures { (held result chosen.new posts.new ≡ select_posteriors loglikes.now num_gselect min_post) × (result ≤ num_gselect) × Fair (length loglikes.now) result chosen.new }
 {
     let n = best(loglikes, num_gselect, min_post, ln, chosen, posts);
-    let tot = total(n, posts);
+    let tot = total(&posts[..n]);
     let left = prune(n, posts, min_post * tot, tot);
     scale(1.0 / left.tot, left.count, posts);
     left.count
 }
 
-// How many of the log-likelihoods are NaN. One pass of its own with no branch in it, so that it is compiled to vector instructions.
+// How many of the log-likelihoods are NaN. One pass of its own with no branch in it, so that it is compiled to vector instructions. By index: with a
+// filter and its count, which was tried, a selection among 512 takes up to 7 in a hundred more instructions.
 fn count_nans(loglikes: &[f32]) -> usize
     ensures { result ≡ nan_count loglikes.now }
 {

@@ -7,7 +7,7 @@ use native.Mathlib.Omega.{arith}
 use lib.ListN.{length}
 use lib.Dec.{eqb, ltb}
 use lib.Ieee.{Float}
-use borrow.Author.Tests.{ltb-true, eq-eqb, ne_eqb}
+use borrow.Author.Tests.{ltb-true, eqb-true, eq-eqb, ne_eqb}
 use Rattle.loops.specs.Lists.{over}
 use Rattle.loops.specs.Refusal.{first_of, taken}
 use Rattle.loops.proofs.Refusal.{first_is, first-none, taken_new}
@@ -19,9 +19,10 @@ use Rattle.program.specs.Rooms.{Rings, EstimateRooms, Rooms, rooms_from}
 use Rattle.program.specs.Calls.{RingStep, RingCall, ring_call, done_on, record_tests, push_frame, set_input_finished, forget_before, Step, FetchCall, fetch_call, fetched_on, fetch_refusal, get_frame}
 use Rattle.program.specs.Session.{Program, program, on_rings, stepped, step_of}
 use Rattle.stream_refusals.proofs.Refusals.{push_tests_is}
-use Rattle.register_bytes.specs.declared.BoardAnswer.{BoardAnswer}
-use Rattle.register_bytes.specs.Board.{byte, frame_number, command_of, call_flags, Board, board, settled, block_refusal, performed, board_step, FetchTaken}
-use Rattle.register_bytes.specs.Steps.{Settled, RingDone}
+use Rattle.register_bytes.specs.declared.Command.{Command}
+use Rattle.register_bytes.specs.declared.Command.TheVariants as C
+use Rattle.register_bytes.specs.Board.{byte, frame_number, command_of, call_flags, Board, board, settled, held_count, room_for_push, rewritten, block_refusal, performed, board_step, FetchTaken}
+use Rattle.register_bytes.specs.Steps.{command_at, commanded, RingDone}
 use Rattle.register_bytes.proofs.Room.{told-number}
 
 -- ---- the block's length
@@ -39,26 +40,53 @@ block-long b h = first_is 0 ((long b, 10) ∷ []) (ap not (ne_eqb _ _ h))
 
 -- ---- the command
 
-module _ (b : List ℕ) (x : List Float) (m : ℕ) where
-  pub a_push : byte b 0 ≡ 1 → command_of b x m ≡ (push x ∷ [])
-  unfolding command_of
-  a_push e = rw e
+pub commanded_is : (b : List ℕ) (x : List Float) (m : ℕ) → commanded (command_at (byte b 0)) b x m ≡ command_of b x m
+unfolding command_at command_of
+commanded_is b x m = by (eqb (byte b 0) 1) (eqb (byte b 0) 2) (eqb (byte b 0) 3) (eqb (byte b 0) 4)
+  where
+    by : (p q r f : Bool)
+        → commanded (cond p C.Push (cond q C.Finish (cond r C.Forget (cond f C.Fetch C.Nothing)))) b x m
+        ≡ cond p (push x ∷ []) (cond q (finish ∷ []) (cond r (forget (frame_number b) ∷ []) (cond f (fetch (frame_number b) m ∷ []) [])))
+    by true q r f = refl
+    by false true r f = refl
+    by false false true f = refl
+    by false false false true = refl
+    by false false false false = refl
 
-  pub a_finish : byte b 0 ≡ 2 → command_of b x m ≡ (finish ∷ [])
-  unfolding command_of
-  a_finish e = rw e
+-- the byte of a command, 0 for that of none
+abbrev code_of : Command → ℕ
+code_of C.Push = 1
+code_of C.Finish = 2
+code_of C.Forget = 3
+code_of C.Fetch = 4
+code_of C.Nothing = 0
 
-  pub a_forget : byte b 0 ≡ 3 → command_of b x m ≡ (forget (frame_number b) ∷ [])
-  unfolding command_of
-  a_forget e = rw e
+other : {d : Command} → (code_of d ≡ 4 → ⊥) → d ≡ C.Fetch → ⊥
+other h e = h (ap code_of e)
 
-  pub a_fetch : byte b 0 ≡ 4 → command_of b x m ≡ (fetch (frame_number b) m ∷ [])
-  unfolding command_of
-  a_fetch e = rw e
+-- a command that is no fetch: its byte is not 4
+pub fetch_alone : (k : ℕ) → (command_at k ≡ C.Fetch → ⊥) → eqb k 4 ≡ false
+unfolding command_at
+fetch_alone k h = ne_eqb k 4 (λ e. h (rw e))
 
-  pub no_command : (byte b 0 ≡ 1 → ⊥) → (byte b 0 ≡ 2 → ⊥) → (byte b 0 ≡ 3 → ⊥) → (byte b 0 ≡ 4 → ⊥) → command_of b x m ≡ []
-  unfolding command_of
-  no_command h1 h2 h3 h4 = rw (ne_eqb (byte b 0) 1 h1, ne_eqb (byte b 0) 2 h2, ne_eqb (byte b 0) 3 h3, ne_eqb (byte b 0) 4 h4)
+pub fetch_byte_is : (k : ℕ) → command_at k ≡ C.Fetch → eqb k 4 ≡ true
+unfolding command_at
+fetch_byte_is k = by (eqb k 1) (eqb k 2) (eqb k 3) (eqb k 4)
+  where
+    by : (p q r f : Bool) → cond p C.Push (cond q C.Finish (cond r C.Forget (cond f C.Fetch C.Nothing))) ≡ C.Fetch → f ≡ true
+    by p q r true e = refl
+    by true q r false e = absurd (other (λ k. omega (arith, k)) e)
+    by false true r false e = absurd (other (λ k. omega (arith, k)) e)
+    by false false true false e = absurd (other (λ k. omega (arith, k)) e)
+    by false false false false e = absurd (other (λ k. omega (arith, k)) e)
+
+-- what is left
+pub nothing : (d : Command) → (d ≡ C.Push → ⊥) → (d ≡ C.Finish → ⊥) → (d ≡ C.Forget → ⊥) → (d ≡ C.Fetch → ⊥) → C.Nothing ≡ d
+nothing C.Push h1 h2 h3 h4 = absurd (h1 refl)
+nothing C.Finish h1 h2 h3 h4 = absurd (h2 refl)
+nothing C.Forget h1 h2 h3 h4 = absurd (h3 refl)
+nothing C.Fetch h1 h2 h3 h4 = absurd (h4 refl)
+nothing C.Nothing h1 h2 h3 h4 = refl
 
 -- ---- refusal numbers fit a byte
 
@@ -121,10 +149,14 @@ fetch_byte s t z n f m out h = let x = get_frame s t z n f m in omega (arith, fe
 abbrev told_so : List ℕ → List ℕ → Bool → Program → ℕ → Board
 told_so b v f p r = settled p b (call_flags f r) r v
 
--- a settled block, beside any other rooms and buffer
-settled_is : (b : List ℕ) (v : List ℕ) (e : EstimateRooms) (s : IvectorStream) (z : Rings) (low number : ℕ) {q : BoardAnswer} {b' : List ℕ} → Settled b s z low number q b'
-    → board (program q.stream (rooms_from z e)) b' v ≡ settled (program s (rooms_from z e)) b low number v
-settled_is b v e s z low number g = ap₂ (λ (s : IvectorStream) (b' : List ℕ). board (program s (rooms_from z e)) b' v) g.stream_is g.block_is
+-- a block b rewritten for a stream with record s and rings z
+abbrev pub Settled : List ℕ → IvectorStream → Rings → ℕ → ℕ → List ℕ → Type 0
+Settled b s z low number b' = b' ≡ rewritten b low number (held_count s z) (room_for_push s z)
+
+-- beside any other rooms and buffer
+settled_is : (b : List ℕ) (v : List ℕ) (e : EstimateRooms) (s : IvectorStream) (z : Rings) (low number : ℕ) {b' : List ℕ} → Settled b s z low number b'
+    → board (program s (rooms_from z e)) b' v ≡ settled (program s (rooms_from z e)) b low number v
+settled_is b v e s z low number g = ap (λ (b' : List ℕ). board (program s (rooms_from z e)) b' v) g
 
 taken-program : (r : ℕ) (a s : IvectorStream) (w z : Rings) (e : EstimateRooms)
     → program (taken r a s) (rooms_from (taken r w z) e) ≡ taken r (program a (rooms_from w e)) (program s (rooms_from z e))
@@ -139,16 +171,16 @@ no_vector (suc r) v = refl
 
 module _ (s : IvectorStream) (z : Rings) (b : List ℕ) (x : List Float) where
   -- a command that is a call on the rings
-  pub ring_done : (c : Call) (y : RingStep) → eqb (byte b 0) 4 ≡ false → ((m : ℕ) → command_of b x m ≡ (c ∷ []))
+  ring_done : (c : Call) (y : RingStep) → eqb (byte b 0) 4 ≡ false → ((m : ℕ) → command_of b x m ≡ (c ∷ []))
       → ((t : Tables) (n : ℕ) (e : EstimateRooms) → step_of t n (program s (rooms_from z e)) c ≡ on_rings (rooms_from z e) y)
       → {r : StreamCall} {w : Rings} → ring_call r w ≡ done_on s z y
-      → {q : BoardAnswer} {b' : List ℕ} → Settled b r.stream w (call_flags false r.answer.refusal) r.answer.refusal q b'
-      → RingDone s z b x q w b'
+      → {b' : List ℕ} → Settled b r.stream w (call_flags false r.answer.refusal) r.answer.refusal b'
+      → RingDone s z b x r.stream w b'
   unfolding performed
-  ring_done c y f cs st {r} {w} h {q} {b'} g = record { refusal_is = g.refusal_is; board_is = done }
+  ring_done c y f cs st {r} {w} h {b'} g = done
     where
       done : (t : Tables) (n : ℕ) (e : EstimateRooms) (v : List ℕ)
-          → board (program q.stream (rooms_from w e)) b' v ≡ performed t n (board (program s (rooms_from z e)) b v) (command_of b x (length v))
+          → board (program r.stream (rooms_from w e)) b' v ≡ performed t n (board (program s (rooms_from z e)) b v) (command_of b x (length v))
       done t n e v =
           let p = program s (rooms_from z e) in
           let left : program r.stream (rooms_from w e) ≡ stepped p (on_rings (rooms_from z e) y) =
@@ -160,52 +192,57 @@ module _ (s : IvectorStream) (z : Rings) (b : List ℕ) (x : List Float) where
           ∙ sym (ap₂ (λ (f : Bool) (k : Step). told_so b (taken k.refusal (over (bits_of k.vector) v) v) f (stepped p k) k.refusal) f (st t n e))
           ∙ sym (ap (performed t n (board p b v)) (cs (length v)))
 
-  module _ {r : StreamCall} {w : Rings} {q : BoardAnswer} {b' : List ℕ} (g : Settled b r.stream w (call_flags false r.answer.refusal) r.answer.refusal q b') where
-    pub push_done : byte b 0 ≡ 1 → ring_call r w ≡ done_on s z (push_frame s z x) → RingDone s z b x q w b'
-    unfolding step_of
-    push_done e h = ring_done (push x) (push_frame s z x) (ne_eqb (byte b 0) 4 (λ k. omega arith)) (λ m. a_push b x m e) (λ t n k. refl) h g
+  -- the calls of a command
+  named : {d : Command} → d ≡ command_at (byte b 0) → (m : ℕ) → command_of b x m ≡ commanded d b x m
+  named e m = sym (commanded_is b x m) ∙ ap (λ (d : Command). commanded d b x m) (sym e)
 
-    pub finish_done : byte b 0 ≡ 2 → ring_call r w ≡ done_on s z (set_input_finished s z) → RingDone s z b x q w b'
-    unfolding step_of
-    finish_done e h = ring_done finish (set_input_finished s z) (ne_eqb (byte b 0) 4 (λ k. omega arith)) (λ m. a_finish b x m e) (λ t n k. refl) h g
+  no_fetch : {d : Command} → d ≡ command_at (byte b 0) → (d ≡ C.Fetch → ⊥) → eqb (byte b 0) 4 ≡ false
+  no_fetch e h = fetch_alone (byte b 0) (λ k. h (e ∙ k))
 
-    pub forget_done : byte b 0 ≡ 3 → (f : ℕ) → f ≡ frame_number b → ring_call r w ≡ done_on s z (forget_before s z f) → RingDone s z b x q w b'
+  module _ {r : StreamCall} {w : Rings} {b' : List ℕ} (g : Settled b r.stream w (call_flags false r.answer.refusal) r.answer.refusal b') where
+    pub push_done : C.Push ≡ command_at (byte b 0) → ring_call r w ≡ done_on s z (push_frame s z x) → RingDone s z b x r.stream w b'
+    unfolding step_of
+    push_done e h = ring_done (push x) (push_frame s z x) (no_fetch e (other (λ k. omega (arith, k)))) (named e) (λ t n k. refl) h g
+
+    pub finish_done : C.Finish ≡ command_at (byte b 0) → ring_call r w ≡ done_on s z (set_input_finished s z) → RingDone s z b x r.stream w b'
+    unfolding step_of
+    finish_done e h = ring_done finish (set_input_finished s z) (no_fetch e (other (λ k. omega (arith, k)))) (named e) (λ t n k. refl) h g
+
+    pub forget_done : C.Forget ≡ command_at (byte b 0) → (f : ℕ) → f ≡ frame_number b → ring_call r w ≡ done_on s z (forget_before s z f)
+        → RingDone s z b x r.stream w b'
     unfolding step_of
     forget_done e f k h =
-        ring_done (forget (frame_number b)) (forget_before s z (frame_number b)) (ne_eqb (byte b 0) 4 (λ k. omega arith)) (λ m. a_forget b x m e) (λ t n k. refl)
+        ring_done (forget (frame_number b)) (forget_before s z (frame_number b)) (no_fetch e (other (λ k. omega (arith, k)))) (named e) (λ t n k. refl)
         (h ∙ ap (λ (f : ℕ). done_on s z (forget_before s z f)) k) g
 
   -- no command
-  pub none_done : ((m : ℕ) → command_of b x m ≡ []) → {q : BoardAnswer} {b' : List ℕ} → Settled b s z (byte b 1 % 4) (byte b 12) q b' → RingDone s z b x q z b'
+  pub none_done : C.Nothing ≡ command_at (byte b 0) → {b' : List ℕ} → Settled b s z (byte b 1 % 4) (byte b 12) b' → RingDone s z b x s z b'
   unfolding performed
-  none_done cs {q} {b'} g =
-      record {
-        refusal_is = g.refusal_is;
-        board_is = λ t n e v. settled_is b v e s z _ _ g ∙ sym (ap (performed t n (board (program s (rooms_from z e)) b v)) (cs (length v)));
-      }
+  none_done d {b'} g =
+      λ t n e v. settled_is b v e s z _ _ g ∙ sym (ap (performed t n (board (program s (rooms_from z e)) b v)) (named d (length v)))
 
 -- a fetch
 taken-rooms : (r : ℕ) (a s : IvectorStream) (w z : Rooms) → program (taken r a s) (taken r w z) ≡ taken r (program a w) (program s z)
 taken-rooms zero a s w z = refl
 taken-rooms (suc r) a s w z = refl
 
-module _ (t : Tables) (n : ℕ) (s : IvectorStream) (z : Rooms) (b : List ℕ) (x : List Float) (out : List ℕ) (e : byte b 0 ≡ 4) where
+module _ (t : Tables) (n : ℕ) (s : IvectorStream) (z : Rooms) (b : List ℕ) (x : List Float) (out : List ℕ) (e : C.Fetch ≡ command_at (byte b 0)) where
   abbrev asked : Step
   asked = get_frame s t z n (frame_number b) (length out)
 
   fetch_said : {r : StreamCall} {y : Rooms} {out' : List ℕ} → fetch_call r y out' ≡ fetched_on s z out asked
-      → {q : BoardAnswer} {b' : List ℕ} → Settled b r.stream y.rings (call_flags true r.answer.refusal) r.answer.refusal q b'
-      → board (program q.stream y) b' out' ≡ performed t n (board (program s z) b out) (command_of b x (length out))
+      → {b' : List ℕ} → Settled b r.stream y.rings (call_flags true r.answer.refusal) r.answer.refusal b'
+      → board (program r.stream y) b' out' ≡ performed t n (board (program s z) b out) (command_of b x (length out))
   unfolding performed step_of
-  fetch_said {r} {y} {out'} h {q} {b'} g =
+  fetch_said {r} {y} {out'} h {b'} g =
       let p = program s z in
       let left : program r.stream y ≡ stepped p asked =
       ap₂ program (ap (λ (q : FetchCall). q.call.stream) h) (ap (λ (q : FetchCall). q.rooms) h) ∙ taken-rooms asked.refusal asked.stream s asked.rooms z in
       settled_is b out' y.estimate r.stream y.rings _ _ g
       ∙ ap₂ (told_so b out' true) left (fetch_number s z out asked h)
       ∙ ap (λ (v : List ℕ). told_so b v true (stepped p asked) asked.refusal) (ap (λ (q : FetchCall). q.output) h)
-      ∙ ap (λ (f : Bool). told_so b (taken asked.refusal (over (bits_of asked.vector) out) out) f (stepped p asked) asked.refusal) (sym (eq-eqb (byte b 0) 4 e))
-      ∙ sym (ap (performed t n (board p b out)) (a_fetch b x (length out) e))
+      ∙ ap (λ (f : Bool). told_so b (taken asked.refusal (over (bits_of asked.vector) out) out) f (stepped p asked) asked.refusal) (sym (fetch_byte_is (byte b 0) (sym e)))
+      ∙ sym (ap (performed t n (board p b out)) (named s z.rings b x e (length out)))
 
   -- f being the block's frame number
   module _ (f : ℕ) (f-is : f ≡ frame_number b) where
@@ -213,14 +250,14 @@ module _ (t : Tables) (n : ℕ) (s : IvectorStream) (z : Rooms) (b : List ℕ) (
     asked_at = get_frame s t z n f (length out)
 
     pub fetch_done : {r : StreamCall} {y : Rooms} {out' : List ℕ} → fetch_call r y out' ≡ fetched_on s z out asked_at
-        → {q : BoardAnswer} {b' : List ℕ} → Settled b r.stream y.rings (call_flags true r.answer.refusal) r.answer.refusal q b'
-        → board (program q.stream y) b' out' ≡ performed t n (board (program s z) b out) (command_of b x (length out))
+        → {b' : List ℕ} → Settled b r.stream y.rings (call_flags true r.answer.refusal) r.answer.refusal b'
+        → board (program r.stream y) b' out' ≡ performed t n (board (program s z) b out) (command_of b x (length out))
     fetch_done h g = fetch_said (h ∙ ap (λ (f : ℕ). fetched_on s z out (get_frame s t z n f (length out))) f-is) g
 
     -- scratch, where no fetch is taken
     pub scratch_kept_is : {k l : List Float} → ((asked_at.refusal ≡ 0 → ⊥) → k ≡ l) → length b ≡ 16 → (FetchTaken t n (board (program s z) b out) → ⊥) → k ≡ l
     unfolding step_of
-    scratch_kept_is h c g = h (λ i. g (sym (block-whole b c), e, sym (ap (λ (f : ℕ). (get_frame s t z n f (length out)).refusal) f-is) ∙ i))
+    scratch_kept_is h c g = h (λ i. g (sym (block-whole b c), eqb-true (byte b 0) 4 (fetch_byte_is (byte b 0) (sym e)), sym (ap (λ (f : ℕ). (get_frame s t z n f (length out)).refusal) f-is) ∙ i))
 
 pub step-whole : (t : Tables) (n : ℕ) (x : List Float) (a : Board) → length a.block ≡ 16
     → performed t n a (command_of a.block x (length a.vector)) ≡ board_step t n x a

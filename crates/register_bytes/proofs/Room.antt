@@ -1,6 +1,6 @@
 -- Frames held and the room for a push: what a finish on a copy of the record tells of them; and that every proper frame is taken where one of zeros is.
 use mathlib.Core.Path.{◌≡◌, refl, sym, ap, ap₂, ◌∙◌}
-use mathlib.Core.Bool.{Bool, true, false, not}
+use mathlib.Core.Bool.{Bool, true, false, not, ◌||◌}
 use mathlib.Core.List.{List, [], ◌∷◌, ◌++◌}
 use Prim.Native.Nat.{ℕ, zero, suc, ◌/◌}
 use native.Mathlib.Omega.{arith}
@@ -8,7 +8,7 @@ use lib.ListN.{length, drop, replicate, length-replicate}
 use lib.Dec.{eqb}
 use lib.Ieee.{Float, of_bits}
 use lib.Ieee.Scale.{finite}
-use borrow.Author.Tests.{eqb-true, eq-eqb, ne_eqb}
+use borrow.Author.Tests.{eqb-true, eqb-false, eq-eqb, ne_eqb}
 use Rattle.loops.specs.Lists.{any_of, all_of}
 use Rattle.loops.specs.Refusal.{first_of, taken}
 use Rattle.loops.proofs.Choose.{and_holds, and_both, or_none, choose_map, choose_same}
@@ -164,3 +164,17 @@ module _ (s : IvectorStream) (z : Rings) where
       room_left f g e =
           let p = proper_tests zeros zeros_proper in
           sym (eq-eqb _ _ (sym (push-none s z zeros j.refusal_is h (p.0, (p.1, (ne_eqb _ _ f, (ne_eqb _ _ (λ k. g (frames_are ∙ k)), (ne_eqb _ _ (λ k. e (rows_are ∙ k)), tt))))))))
+
+      -- by the three tests together
+      abbrev full : Bool
+      full = eqb s.accepted 1000000000 || (eqb a.frames_held frame_rows || eqb a.rows_held prefix_rows)
+
+      pub room_is : not full ≡ room_for_push s z
+      room_is = by (eqb s.accepted 1000000000) (eqb a.frames_held frame_rows) (eqb a.rows_held prefix_rows) refl refl refl
+        where
+          by : (p q r : Bool) → eqb s.accepted 1000000000 ≡ p → eqb a.frames_held frame_rows ≡ q → eqb a.rows_held prefix_rows ≡ r
+              → not (p || (q || r)) ≡ room_for_push s z
+          by true q r d e f = full_count (eqb-true _ _ d)
+          by false true r d e f = full_frames (eqb-false _ _ d) (eqb-true _ _ e)
+          by false false true d e f = full_rows (eqb-false _ _ d) (eqb-false _ _ e) (eqb-true _ _ f)
+          by false false false d e f = room_left (eqb-false _ _ d) (eqb-false _ _ e) (eqb-false _ _ f)

@@ -1,210 +1,85 @@
 // The lines that forge what the next call is told: a length, a field of the record, the waiting frames.
-use super::rooms::move_length;
-use super::session::{Held, Session, forge};
-use definition::{Dimensions, IvectorInfo, IvectorOptions, IvectorStream};
+use super::session::Session;
+use definition::{IvectorInfo, IvectorStream};
+use script::{Held, Words};
 
-// The place after the next space.
-fn after_word(text: &[u8], at: usize) -> usize {
-    let mut i = at;
-    while i < text.len() {
-        if text[i] == b' ' {
-            return i + 1;
+fn forge_model(info: &mut IvectorInfo, field: &[u8], v: usize) {
+    match field {
+        b"left" => info.opts.left_context = v,
+        b"right" => info.opts.right_context = v,
+        b"window" => info.opts.cmn_window = v,
+        b"global" => info.opts.global_frames = v,
+        b"gselect" => info.opts.num_gselect = v,
+        b"iters" => info.opts.num_cg_iters = v,
+        b"minpost" => info.opts.min_post = script::float(v),
+        b"scale" => info.opts.posterior_scale = script::float(v),
+        b"maxcount" => info.opts.max_count = script::double(v),
+        b"energy" => info.opts.min_energy = script::float(v),
+        b"gaussg" => info.dims.num_gauss = v,
+        b"gausse" => info.dims.ext_gauss = v,
+        b"feat" => info.dims.feat_dim = v,
+        b"ivec" => info.dims.ivector_dim = v,
+        b"base" => info.dims.base_dim = v,
+        b"ldacols" => info.dims.lda_cols = v,
+        _ => {}
+    }
+}
+
+fn forge_stream(s: &mut IvectorStream, field: &[u8], v: usize) {
+    match field {
+        b"accepted" => s.accepted = v,
+        b"next" => s.num_frames_stats = v,
+        b"mark" => s.mark = v,
+        b"floor" => s.floor = v,
+        b"window" => s.window = v,
+        b"longest" => s.longest = v,
+        _ => forge_model(&mut s.info, field, v),
+    }
+}
+
+impl<'a> Session<'a> {
+    /// `x n FIELD V`, `x r K D`, `x w n f1 w1 .. fn wn`
+    pub(crate) fn forge(&mut self, words: &mut Words<'_>) {
+        match words.word().first() {
+            Some(b'w') => self.forge_waiting(words),
+            Some(b'r') => self.forge_length(words),
+            _ => self.forge_field(words),
         }
-        i = i + 1;
     }
-    i
-}
 
-// Whether a word stands at a place.
-fn is_word(text: &[u8], at: usize, word: &[u8]) -> bool {
-    let mut place = at;
-    for i in 0..word.len() {
-        let b = word[i];
-        if script::byte_at(text, place) != b {
-            return false;
+    fn forge_field(&mut self, words: &mut Words<'_>) {
+        let field = words.word();
+        let v = words.number(10);
+        match &mut self.told.held {
+            Held::Stream(s) => forge_stream(s, field, v),
+            Held::Model(info) => forge_model(info, field, v),
+            Held::Nothing => {}
         }
-        place = script::step(text, place);
+        self.forged = true;
     }
-    script::byte_at(text, place) == b' '
-}
 
-fn forge_option(text: &[u8], at: usize, v: usize, opts: IvectorOptions) -> IvectorOptions {
-    let mut o = opts;
-    if is_word(text, at, b"left") {
-        o.left_context = v;
-        return o;
+    fn forge_length(&mut self, words: &mut Words<'_>) {
+        let room = words.number(10);
+        let by = words.signed();
+        self.told.lengths.move_by(room, by);
+        self.forged = true;
     }
-    if is_word(text, at, b"right") {
-        o.right_context = v;
-        return o;
-    }
-    if is_word(text, at, b"window") {
-        o.cmn_window = v;
-        return o;
-    }
-    if is_word(text, at, b"global") {
-        o.global_frames = v;
-        return o;
-    }
-    if is_word(text, at, b"gselect") {
-        o.num_gselect = v;
-        return o;
-    }
-    if is_word(text, at, b"iters") {
-        o.num_cg_iters = v;
-        return o;
-    }
-    if is_word(text, at, b"minpost") {
-        o.min_post = script::float(v);
-        return o;
-    }
-    if is_word(text, at, b"scale") {
-        o.posterior_scale = script::float(v);
-        return o;
-    }
-    if is_word(text, at, b"maxcount") {
-        o.max_count = script::double(v);
-        return o;
-    }
-    if is_word(text, at, b"energy") {
-        o.min_energy = script::float(v);
-    }
-    o
-}
 
-fn forge_dimension(text: &[u8], at: usize, v: usize, dims: Dimensions) -> Dimensions {
-    let mut d = dims;
-    if is_word(text, at, b"gaussg") {
-        d.num_gauss = v;
-        return d;
+    /// The next call is lent another room of waiting frames.
+    fn forge_waiting(&mut self, words: &mut Words<'_>) {
+        let n = words.number(10);
+        // by index: what is past the end of the room is read too, so no chain over the room says it
+        for i in 0..n {
+            let frame = words.number(10);
+            words.word();
+            if i < self.rooms.forged_frames.len() {
+                self.rooms.forged_frames[i] = frame;
+            }
+        }
+        if let Held::Stream(s) = &mut self.told.held {
+            s.waiting = n;
+            self.forged = true;
+            self.waiting_forged = true;
+        }
     }
-    if is_word(text, at, b"gausse") {
-        d.ext_gauss = v;
-        return d;
-    }
-    if is_word(text, at, b"feat") {
-        d.feat_dim = v;
-        return d;
-    }
-    if is_word(text, at, b"ivec") {
-        d.ivector_dim = v;
-        return d;
-    }
-    if is_word(text, at, b"base") {
-        d.base_dim = v;
-        return d;
-    }
-    if is_word(text, at, b"ldacols") {
-        d.lda_cols = v;
-    }
-    d
-}
-
-fn forge_model(text: &[u8], at: usize, v: usize, info: IvectorInfo) -> IvectorInfo {
-    let mut i = info;
-    i.opts = forge_option(text, at, v, info.opts);
-    i.dims = forge_dimension(text, at, v, info.dims);
-    i
-}
-
-fn forge_stream(text: &[u8], at: usize, v: usize, stream: IvectorStream) -> IvectorStream {
-    let mut s = stream;
-    if is_word(text, at, b"accepted") {
-        s.accepted = v;
-        return s;
-    }
-    if is_word(text, at, b"next") {
-        s.num_frames_stats = v;
-        return s;
-    }
-    if is_word(text, at, b"mark") {
-        s.mark = v;
-        return s;
-    }
-    if is_word(text, at, b"floor") {
-        s.floor = v;
-        return s;
-    }
-    if is_word(text, at, b"window") {
-        s.window = v;
-        return s;
-    }
-    if is_word(text, at, b"longest") {
-        s.longest = v;
-        return s;
-    }
-    s.info = forge_model(text, at, v, stream.info);
-    s
-}
-
-// `x n FIELD V`
-fn forge_field(text: &[u8], at: usize, told: Held) -> Held {
-    let n = script::number(text, after_word(text, at), 10);
-    match told {
-        Held::Stream(s) => Held::Stream(forge_stream(text, at, n.value, s)),
-        Held::Model(i) => Held::Model(forge_model(text, at, n.value, i)),
-        Held::Nothing => Held::Nothing,
-    }
-}
-
-// The frames of `n f1 w1 .. fn wn`, into a room; how many there are.
-fn read_waiting(text: &[u8], at: usize, room: &mut [usize]) -> usize {
-    let n = script::number(text, at, 10);
-    let count = n.value;
-    let mut next = n.next;
-    for i in 0..count {
-        let x = script::number(text, next, 10);
-        set_frame(room, i, x.value);
-        next = after_word(text, x.next);
-    }
-    count
-}
-
-fn set_frame(room: &mut [usize], i: usize, x: usize) {
-    if i < room.len() {
-        room[i] = x;
-    }
-}
-
-// `x w n f1 w1 .. fn wn`: the call is lent another room of waiting frames
-fn forge_waiting(text: &[u8], at: usize, session: Session, room: &mut [usize]) -> Session {
-    let n = read_waiting(text, at, room);
-    let told = session.told;
-    let z = session.lent;
-    let Held::Stream(stream) = told else {
-        return session;
-    };
-    let mut s = stream;
-    s.waiting = n;
-    forge(session, Held::Stream(s), z, true)
-}
-
-// `x r K D`
-fn forge_length(text: &[u8], at: usize, session: Session) -> Session {
-    let k = script::number(text, at, 10);
-    let by = script::signed_number(text, k.next);
-    let told = session.told;
-    let mut z = session.lent;
-    move_length(&mut z, k.value, by);
-    forge(session, told, z, session.waiting_forged)
-}
-
-// `x ..`
-pub(crate) fn forge_line(text: &[u8], at: usize, session: Session, room: &mut [usize]) -> Session {
-    let from = after_word(text, at);
-    let what = script::byte_at(text, at);
-    if what == b'w' {
-        return forge_waiting(text, from, session, room);
-    }
-    if what == b'r' {
-        return forge_length(text, from, session);
-    }
-    let told = session.told;
-    let z = session.lent;
-    forge(
-        session,
-        forge_field(text, from, told),
-        z,
-        session.waiting_forged,
-    )
 }

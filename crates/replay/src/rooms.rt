@@ -1,205 +1,182 @@
-// The rooms that calls are lent: how long a script wants each, and the front of a room that is so long. Rooms 0 to 7 are a model's tables,
-// 8 to 16 a stream's, in the order of FORMAT.md.
-use definition::{Dimensions, IvectorOptions};
-use script::Signed;
+// The rooms that calls are lent, and how much of each.
+use definition::{Dimensions, IvectorOptions, LentFrames, LentTables, LentWaiting};
+use script::{Signed, Words, front};
+use std::alloc::{AllocError, Global};
+use std::mem;
 
-pub(crate) type Lengths = [usize; 17];
+/// How long each room is that a call is lent: rooms 0 to 7 are a model's tables, 8 to 16 a stream's rooms, in the order of FORMAT.md.
+#[derive(Clone, Copy)]
+pub(crate) struct Lengths(pub(crate) [usize; 17]);
 
-// What fits: each room has 16 places more, for a length that a script forges.
-fn most() -> Lengths {
-    [
-        1024, 2048, 2048, 4096, 16512, 4352, 64, 65, 4080, 8176, 4080, 4080, 112, 144, 8384, 144,
-        16384,
-    ]
-}
+/// What fits. Each room has `SPARE` places more, for a length that a script forges.
+const MOST: [usize; 17] = [
+    1024, 2048, 2048, 4096, 16512, 4352, 64, 65, 4080, 8176, 4080, 4080, 112, 144, 8384, 144, 16384,
+];
 
-pub(crate) type Gconsts = [f32; 1040];
+const SPARE: usize = 16;
 
-pub(crate) type Means = [f32; 2064];
+impl Lengths {
+    pub(crate) const NONE: Lengths = Lengths([0; 17]);
 
-pub(crate) type InvVars = [f32; 2064];
-
-pub(crate) type SigmaInvM = [f64; 4112];
-
-pub(crate) type U = [f64; 16528];
-
-pub(crate) type Lda = [f32; 4368];
-
-pub(crate) type LdaOffset = [f32; 80];
-
-pub(crate) type GlobalRow = [f64; 81];
-
-pub(crate) type Frames = [f32; 4096];
-
-pub(crate) type Rows = [f64; 8192];
-
-pub(crate) type WaitingFrames = [usize; 4096];
-
-pub(crate) type WaitingWeights = [f32; 4096];
-
-pub(crate) type CmvnStats = [f64; 128];
-
-pub(crate) type Linear = [f64; 160];
-
-pub(crate) type Quadratic = [f64; 8400];
-
-pub(crate) type Current = [f64; 160];
-
-pub(crate) type Scratch = [f64; 16400];
-
-// ---- lengths
-
-// Sums and products up to 2^40; 0 for larger numbers, of which no model in this program's rooms has any.
-pub(crate) fn plus(a: usize, b: usize) -> usize {
-    if 0x100_0000_0000 < a {
-        return 0;
+    /// The numbers that a model keeps in its tables, and a fetch in its rooms; of the rings a script gives the lengths themselves.
+    pub(crate) fn needs(opts: IvectorOptions, dims: Dimensions) -> Lengths {
+        let Dimensions {
+            num_gauss,
+            ext_gauss,
+            feat_dim,
+            ivector_dim,
+            base_dim,
+            lda_cols: _,
+        } = dims;
+        let row = base_dim.saturating_add(1);
+        let means = num_gauss.saturating_mul(feat_dim);
+        let width = opts
+            .left_context
+            .saturating_add(1)
+            .saturating_add(opts.right_context);
+        let lda = base_dim.saturating_mul(width).saturating_mul(feat_dim);
+        let sigma_inv_m = ext_gauss
+            .saturating_mul(feat_dim)
+            .saturating_mul(ivector_dim);
+        let packed = ivector_dim.saturating_mul(ivector_dim.saturating_add(1)) / 2;
+        let u = ext_gauss.saturating_mul(packed);
+        let scratch = means.max(ivector_dim.saturating_mul(ivector_dim));
+        Lengths([
+            num_gauss,
+            means,
+            means,
+            sigma_inv_m,
+            u,
+            lda,
+            feat_dim,
+            row,
+            0,
+            0,
+            0,
+            0,
+            row,
+            ivector_dim,
+            packed,
+            ivector_dim,
+            scratch,
+        ])
     }
-    if 0x100_0000_0000 < b {
-        return 0;
-    }
-    a + b
-}
 
-fn times(a: usize, b: usize) -> usize {
-    if 0x10_0000 < a {
-        return 0;
-    }
-    if 0x10_0000 < b {
-        return 0;
-    }
-    a * b
-}
-
-fn triangle(n: usize) -> usize {
-    times(n, plus(n, 1)) / 2
-}
-
-// The numbers that a model keeps in its tables, and a fetch in its rooms; of the rings a script gives the lengths themselves.
-pub(crate) fn needs(o: IvectorOptions, d: Dimensions) -> Lengths {
-    let g = d.num_gauss;
-    let f = d.feat_dim;
-    let s = d.ivector_dim;
-    let row = plus(d.base_dim, 1);
-    let means = times(g, f);
-    let width = plus(plus(o.left_context, 1), o.right_context);
-    let lda = times(times(d.base_dim, width), f);
-    let sigma_inv_m = times(times(d.ext_gauss, f), s);
-    let packed = triangle(s);
-    let u = times(d.ext_gauss, packed);
-    let scratch = basics::larger(means, times(s, s));
-    [
-        g,
-        means,
-        means,
-        sigma_inv_m,
-        u,
-        lda,
-        f,
-        row,
-        0,
-        0,
-        0,
-        0,
-        row,
-        s,
-        packed,
-        s,
-        scratch,
-    ]
-}
-
-fn length_of(z: Lengths, k: usize) -> usize {
-    if k < 17 {
-        return z[k];
-    }
-    0
-}
-
-// One of the lengths, moved.
-pub(crate) fn move_length(z: &mut Lengths, k: usize, by: Signed) {
-    if k < 17 {
-        z[k] = script::moved(z[k], by);
-    }
-}
-
-// The lengths, with those of rooms `from` to `to` moved by the numbers at a place of the text.
-pub(crate) fn read_lengths(text: &[u8], at: usize, from: usize, to: usize, z: Lengths) -> Lengths {
-    let mut out = z;
-    let mut next = at;
-    for k in from..to {
-        let by = script::signed_number(text, next);
-        move_length(&mut out, k, by);
-        next = by.next;
-    }
-    out
-}
-
-// Whether rooms `from` to `to` fit.
-pub(crate) fn fit(z: Lengths, from: usize, to: usize) -> bool {
-    for k in from..to {
-        if length_of(most(), k) < length_of(z, k) {
-            return false;
+    /// One of the lengths, moved.
+    pub(crate) fn move_by(&mut self, room: usize, by: Signed) {
+        if room < self.0.len() {
+            self.0[room] = script::moved(self.0[room], by);
         }
     }
-    true
+
+    /// The lengths of some rooms, moved by a number each.
+    pub(crate) fn read(&mut self, words: &mut Words<'_>, from: usize, to: usize) {
+        // by index: a script names its rooms by their numbers
+        for room in from..to {
+            let by = words.signed();
+            self.move_by(room, by);
+        }
+    }
+
+    /// Whether rooms `from` to `to` fit.
+    pub(crate) fn fit(&self, from: usize, to: usize) -> bool {
+        self.0
+            .iter()
+            .zip(&MOST)
+            .take(to)
+            .skip(from)
+            .all(|(n, most)| n <= most)
+    }
 }
 
-// ---- fronts
-
-// The first n places of a room, or all of them.
-pub(crate) fn front_f32(room: &[f32], n: usize) -> &[f32] {
-    let k = script::at_most(n, room.len());
-    &room[0..k]
+/// A model's tables.
+#[derive(Drop)]
+pub(crate) struct Tables {
+    pub(crate) gconsts: Vec<f32>,
+    pub(crate) means_invvars_t: Vec<f32>,
+    pub(crate) inv_vars_t: Vec<f32>,
+    pub(crate) sigma_inv_m: Vec<f64>,
+    pub(crate) u: Vec<f64>,
+    pub(crate) lda_t: Vec<f32>,
+    pub(crate) lda_offset: Vec<f32>,
+    pub(crate) global_mean_stats: Vec<f64>,
 }
 
-pub(crate) fn front_f64(room: &[f64], n: usize) -> &[f64] {
-    let k = script::at_most(n, room.len());
-    &room[0..k]
+impl Tables {
+    pub(crate) fn new(alloc: Global) -> Result<Tables, AllocError> {
+        Ok(Tables {
+            gconsts: vec![in alloc; 0.0; MOST[0] + SPARE]?,
+            means_invvars_t: vec![in alloc; 0.0; MOST[1] + SPARE]?,
+            inv_vars_t: vec![in alloc; 0.0; MOST[2] + SPARE]?,
+            sigma_inv_m: vec![in alloc; 0.0; MOST[3] + SPARE]?,
+            u: vec![in alloc; 0.0; MOST[4] + SPARE]?,
+            lda_t: vec![in alloc; 0.0; MOST[5] + SPARE]?,
+            lda_offset: vec![in alloc; 0.0; MOST[6] + SPARE]?,
+            global_mean_stats: vec![in alloc; 0.0; MOST[7] + SPARE]?,
+        })
+    }
+
+    pub(crate) fn lent(&self, z: &Lengths) -> LentTables<'_> {
+        LentTables {
+            gconsts: front(&self.gconsts, z.0[0]),
+            means_invvars_t: front(&self.means_invvars_t, z.0[1]),
+            inv_vars_t: front(&self.inv_vars_t, z.0[2]),
+            sigma_inv_m: front(&self.sigma_inv_m, z.0[3]),
+            u: front(&self.u, z.0[4]),
+            lda_t: front(&self.lda_t, z.0[5]),
+            lda_offset: front(&self.lda_offset, z.0[6]),
+            global_mean_stats: front(&self.global_mean_stats, z.0[7]),
+        }
+    }
 }
 
-pub(crate) fn front_usize(room: &[usize], n: usize) -> &[usize] {
-    let k = script::at_most(n, room.len());
-    &room[0..k]
+/// A stream's rooms, and another room of waiting frames, which a script may have lent in place of the stream's.
+#[derive(Drop)]
+pub(crate) struct Rooms {
+    pub(crate) frames: Vec<f32>,
+    pub(crate) rows: Vec<f64>,
+    pub(crate) waiting_frames: Vec<usize>,
+    pub(crate) waiting_weights: Vec<f32>,
+    pub(crate) cmvn_stats: Vec<f64>,
+    pub(crate) linear: Vec<f64>,
+    pub(crate) quadratic: Vec<f64>,
+    pub(crate) current: Vec<f64>,
+    pub(crate) scratch: Vec<f64>,
+    pub(crate) forged_frames: Vec<usize>,
 }
 
-pub(crate) fn lend_f32(room: &mut [f32], n: usize) -> &mut [f32] {
-    let k = script::at_most(n, room.len());
-    &mut room[0..k]
-}
+impl Rooms {
+    pub(crate) fn new(alloc: Global) -> Result<Rooms, AllocError> {
+        Ok(Rooms {
+            frames: vec![in alloc; 0.0; MOST[8] + SPARE]?,
+            rows: vec![in alloc; 0.0; MOST[9] + SPARE]?,
+            waiting_frames: vec![in alloc; 0; MOST[10] + SPARE]?,
+            waiting_weights: vec![in alloc; 0.0; MOST[11] + SPARE]?,
+            cmvn_stats: vec![in alloc; 0.0; MOST[12] + SPARE]?,
+            linear: vec![in alloc; 0.0; MOST[13] + SPARE]?,
+            quadratic: vec![in alloc; 0.0; MOST[14] + SPARE]?,
+            current: vec![in alloc; 0.0; MOST[15] + SPARE]?,
+            scratch: vec![in alloc; 0.0; MOST[16] + SPARE]?,
+            forged_frames: vec![in alloc; 0; MOST[10] + SPARE]?,
+        })
+    }
 
-pub(crate) fn lend_f64(room: &mut [f64], n: usize) -> &mut [f64] {
-    let k = script::at_most(n, room.len());
-    &mut room[0..k]
-}
+    pub(crate) fn lent_frames(&self, z: &Lengths) -> LentFrames<'_> {
+        LentFrames {
+            frames: front(&self.frames, z.0[8]),
+            rows: front(&self.rows, z.0[9]),
+        }
+    }
 
-pub(crate) fn lend_usize(room: &mut [usize], n: usize) -> &mut [usize] {
-    let k = script::at_most(n, room.len());
-    &mut room[0..k]
-}
+    pub(crate) fn lent_waiting(&self, z: &Lengths) -> LentWaiting<'_> {
+        LentWaiting {
+            frames: front(&self.waiting_frames, z.0[10]),
+            weights: front(&self.waiting_weights, z.0[11]),
+        }
+    }
 
-pub(crate) fn lend_u32(room: &mut [u32], n: usize) -> &mut [u32] {
-    let k = script::at_most(n, room.len());
-    &mut room[0..k]
-}
-
-pub(crate) fn front_u32(room: &[u32], n: usize) -> &[u32] {
-    let k = script::at_most(n, room.len());
-    &room[0..k]
-}
-
-pub(crate) fn lend_u8(room: &mut [u8], n: usize) -> &mut [u8] {
-    let k = script::at_most(n, room.len());
-    &mut room[0..k]
-}
-
-pub(crate) fn front_u8(room: &[u8], n: usize) -> &[u8] {
-    let k = script::at_most(n, room.len());
-    &room[0..k]
-}
-
-// The bytes from a place to another.
-pub(crate) fn part(bytes: &[u8], from: usize, to: usize) -> &[u8] {
-    let e = script::at_most(to, bytes.len());
-    let a = script::at_most(from, e);
-    &bytes[a..e]
+    /// Puts the other room of waiting frames in place of the stream's, or back.
+    pub(crate) fn swap_waiting(&mut self) {
+        mem::swap(&mut self.waiting_frames, &mut self.forged_frames);
+    }
 }

@@ -1,271 +1,349 @@
-// What stands between two lines of a script, and what a line leaves.
-use super::print::{does_not_fit, print_answer, print_line, say};
-use super::rooms::Lengths;
-use definition::{IvectorInfo, IvectorOptions, IvectorStream, Loaded, NewStream, StreamCall};
+// What stands between two lines of a script, and what a line does.
+use super::load::{FILE_BYTES, dimensions, file, file_bytes};
+use super::rooms::{Lengths, Rooms, Tables};
+use definition::{IvectorOptions, IvectorStream, Loaded, NewStream, StreamCall};
+use script::{
+    Files, Held, Item, NO_FILES, Words, front, lend, not_here, print, print_answer, print_list,
+};
+use std::alloc::{AllocError, Global};
 use std::io::{self, Write};
 
-// What is open: nothing, a model, or a stream over it.
+/// What is open, and the lengths of its rooms.
 #[derive(Clone, Copy)]
-pub(crate) enum Held {
-    Nothing,
-    Model(IvectorInfo),
-    Stream(IvectorStream),
-}
-
-// Where the text has a model's four files: the place of each file's length.
-#[derive(Clone, Copy)]
-pub(crate) struct Files {
-    pub(crate) gmm: usize,
-    pub(crate) extractor: usize,
-    pub(crate) lda: usize,
-    pub(crate) cmvn: usize,
-}
-
-// Where the next line begins, the options and files so far; what is open and the lengths of its rooms; the same as the next call is told
-// it, whether this is forged, and whether the waiting frames are.
-#[derive(Clone, Copy)]
-pub(crate) struct Session {
-    pub(crate) at: usize,
-    pub(crate) opts: IvectorOptions,
-    pub(crate) files: Files,
+pub(crate) struct Open {
     pub(crate) held: Held,
     pub(crate) lengths: Lengths,
-    pub(crate) told: Held,
-    pub(crate) lent: Lengths,
+}
+
+/// The options and files so far; what is open; the same as the next call is told it, whether this is forged, and whether the waiting frames are.
+#[derive(Drop)]
+pub(crate) struct Session<'a> {
+    alloc: Global,
+    opts: IvectorOptions,
+    files: Files<'a>,
+    open: Open,
+    pub(crate) told: Open,
     pub(crate) forged: bool,
     pub(crate) waiting_forged: bool,
+    tables: Tables,
+    pub(crate) rooms: Rooms,
 }
 
-// A session whose next line begins at a place. Files that are not given yet are looked for behind every text, where nothing is.
-pub(crate) fn new_session(text: &[u8], at: usize) -> Session {
-    let nowhere = 0x1000_0000_0000;
-    let files = Files {
-        gmm: nowhere,
-        extractor: nowhere,
-        lda: nowhere,
-        cmvn: nowhere,
-    };
-    let opts = read_options(text, nowhere);
-    let none = [0usize; 17];
-    Session {
-        at,
-        opts,
-        files,
-        held: Held::Nothing,
-        lengths: none,
-        told: Held::Nothing,
-        lent: none,
-        forged: false,
-        waiting_forged: false,
+const CLOSED: Open = Open {
+    held: Held::Nothing,
+    lengths: Lengths::NONE,
+};
+
+fn does_not_fit(writer: &mut impl Write) -> io::Result<()> {
+    writeln!(writer, "does not fit")
+}
+
+impl<'a> Session<'a> {
+    pub(crate) fn new(alloc: Global) -> Result<Session<'a>, AllocError> {
+        Ok(Session {
+            alloc,
+            opts: IvectorOptions::default(),
+            files: NO_FILES,
+            open: CLOSED,
+            told: CLOSED,
+            forged: false,
+            waiting_forged: false,
+            tables: Tables::new(alloc)?,
+            rooms: Rooms::new(alloc)?,
+        })
     }
-}
 
-// The session with this open, and nothing forged.
-fn hold(s: Session, held: Held, lengths: Lengths) -> Session {
-    let opts = s.opts;
-    let files = s.files;
-    Session {
-        at: s.at,
-        opts,
-        files,
-        held,
-        lengths,
-        told: held,
-        lent: lengths,
-        forged: false,
-        waiting_forged: false,
+    /// Another session begins, over the same rooms.
+    fn restart(&mut self) {
+        self.opts = IvectorOptions::default();
+        self.files = NO_FILES;
+        self.hold(CLOSED);
     }
-}
 
-// The session whose next call is told this.
-pub(crate) fn forge(s: Session, told: Held, lent: Lengths, waiting_forged: bool) -> Session {
-    let opts = s.opts;
-    let files = s.files;
-    let held = s.held;
-    let lengths = s.lengths;
-    Session {
-        at: s.at,
-        opts,
-        files,
-        held,
-        lengths,
-        told,
-        lent,
-        forged: true,
-        waiting_forged,
+    /// This is open, and nothing forged.
+    fn hold(&mut self, open: Open) {
+        self.open = open;
+        self.told = open;
+        self.forged = false;
+        self.waiting_forged = false;
     }
-}
 
-// Only the model of what is open.
-pub(crate) fn model_of(h: Held) -> Held {
-    match h {
-        Held::Stream(s) => {
-            let i = s.info;
-            Held::Model(i)
+    /// Something else is open, with the lengths as they were.
+    fn hold_in_place(&mut self, held: Held) {
+        let lengths = self.open.lengths;
+        self.hold(Open { held, lengths });
+    }
+
+    /// Only the model of what is open stays so.
+    fn close_stream(&mut self) {
+        self.hold_in_place(match self.open.held.model() {
+            Some(info) => Held::Model(info),
+            None => Held::Nothing,
+        });
+    }
+
+    /// What a call leaves: a forged one, the stream as it was.
+    fn after(&mut self, stream: IvectorStream) {
+        self.hold_in_place(if self.forged {
+            self.open.held
+        } else {
+            Held::Stream(stream)
+        });
+    }
+
+    /// One line, which is the text from its first byte on.
+    pub(crate) fn play(&mut self, writer: &mut impl Write, line: &'a [u8]) -> io::Result<()> {
+        let mut words = Words { rest: line };
+        let letter = words.letter();
+        match letter {
+            b'o' => self.opts = IvectorOptions::read(&mut words),
+            b'g' => self.files.gmm = words.rest,
+            b'e' => self.files.extractor = words.rest,
+            b'l' => self.files.lda = words.rest,
+            b'c' => self.files.cmvn = words.rest,
+            b'm' => self.load(writer, &mut words)?,
+            b'z' => self.restart(),
+            b'k' => self.print_tables(writer)?,
+            b'x' => self.forge(&mut words),
+            b's' => self.open_stream(writer, &mut words)?,
+            b'p' | b'w' | b'f' | b'd' | b'n' | b'v' | b'r' => {
+                self.call(writer, letter, &mut words)?
+            }
+            _ => not_here(writer)?,
         }
-        Held::Model(i) => Held::Model(i),
-        Held::Nothing => Held::Nothing,
+        Ok(())
     }
-}
 
-pub(crate) fn closed(s: Session) -> Session {
-    let h = s.held;
-    let z = s.lengths;
-    hold(s, model_of(h), z)
-}
-
-pub(crate) fn empty(s: Session) -> Session {
-    let z = s.lengths;
-    hold(s, Held::Nothing, z)
-}
-
-// ---- answers
-
-// The answer of a load, `fit` being whether the lengths that the line asks for fit in the program's rooms.
-pub(crate) fn loaded(
-    writer: &mut impl Write,
-    s: Session,
-    answer: Loaded,
-    z: Lengths,
-    fit: bool,
-) -> io::Result<Session> {
-    match answer {
-        Loaded::Model(info) => {
-            if !fit {
+    /// `m d0 .. d7`
+    fn load(&mut self, writer: &mut impl Write, words: &mut Words<'_>) -> io::Result<()> {
+        self.rooms = Rooms::new(self.alloc)?;
+        if FILE_BYTES < file_bytes(self.files) {
+            does_not_fit(writer)?;
+            self.hold_in_place(Held::Nothing);
+            return Ok(());
+        }
+        let mut left = FILE_BYTES;
+        let gmm = file(self.alloc, self.files.gmm, &mut left)?;
+        let extractor = file(self.alloc, self.files.extractor, &mut left)?;
+        let lda = file(self.alloc, self.files.lda, &mut left)?;
+        let cmvn = file(self.alloc, self.files.cmvn, &mut left)?;
+        let files = Files {
+            gmm: &gmm,
+            extractor: &extractor,
+            lda: &lda,
+            cmvn: &cmvn,
+        };
+        let mut lengths = Lengths::needs(self.opts, dimensions(files));
+        lengths.read(words, 0, 8);
+        let fits = lengths.fit(0, 8);
+        let loaded = self.tables.load(&lengths, self.opts, files);
+        match loaded {
+            Loaded::Model(info) if fits => {
+                writeln!(writer, "0")?;
+                self.hold(Open {
+                    held: Held::Model(info),
+                    lengths,
+                });
+            }
+            Loaded::Refused(n) if fits || n != 8 => {
+                writeln!(writer, "{n}")?;
+                self.hold_in_place(Held::Nothing);
+            }
+            _ => {
                 does_not_fit(writer)?;
-                return Ok(empty(s));
+                self.hold_in_place(Held::Nothing);
             }
-            print_line(writer, 0)?;
-            Ok(hold(s, Held::Model(info), z))
         }
-        Loaded::Refused(n) => {
-            if n == 8 {
-                if !fit {
-                    does_not_fit(writer)?;
-                    return Ok(empty(s));
-                }
+        Ok(())
+    }
+
+    /// `k`
+    fn print_tables(&self, writer: &mut impl Write) -> io::Result<()> {
+        let Some(info) = self.open.held.model() else {
+            return not_here(writer);
+        };
+        let d = info.dims;
+        let t = self.tables.lent(&Lengths::needs(info.opts, d));
+        let gmm_gauss = d.num_gauss;
+        let ext_gauss = d.ext_gauss;
+        let feat_dim = d.feat_dim;
+        let ivector_dim = d.ivector_dim;
+        let base_dim = d.base_dim;
+        let lda_cols = d.lda_cols;
+        write!(
+            writer,
+            "{gmm_gauss} {ext_gauss} {feat_dim} {ivector_dim} {base_dim} {lda_cols}"
+        )?;
+        print(writer, info.prior_offset)?;
+        print_list(writer, t.gconsts)?;
+        print_list(writer, t.means_invvars_t)?;
+        print_list(writer, t.inv_vars_t)?;
+        print_list(writer, t.sigma_inv_m)?;
+        print_list(writer, t.u)?;
+        print_list(writer, t.lda_t)?;
+        print_list(writer, t.lda_offset)?;
+        print_list(writer, t.global_mean_stats)?;
+        writeln!(writer)
+    }
+
+    /// `s FL RL WF WW c0 .. c4`
+    fn open_stream(&mut self, writer: &mut impl Write, words: &mut Words<'_>) -> io::Result<()> {
+        let Some(info) = self.told.held.model() else {
+            return not_here(writer);
+        };
+        let lengths = self.stream_lengths(words);
+        if !lengths.fit(8, 17) {
+            does_not_fit(writer)?;
+            self.close_stream();
+            return Ok(());
+        }
+        match self.rooms.new_stream(&lengths, &self.tables, info) {
+            NewStream::Stream(call) => {
+                print_answer(writer, call.answer)?;
+                writeln!(writer)?;
+                self.hold(Open {
+                    held: Held::Stream(call.stream),
+                    lengths,
+                });
             }
-            print_line(writer, n)?;
-            Ok(empty(s))
+            NewStream::Refused(n) => {
+                writeln!(writer, "{n}")?;
+                self.close_stream();
+            }
+        }
+        Ok(())
+    }
+
+    /// The lengths that a fresh stream is lent: of the tables, what the script wants by now; of the rest, what the line says, against the needs of
+    /// the model as it was loaded.
+    fn stream_lengths(&self, words: &mut Words<'_>) -> Lengths {
+        let tables = self.told.lengths;
+        let Some(info) = self.open.held.model() else {
+            return tables;
+        };
+        let mut lengths = Lengths::needs(info.opts, info.dims);
+        lengths.0[..8].copy_from_slice(&tables.0[..8]);
+        lengths.read(words, 8, 17);
+        lengths
+    }
+
+    /// A call on the stream.
+    fn call(
+        &mut self,
+        writer: &mut impl Write,
+        letter: u8,
+        words: &mut Words<'_>,
+    ) -> io::Result<()> {
+        let Held::Stream(s) = self.told.held else {
+            return not_here(writer);
+        };
+        if self.waiting_forged {
+            self.rooms.swap_waiting();
+        }
+        let stream = match letter {
+            b'r' => self.step(writer, s, words)?,
+            b'v' => self.fetch(writer, s, words)?,
+            _ => {
+                let call = self.ring_call(letter, s, words);
+                print_answer(writer, call.answer)?;
+                writeln!(writer)?;
+                call.stream
+            }
+        };
+        if self.waiting_forged {
+            self.rooms.swap_waiting();
+        }
+        self.after(stream);
+        Ok(())
+    }
+
+    /// `p n x1 .. xn`, `w nf f1 .. fnf nw w1 .. wnw`, `f`, `n V`, and `d F`. A list that is longer than its room here is longer than any frame, or
+    /// than a change may be.
+    fn ring_call(&mut self, letter: u8, s: IvectorStream, words: &mut Words<'_>) -> StreamCall {
+        let z = self.told.lengths;
+        match letter {
+            b'p' => {
+                let mut frame = [0.0f32; 128];
+                self.rooms.push(&z, s, words.list(&mut frame))
+            }
+            b'w' => {
+                let mut frames = [0usize; 1026];
+                let mut weights = [0.0f32; 1026];
+                let frames = words.list(&mut frames);
+                let weights = words.list(&mut weights);
+                self.rooms.change(&z, s, frames, weights)
+            }
+            b'f' => self.rooms.finish(&z, s),
+            b'n' => self.rooms.set_window(&z, s, words.number(10)),
+            _ => self.rooms.forget(&z, s, words.number(10)),
         }
     }
-}
 
-// The answer of a fresh stream.
-pub(crate) fn opened(
-    writer: &mut impl Write,
-    s: Session,
-    answer: NewStream,
-    z: Lengths,
-) -> io::Result<Session> {
-    match answer {
-        NewStream::Stream(call) => {
-            print_answer(writer, call.answer)?;
-            say(writer, b"\n")?;
-            let stream = call.stream;
-            Ok(hold(s, Held::Stream(stream), z))
+    /// `v F n`. An output that is longer than 160 is longer than any vector.
+    fn fetch(
+        &mut self,
+        writer: &mut impl Write,
+        s: IvectorStream,
+        words: &mut Words<'_>,
+    ) -> io::Result<IvectorStream> {
+        let z = self.told.lengths;
+        let frame = words.number(10);
+        let n = words.number(10);
+        let mut out = [0u32; 160];
+        let call = self
+            .rooms
+            .fetch(&z, &self.tables, s, frame, lend(&mut out, n));
+        let answer = call.answer;
+        print_answer(writer, answer)?;
+        if answer.refusal == 0 {
+            let not_finite = answer.not_finite;
+            let nans = answer.nan_likelihoods;
+            write!(writer, " {not_finite} {nans}")?;
+            print_list(writer, front(&out, n))?;
         }
-        NewStream::Refused(n) => {
-            print_line(writer, n)?;
-            Ok(closed(s))
+        writeln!(writer)?;
+        Ok(call.stream)
+    }
+
+    /// `r M n x1 .. xn N HEX`. A block that is longer than its room here is longer than a block may be. The answer has the block, and the vector where
+    /// the command was a fetch and was taken.
+    fn step(
+        &mut self,
+        writer: &mut impl Write,
+        s: IvectorStream,
+        words: &mut Words<'_>,
+    ) -> io::Result<IvectorStream> {
+        let z = self.told.lengths;
+        let m = words.number(10);
+        let mut frame = [0.0f32; 128];
+        let frame = words.list(&mut frame);
+        let mut block = [0u8; 64];
+        let n = words.bytes(&mut block).len();
+        let command = block[0];
+        let mut out = [0u32; 160];
+        let mut stream = s;
+        let done = self.rooms.step(
+            &z,
+            &self.tables,
+            &mut stream,
+            lend(&mut block, n),
+            frame,
+            lend(&mut out, m),
+        );
+        if let Err(refusal) = done {
+            let number = refusal.number();
+            writeln!(writer, "{number}")?;
+            return Ok(stream);
         }
-    }
-}
-
-// What a call leaves: a forged one, the stream as it was.
-pub(crate) fn after(s: Session, stream: IvectorStream) -> Session {
-    let z = s.lengths;
-    if s.forged {
-        let h = s.held;
-        return hold(s, h, z);
-    }
-    hold(s, Held::Stream(stream), z)
-}
-
-pub(crate) fn called(writer: &mut impl Write, s: Session, call: StreamCall) -> io::Result<Session> {
-    print_answer(writer, call.answer)?;
-    say(writer, b"\n")?;
-    let stream = call.stream;
-    Ok(after(s, stream))
-}
-
-// ---- settings
-
-// `o L R W GF GS CG minpost scale maxcount energy`
-fn read_options(text: &[u8], at: usize) -> IvectorOptions {
-    let left = script::number(text, at, 10);
-    let right = script::number(text, left.next, 10);
-    let window = script::number(text, right.next, 10);
-    let global = script::number(text, window.next, 10);
-    let gselect = script::number(text, global.next, 10);
-    let iters = script::number(text, gselect.next, 10);
-    let min_post = script::number(text, iters.next, 16);
-    let scale = script::number(text, min_post.next, 16);
-    let max_count = script::number(text, scale.next, 16);
-    let energy = script::number(text, max_count.next, 16);
-    IvectorOptions {
-        left_context: left.value,
-        right_context: right.value,
-        cmn_window: window.value,
-        global_frames: global.value,
-        num_gselect: gselect.value,
-        num_cg_iters: iters.value,
-        min_post: script::float(min_post.value),
-        posterior_scale: script::float(scale.value),
-        max_count: script::double(max_count.value),
-        min_energy: script::float(energy.value),
-    }
-}
-
-fn set_file(files: Files, letter: u8, at: usize) -> Files {
-    let mut f = files;
-    match letter {
-        b'g' => {
-            f.gmm = at;
+        write!(writer, "0 ")?;
+        let block = front(&block, n);
+        for byte in block {
+            write!(writer, "{byte:02x}")?;
         }
-        b'e' => {
-            f.extractor = at;
+        if command == 4 && script::byte_at(block, 1) % 2 == 1 {
+            print_list(writer, front(&out, m))?;
         }
-        b'l' => {
-            f.lda = at;
-        }
-        _ => {
-            f.cmvn = at;
-        }
-    }
-    f
-}
-
-pub(crate) fn is_setting(letter: u8) -> bool {
-    match letter {
-        b'o' | b'g' | b'e' | b'l' | b'c' => true,
-        _ => false,
-    }
-}
-
-// `o ..`, and `g N HEX`, `e N HEX`, `l N HEX`, `c N HEX`
-pub(crate) fn settings(letter: u8, text: &[u8], at: usize, session: Session) -> Session {
-    let mut s = session;
-    if letter == b'o' {
-        s.opts = read_options(text, at);
-        return s;
-    }
-    let files = session.files;
-    s.files = set_file(files, letter, at);
-    s
-}
-
-// The session with the place of the line after.
-pub(crate) fn advanced(text: &[u8], session: Session) -> Session {
-    let mut s = session;
-    s.at = script::next_line(text, session.at);
-    s
-}
-
-// Whether a model's lines end at a place: another load, the end of the session, the end of the text.
-pub(crate) fn ends_at(text: &[u8], at: usize) -> bool {
-    match script::byte_at(text, at) {
-        0 | b'm' | b'z' => true,
-        _ => false,
+        writeln!(writer)?;
+        Ok(stream)
     }
 }

@@ -1,103 +1,109 @@
-// The rooms that calls are lent, and the front of a room that is as long as a line asks for. A length that a room has no places for is cut to
-// the room; the answer then shows it.
-pub(crate) type Gconsts = [f32; 16];
+// The rooms that calls are lent. A length that a room has no places for is cut to the room; the answer then shows it.
+use definition::{LentFrames, LentTables, LentWaiting, RingLengths};
+use script::front;
+use std::alloc::{AllocError, Global};
 
-pub(crate) type Means = [f32; 64];
-
-pub(crate) type InvVars = [f32; 64];
-
-pub(crate) type SigmaInvM = [f64; 128];
-
-pub(crate) type U = [f64; 128];
-
-pub(crate) type Lda = [f32; 128];
-
-pub(crate) type LdaOffset = [f32; 16];
-
-pub(crate) type GlobalRow = [f64; 16];
-
-pub(crate) type Frames = [f32; 256];
-
-pub(crate) type Rows = [f64; 256];
-
-pub(crate) type WaitingFrames = [usize; 1024];
-
-pub(crate) type WaitingWeights = [f32; 1024];
-
-pub(crate) type CmvnStats = [f64; 16];
-
-pub(crate) type Linear = [f64; 16];
-
-pub(crate) type Quadratic = [f64; 64];
-
-pub(crate) type Current = [f64; 16];
-
-pub(crate) type Scratch = [f64; 128];
-
-pub(crate) type Phones = [i32; 64];
-
-pub(crate) type Known = [bool; 512];
-
-pub(crate) type Weights = [f32; 512];
-
-// What a round's line brings: its numbers, its segments, the enrolled vectors.
-pub(crate) type Numbers = [f32; 64];
-
-pub(crate) type Segments = [usize; 64];
-
-pub(crate) type Enrolled = [u32; 256];
-
-pub(crate) fn front_f32(room: &[f32], n: usize) -> &[f32] {
-    let k = script::at_most(n, room.len());
-    &room[0..k]
+/// A model's tables.
+#[derive(Drop)]
+pub(crate) struct Tables {
+    pub(crate) gconsts: Vec<f32>,
+    pub(crate) means_invvars_t: Vec<f32>,
+    pub(crate) inv_vars_t: Vec<f32>,
+    pub(crate) sigma_inv_m: Vec<f64>,
+    pub(crate) u: Vec<f64>,
+    pub(crate) lda_t: Vec<f32>,
+    pub(crate) lda_offset: Vec<f32>,
+    pub(crate) global_mean_stats: Vec<f64>,
 }
 
-pub(crate) fn front_f64(room: &[f64], n: usize) -> &[f64] {
-    let k = script::at_most(n, room.len());
-    &room[0..k]
+impl Tables {
+    pub(crate) fn new(alloc: Global) -> Result<Tables, AllocError> {
+        Ok(Tables {
+            gconsts: vec![in alloc; 0.0; 16]?,
+            means_invvars_t: vec![in alloc; 0.0; 64]?,
+            inv_vars_t: vec![in alloc; 0.0; 64]?,
+            sigma_inv_m: vec![in alloc; 0.0; 128]?,
+            u: vec![in alloc; 0.0; 128]?,
+            lda_t: vec![in alloc; 0.0; 128]?,
+            lda_offset: vec![in alloc; 0.0; 16]?,
+            global_mean_stats: vec![in alloc; 0.0; 16]?,
+        })
+    }
+
+    pub(crate) fn lent(&self) -> LentTables<'_> {
+        LentTables {
+            gconsts: &self.gconsts,
+            means_invvars_t: &self.means_invvars_t,
+            inv_vars_t: &self.inv_vars_t,
+            sigma_inv_m: &self.sigma_inv_m,
+            u: &self.u,
+            lda_t: &self.lda_t,
+            lda_offset: &self.lda_offset,
+            global_mean_stats: &self.global_mean_stats,
+        }
+    }
 }
 
-pub(crate) fn front_usize(room: &[usize], n: usize) -> &[usize] {
-    let k = script::at_most(n, room.len());
-    &room[0..k]
+/// A stream's rooms.
+#[derive(Drop)]
+pub(crate) struct Rooms {
+    pub(crate) frames: Vec<f32>,
+    pub(crate) rows: Vec<f64>,
+    pub(crate) waiting_frames: Vec<usize>,
+    pub(crate) waiting_weights: Vec<f32>,
+    pub(crate) cmvn_stats: Vec<f64>,
+    pub(crate) linear: Vec<f64>,
+    pub(crate) quadratic: Vec<f64>,
+    pub(crate) current: Vec<f64>,
+    pub(crate) scratch: Vec<f64>,
 }
 
-pub(crate) fn front_i32(room: &[i32], n: usize) -> &[i32] {
-    let k = script::at_most(n, room.len());
-    &room[0..k]
+impl Rooms {
+    pub(crate) fn new(alloc: Global) -> Result<Rooms, AllocError> {
+        Ok(Rooms {
+            frames: vec![in alloc; 0.0; 256]?,
+            rows: vec![in alloc; 0.0; 256]?,
+            waiting_frames: vec![in alloc; 0; 1024]?,
+            waiting_weights: vec![in alloc; 0.0; 1024]?,
+            cmvn_stats: vec![in alloc; 0.0; 16]?,
+            linear: vec![in alloc; 0.0; 16]?,
+            quadratic: vec![in alloc; 0.0; 64]?,
+            current: vec![in alloc; 0.0; 16]?,
+            scratch: vec![in alloc; 0.0; 128]?,
+        })
+    }
+
+    pub(crate) fn lent_frames(&self, z: RingLengths) -> LentFrames<'_> {
+        LentFrames {
+            frames: front(&self.frames, z.frames),
+            rows: front(&self.rows, z.rows),
+        }
+    }
+
+    pub(crate) fn lent_waiting(&self, z: RingLengths) -> LentWaiting<'_> {
+        LentWaiting {
+            frames: front(&self.waiting_frames, z.waiting_frames),
+            weights: front(&self.waiting_weights, z.waiting_weights),
+        }
+    }
 }
 
-pub(crate) fn front_u32(room: &[u32], n: usize) -> &[u32] {
-    let k = script::at_most(n, room.len());
-    &room[0..k]
+/// A silence table's rooms, and its silence phones.
+#[derive(Drop)]
+pub(crate) struct TableRooms {
+    pub(crate) phones: Vec<i32>,
+    pub(crate) known: Vec<bool>,
+    pub(crate) is_silence: Vec<bool>,
+    pub(crate) current_weight: Vec<f32>,
 }
 
-pub(crate) fn front_u8(room: &[u8], n: usize) -> &[u8] {
-    let k = script::at_most(n, room.len());
-    &room[0..k]
-}
-
-pub(crate) fn lend_f32(room: &mut [f32], n: usize) -> &mut [f32] {
-    let k = script::at_most(n, room.len());
-    &mut room[0..k]
-}
-
-pub(crate) fn lend_f64(room: &mut [f64], n: usize) -> &mut [f64] {
-    let k = script::at_most(n, room.len());
-    &mut room[0..k]
-}
-
-pub(crate) fn lend_usize(room: &mut [usize], n: usize) -> &mut [usize] {
-    let k = script::at_most(n, room.len());
-    &mut room[0..k]
-}
-
-pub(crate) fn lend_u32(room: &mut [u32], n: usize) -> &mut [u32] {
-    let k = script::at_most(n, room.len());
-    &mut room[0..k]
-}
-
-pub(crate) fn lend_bool(room: &mut [bool], n: usize) -> &mut [bool] {
-    let k = script::at_most(n, room.len());
-    &mut room[0..k]
+impl TableRooms {
+    pub(crate) fn new(alloc: Global) -> Result<TableRooms, AllocError> {
+        Ok(TableRooms {
+            phones: vec![in alloc; 0; 64]?,
+            known: vec![in alloc; false; 512]?,
+            is_silence: vec![in alloc; false; 512]?,
+            current_weight: vec![in alloc; 0.0; 512]?,
+        })
+    }
 }

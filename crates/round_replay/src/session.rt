@@ -1,280 +1,292 @@
-// What stands between two lines of a script, and what a line leaves.
-use definition::{DecoderFrame, IvectorInfo, IvectorOptions, IvectorStream, SilenceWeighting};
+// What stands between two lines of a script, and what a line does.
+use super::calls::estimate_lengths;
+use super::rooms::{Rooms, TableRooms, Tables};
+use definition::{
+    DecoderFrame, IvectorOptions, IvectorStream, Loaded, NewStream, RingLengths, SilenceWeighting,
+    StreamCall,
+};
+use script::{
+    Files, Held, Item, NO_FILES, Words, front, not_here, print, print_answer, print_list,
+};
+use std::alloc::{AllocError, Global};
+use std::io::{self, Write};
 
-// What is open: nothing, a model, or a stream over it.
-#[derive(Clone, Copy)]
-pub(crate) enum Held {
-    Nothing,
-    Model(IvectorInfo),
-    Stream(IvectorStream),
-}
-
-// Whether a silence table is open.
-#[derive(Clone, Copy)]
-pub(crate) enum Table {
-    Closed,
-    Open(SilenceWeighting),
-}
-
-// Where the text has a model's four files: the place of each file's length.
-#[derive(Clone, Copy)]
-pub(crate) struct Files {
-    pub(crate) gmm: usize,
-    pub(crate) extractor: usize,
-    pub(crate) lda: usize,
-    pub(crate) cmvn: usize,
-}
-
-// The options and files so far; what is open; the same as the next round is told it, and which of the two records are forged.
-#[derive(Clone, Copy)]
-pub(crate) struct Session {
-    pub(crate) opts: IvectorOptions,
-    pub(crate) files: Files,
-    pub(crate) held: Held,
-    pub(crate) table: Table,
+/// The options and files so far; what is open, a silence table too; the same as the next round is told it, and which of the two records are forged.
+#[derive(Drop)]
+pub(crate) struct Session<'a> {
+    opts: IvectorOptions,
+    files: Files<'a>,
+    held: Held,
+    pub(crate) table: Option<SilenceWeighting>,
     pub(crate) told: Held,
-    pub(crate) told_table: Table,
-    pub(crate) forged: bool,
-    pub(crate) table_forged: bool,
+    pub(crate) told_table: Option<SilenceWeighting>,
+    forged: bool,
+    table_forged: bool,
+    pub(crate) tables: Tables,
+    pub(crate) rooms: Rooms,
+    pub(crate) silence: TableRooms,
 }
 
-// Files that are not given yet are looked for behind every text, where nothing is.
-pub(crate) fn new_session(text: &[u8]) -> Session {
-    let nowhere = 0x1000_0000_0000;
-    let files = Files {
-        gmm: nowhere,
-        extractor: nowhere,
-        lda: nowhere,
-        cmvn: nowhere,
-    };
-    let opts = read_options(text, nowhere);
-    Session {
-        opts,
-        files,
-        held: Held::Nothing,
-        table: Table::Closed,
-        told: Held::Nothing,
-        told_table: Table::Closed,
-        forged: false,
-        table_forged: false,
+/// How many changes there are, then each frame with its weight.
+pub(crate) fn print_changes(
+    writer: &mut impl Write,
+    n: usize,
+    frames: &[usize],
+    weights: &[f32],
+) -> io::Result<()> {
+    write!(writer, " {n}")?;
+    for (frame, weight) in frames.iter().zip(weights).take(n) {
+        write!(writer, " {frame}")?;
+        print(writer, *weight)?;
+    }
+    Ok(())
+}
+
+fn read_rings(words: &mut Words<'_>) -> RingLengths {
+    RingLengths {
+        frames: words.number(10),
+        rows: words.number(10),
+        waiting_frames: words.number(10),
+        waiting_weights: words.number(10),
     }
 }
 
-// The session with these open, and nothing forged.
-pub(crate) fn hold(s: Session, held: Held, table: Table) -> Session {
-    let opts = s.opts;
-    let files = s.files;
-    Session {
-        opts,
-        files,
-        held,
-        table,
-        told: held,
-        told_table: table,
-        forged: false,
-        table_forged: false,
+fn forge_stream(s: &mut IvectorStream, field: &[u8], v: usize) {
+    match field {
+        b"accepted" => s.accepted = v,
+        b"next" => s.num_frames_stats = v,
+        b"mark" => s.mark = v,
+        b"left" => s.info.opts.left_context = v,
+        b"ivec" => s.info.dims.ivector_dim = v,
+        _ => {}
     }
 }
 
-// With another model or stream.
-pub(crate) fn hold_stream(s: Session, held: Held) -> Session {
-    let table = s.table;
-    hold(s, held, table)
-}
-
-// With another silence table.
-pub(crate) fn hold_table(s: Session, table: Table) -> Session {
-    let held = s.held;
-    hold(s, held, table)
-}
-
-// After a round: a forged record stays as it was.
-pub(crate) fn after_round(s: Session, stream: IvectorStream, silence: SilenceWeighting) -> Session {
-    let mut held = s.held;
-    let mut table = s.table;
-    if !s.forged {
-        held = Held::Stream(stream);
+impl<'a> Session<'a> {
+    pub(crate) fn new(alloc: Global) -> Result<Session<'a>, AllocError> {
+        Ok(Session {
+            opts: IvectorOptions::default(),
+            files: NO_FILES,
+            held: Held::Nothing,
+            table: None,
+            told: Held::Nothing,
+            told_table: None,
+            forged: false,
+            table_forged: false,
+            tables: Tables::new(alloc)?,
+            rooms: Rooms::new(alloc)?,
+            silence: TableRooms::new(alloc)?,
+        })
     }
-    if !s.table_forged {
-        table = Table::Open(silence);
+
+    /// Another session begins, over the same rooms.
+    fn restart(&mut self) {
+        self.opts = IvectorOptions::default();
+        self.files = NO_FILES;
+        self.hold(Held::Nothing, None);
     }
-    hold(s, held, table)
-}
 
-// ---- settings
-
-// `o L R W GF GS CG minpost scale maxcount energy`
-fn read_options(text: &[u8], at: usize) -> IvectorOptions {
-    let left = script::number(text, at, 10);
-    let right = script::number(text, left.next, 10);
-    let window = script::number(text, right.next, 10);
-    let global = script::number(text, window.next, 10);
-    let gselect = script::number(text, global.next, 10);
-    let iters = script::number(text, gselect.next, 10);
-    let min_post = script::number(text, iters.next, 16);
-    let scale = script::number(text, min_post.next, 16);
-    let max_count = script::number(text, scale.next, 16);
-    let energy = script::number(text, max_count.next, 16);
-    IvectorOptions {
-        left_context: left.value,
-        right_context: right.value,
-        cmn_window: window.value,
-        global_frames: global.value,
-        num_gselect: gselect.value,
-        num_cg_iters: iters.value,
-        min_post: script::float(min_post.value),
-        posterior_scale: script::float(scale.value),
-        max_count: script::double(max_count.value),
-        min_energy: script::float(energy.value),
+    /// These are open, and nothing forged.
+    fn hold(&mut self, held: Held, table: Option<SilenceWeighting>) {
+        self.held = held;
+        self.table = table;
+        self.told = held;
+        self.told_table = table;
+        self.forged = false;
+        self.table_forged = false;
     }
-}
 
-fn set_file(files: Files, letter: u8, at: usize) -> Files {
-    let mut f = files;
-    match letter {
-        b'g' => {
-            f.gmm = at;
+    /// After a round: a forged record stays as it was.
+    pub(crate) fn after_round(&mut self, stream: IvectorStream, silence: SilenceWeighting) {
+        let held = if self.forged {
+            self.held
+        } else {
+            Held::Stream(stream)
+        };
+        let table = if self.table_forged {
+            self.table
+        } else {
+            Some(silence)
+        };
+        self.hold(held, table);
+    }
+
+    /// One line, which is the text from its first byte on.
+    pub(crate) fn play(&mut self, writer: &mut impl Write, line: &'a [u8]) -> io::Result<()> {
+        let mut words = Words { rest: line };
+        match words.letter() {
+            b'o' => self.opts = IvectorOptions::read(&mut words),
+            b'g' => self.files.gmm = words.rest,
+            b'e' => self.files.extractor = words.rest,
+            b'l' => self.files.lda = words.rest,
+            b'c' => self.files.cmvn = words.rest,
+            b'm' => self.load(writer)?,
+            b's' => self.open_stream(writer, &mut words)?,
+            b't' => self.open_table(writer, &mut words)?,
+            b'u' => self.round(writer, &mut words)?,
+            b'f' => self.finish(writer)?,
+            b'd' => self.forget(writer, &mut words)?,
+            b'q' if words.letter() == b's' => self.print_stream(writer)?,
+            b'q' => self.print_table(writer)?,
+            b'x' => self.forge(&mut words),
+            b'y' => self.forge_table(&mut words),
+            b'z' => self.restart(),
+            _ => not_here(writer)?,
         }
-        b'e' => {
-            f.extractor = at;
-        }
-        b'l' => {
-            f.lda = at;
-        }
-        _ => {
-            f.cmvn = at;
-        }
+        Ok(())
     }
-    f
-}
 
-// `o ..`, and `g N HEX`, `e N HEX`, `l N HEX`, `c N HEX`
-pub(crate) fn settings(letter: u8, text: &[u8], at: usize, session: Session) -> Session {
-    let mut s = session;
-    if letter == b'o' {
-        s.opts = read_options(text, at);
-        return s;
+    /// `m ..`: what the line says of the tables' lengths is not read.
+    fn load(&mut self, writer: &mut impl Write) -> io::Result<()> {
+        let held = match self.tables.load(self.opts, self.files) {
+            Loaded::Model(info) => {
+                writeln!(writer, "0")?;
+                Held::Model(info)
+            }
+            Loaded::Refused(n) => {
+                writeln!(writer, "{n}")?;
+                Held::Nothing
+            }
+        };
+        self.hold(held, self.table);
+        Ok(())
     }
-    let files = session.files;
-    s.files = set_file(files, letter, at);
-    s
-}
 
-// ---- forged records
-
-// The session whose next round is told this.
-fn forge(s: Session, told: Held, told_table: Table, forged: bool, table_forged: bool) -> Session {
-    let opts = s.opts;
-    let files = s.files;
-    let held = s.held;
-    let table = s.table;
-    Session {
-        opts,
-        files,
-        held,
-        table,
-        told,
-        told_table,
-        forged,
-        table_forged,
-    }
-}
-
-// The place after a word, where it stands at a place; else 0.
-fn after_word(text: &[u8], at: usize, word: &[u8]) -> usize {
-    let mut place = at;
-    for i in 0..word.len() {
-        let b = word[i];
-        if script::byte_at(text, place) != b {
-            return 0;
-        }
-        place = script::step(text, place);
-    }
-    place
-}
-
-fn number_at(text: &[u8], at: usize) -> usize {
-    let n = script::number(text, at, 10);
-    n.value
-}
-
-fn forge_stream(text: &[u8], at: usize, stream: IvectorStream) -> IvectorStream {
-    let mut s = stream;
-    let accepted = after_word(text, at, b"accepted ");
-    if accepted != 0 {
-        s.accepted = number_at(text, accepted);
-        return s;
-    }
-    let next = after_word(text, at, b"next ");
-    if next != 0 {
-        s.num_frames_stats = number_at(text, next);
-        return s;
-    }
-    let mark = after_word(text, at, b"mark ");
-    if mark != 0 {
-        s.mark = number_at(text, mark);
-        return s;
-    }
-    s.info = forge_model(text, at, stream.info);
-    s
-}
-
-fn forge_model(text: &[u8], at: usize, info: IvectorInfo) -> IvectorInfo {
-    let mut i = info;
-    let mut o = info.opts;
-    let mut d = info.dims;
-    let left = after_word(text, at, b"left ");
-    if left != 0 {
-        o.left_context = number_at(text, left);
-        i.opts = o;
-        return i;
-    }
-    let ivec = after_word(text, at, b"ivec ");
-    if ivec != 0 {
-        d.ivector_dim = number_at(text, ivec);
-        i.dims = d;
-    }
-    i
-}
-
-// `x n FIELD V`
-pub(crate) fn forge_line(text: &[u8], at: usize, session: Session) -> Session {
-    let told = session.told;
-    let Held::Stream(stream) = told else {
-        return session;
-    };
-    let from = script::step(text, script::step(text, at));
-    let told_table = session.told_table;
-    forge(
-        session,
-        Held::Stream(forge_stream(text, from, stream)),
-        told_table,
-        true,
-        session.table_forged,
-    )
-}
-
-// `y l N`, `y s N`, `y w HEX`
-pub(crate) fn forge_table_line(text: &[u8], at: usize, session: Session) -> Session {
-    let told_table = session.told_table;
-    let Table::Open(table) = told_table else {
-        return session;
-    };
-    let from = script::step(text, script::step(text, at));
-    let mut t = table;
-    match script::byte_at(text, at) {
-        b'l' => {
-            let length = DecoderFrame(number_at(text, from));
-            t.length = length;
-        }
-        b's' => {
-            t.subsampling = number_at(text, from);
-        }
-        _ => {
-            let bits = script::number(text, from, 16);
-            t.silence_weight = script::float(bits.value);
+    /// `s FL RL WF WW ..`, over a model that has no stream yet: what the line says of the lengths of the rooms besides the rings is not read.
+    fn open_stream(&mut self, writer: &mut impl Write, words: &mut Words<'_>) -> io::Result<()> {
+        let Held::Model(info) = self.held else {
+            return not_here(writer);
+        };
+        let rings = read_rings(words);
+        match self.rooms.new_stream(&self.tables, info, rings) {
+            NewStream::Stream(call) => self.called(writer, call),
+            NewStream::Refused(n) => writeln!(writer, "{n}"),
         }
     }
-    let told = session.told;
-    forge(session, told, Table::Open(t), session.forged, true)
+
+    /// `t T weight sub np p1 .. pnp`
+    fn open_table(&mut self, writer: &mut impl Write, words: &mut Words<'_>) -> io::Result<()> {
+        let table = words.number(10);
+        let weight = f32::read(words);
+        let subsampling = words.number(10);
+        let phones = words.list(&mut self.silence.phones);
+        let opened = match silence_weighting::new(phones, weight, subsampling, table) {
+            Ok(t) => {
+                writeln!(writer, "0")?;
+                Some(t)
+            }
+            Err(refusal) => {
+                let number = refusal.number();
+                writeln!(writer, "{number}")?;
+                None
+            }
+        };
+        self.hold(self.held, opened);
+        Ok(())
+    }
+
+    fn called(&mut self, writer: &mut impl Write, call: StreamCall) -> io::Result<()> {
+        print_answer(writer, call.answer)?;
+        writeln!(writer)?;
+        self.hold(Held::Stream(call.stream), self.table);
+        Ok(())
+    }
+
+    /// `f`
+    fn finish(&mut self, writer: &mut impl Write) -> io::Result<()> {
+        let Held::Stream(s) = self.held else {
+            return not_here(writer);
+        };
+        let call = self.rooms.finish(s);
+        self.called(writer, call)
+    }
+
+    /// `d F`
+    fn forget(&mut self, writer: &mut impl Write, words: &mut Words<'_>) -> io::Result<()> {
+        let Held::Stream(s) = self.held else {
+            return not_here(writer);
+        };
+        let call = self.rooms.forget(s, words.number(10));
+        self.called(writer, call)
+    }
+
+    /// `q s`
+    fn print_stream(&self, writer: &mut impl Write) -> io::Result<()> {
+        let Held::Stream(s) = self.held else {
+            return not_here(writer);
+        };
+        let accepted = s.accepted;
+        let next = s.num_frames_stats;
+        let mark = s.mark;
+        let past = s.past_highest;
+        let taken = u8::from(s.delta_weights_provided);
+        let finished = u8::from(s.input_finished);
+        let floor = s.floor;
+        let window = s.window;
+        let longest = s.longest;
+        write!(
+            writer,
+            "{accepted} {next} {mark} {past} {taken} {finished} {floor} {window} {longest}"
+        )?;
+        let rooms = &self.rooms;
+        print_changes(
+            writer,
+            s.waiting,
+            &rooms.waiting_frames,
+            &rooms.waiting_weights,
+        )?;
+        let lengths = estimate_lengths(s.info);
+        print_list(writer, front(&rooms.cmvn_stats, lengths.cmvn_stats))?;
+        print_list(writer, front(&rooms.linear, lengths.linear))?;
+        print_list(writer, front(&rooms.quadratic, lengths.quadratic))?;
+        print(writer, s.num_frames)?;
+        print_list(writer, front(&rooms.current, lengths.current))?;
+        writeln!(writer)
+    }
+
+    /// `q t`: of each frame whether it is known, whether it is silence, and its weight.
+    fn print_table(&self, writer: &mut impl Write) -> io::Result<()> {
+        let Some(table) = self.table else {
+            return not_here(writer);
+        };
+        let n = table.length.0;
+        write!(writer, "{n}")?;
+        let rooms = &self.silence;
+        for ((known, is_silence), weight) in rooms
+            .known
+            .iter()
+            .zip(&rooms.is_silence)
+            .zip(&rooms.current_weight)
+            .take(n)
+        {
+            let known_digit = u8::from(*known);
+            let silence_digit = u8::from(*known && *is_silence);
+            write!(writer, " {known_digit}{silence_digit}")?;
+            print(writer, *weight)?;
+        }
+        writeln!(writer)
+    }
+
+    /// `x n FIELD V`
+    fn forge(&mut self, words: &mut Words<'_>) {
+        words.letter();
+        let field = words.word();
+        let v = words.number(10);
+        if let Held::Stream(s) = &mut self.told {
+            forge_stream(s, field, v);
+            self.forged = true;
+        }
+    }
+
+    /// `y l N`, `y s N`, `y w HEX`
+    fn forge_table(&mut self, words: &mut Words<'_>) {
+        if let Some(table) = &mut self.told_table {
+            match words.letter() {
+                b'l' => table.length = DecoderFrame(words.number(10)),
+                b's' => table.subsampling = words.number(10),
+                _ => table.silence_weight = f32::read(words),
+            }
+            self.table_forged = true;
+        }
+    }
 }

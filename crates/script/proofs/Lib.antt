@@ -1,6 +1,5 @@
 -- Laws that the functions' proofs cite.
 pub mod Scanning
 pub mod Lists
-pub mod Bits
 pub mod Phones
 pub mod Reading

@@ -1,17 +1,17 @@
 -- Digits, numbers and lines, byte by byte.
-use Prim.Native.Nat.{ℕ, zero, suc, ◌+◌, ◌-◌, ◌*◌, ◌/◌, ◌^◌, ◌≤◌, ◌<◌}
+use Prim.Native.Nat.{ℕ, zero, suc, ◌+◌, ◌-◌, ◌*◌, ◌^◌, ◌≤◌, ◌<◌}
 use mathlib.Core.Path.{◌≡◌, refl, sym, ◌∙◌}
 use mathlib.Core.Bool.{true, false}
 use mathlib.Core.List.{List}
-use native.Mathlib.Nat.{mul-le-mul_right, div-mul-le_self, div-lt_iff_lt-mul}
 use native.Mathlib.Numerals.{unary_clauses}
 use native.Mathlib.Omega.{arith}
+use native.Mathlib.Decide.{dec_le}
 use borrow.Author.Tests.{lt-ltb, le-ltb, le-leb, lt-leb, eq-eqb, ne_eqb}
 use lib.ListN.{length, get_or, drop, drop_of_length-le}
 use Rattle.loops.proofs.Parts.{drop_next}
 use Rattle.script.specs.declared.Scan.{Scan}
 use Rattle.script.specs.declared.Signed.{Signed}
-use Rattle.script.specs.Scan.{digit_of, number_at, step_at, signed_at, line_at, lines_end, whole_lines, moved_by}
+use Rattle.script.specs.Scan.{digit_of, GoesOn, Ends, number_at, step_at, signed_at, line_at, lines_end, whole_lines, moved_by}
 
 module _ (b : ℕ) where
   pub digit_decimal : 48 ≤ b → b ≤ 57 → b - 48 ≡ digit_of b
@@ -34,38 +34,30 @@ module _ (b : ℕ) where
   unfolding digit_of
   digit_above p = rw (le-leb 48 b (omega arith), lt-leb b 57 (omega arith), le-leb 97 b (omega arith), lt-leb b 102 p)
 
--- one digit more fits in 64 bits, or does not
-module _ (v base d : ℕ) (h : d < base) where
-  pub more_fits : d < 2 ^ 64 → v ≤ (2 ^ 64 - 1 - d) / base → v * base + d < 2 ^ 64
-  more_fits l q = omega (arith, mul-le-mul_right base q, div-mul-le_self (2 ^ 64 - 1 - d) base)
-
-  pub more_fails : (2 ^ 64 - 1 - d) / base < v → 2 ^ 64 ≤ v * base + d
-  more_fails q = omega (arith, (div-lt_iff_lt-mul {k = base} (omega arith)).0 q)
-
 -- a number that is read from place i on, v being its digits so far
 module _ (base : ℕ) (text : List ℕ) (v i : ℕ) (r : Scan) (e : number_at base v (drop i text) i ≡ r) where
   pub scan_done : length text ≤ i → record { value = v; next = i } ≡ r
   unfolding number_at
   scan_done l = sym (let g : number_at base v (drop i text) i ≡ record { value = v; next = i } = rw (drop_of_length-le text l) in sym e ∙ g)
 
-  module _ (d : ℕ) (l : i < length text) (ed : d ≡ digit_of (get_or text i 0)) where
-    pub scan_turn : d < base → v * base + d < 2 ^ 64 → number_at base (v * base + d) (drop (i + 1) text) (i + 1) ≡ r
+  module _ (l : i < length text) where
+    pub scan_turn : GoesOn base v (get_or text i 0) → number_at base (v * base + digit_of (get_or text i 0)) (drop (i + 1) text) (i + 1) ≡ r
     unfolding number_at
-    scan_turn p q =
-        let g : number_at base v (drop i text) i ≡ number_at base (v * base + d) (drop (i + 1) text) (i + 1) = rw (drop_next 0 text i l, ← ed, lt-ltb d base p, lt-ltb (v * base + d) (2 ^ 64) q) in
+    scan_turn p =
+        let d = digit_of (get_or text i 0) in
+        let g : number_at base v (drop i text) i ≡ number_at base (v * base + d) (drop (i + 1) text) (i + 1) = rw (drop_next 0 text i l, lt-ltb d base p.0, lt-ltb (v * base + d) (2 ^ 64) p.1) in
         sym g ∙ e
 
-    pub scan_other : base ≤ d → record { value = v; next = i + 1 } ≡ r
+    pub scan_end : Ends base v (get_or text i 0) → record { value = v; next = i + 1 } ≡ r
     unfolding number_at
-    scan_other p =
-        let g : number_at base v (drop i text) i ≡ record { value = v; next = i + 1 } = rw (drop_next 0 text i l, ← ed, le-ltb d base p) in
-        sym g ∙ e
+    scan_end p = sym (go (dec_le base d)) ∙ e
+      where
+        d : ℕ
+        d = digit_of (get_or text i 0)
 
-    pub scan_full : d < base → 2 ^ 64 ≤ v * base + d → record { value = v; next = i + 1 } ≡ r
-    unfolding number_at
-    scan_full p q =
-        let g : number_at base v (drop i text) i ≡ record { value = v; next = i + 1 } = rw (drop_next 0 text i l, ← ed, lt-ltb d base p, le-ltb (v * base + d) (2 ^ 64) q) in
-        sym g ∙ e
+        go : Dec (base ≤ d) → number_at base v (drop i text) i ≡ record { value = v; next = i + 1 }
+        go (yes q) = rw (drop_next 0 text i l, le-ltb d base q)
+        go (no q) = rw (drop_next 0 text i l, lt-ltb d base (omega arith), le-ltb (v * base + d) (2 ^ 64) (p (omega arith)))
 
 module _ (text : List ℕ) (i r : ℕ) (e : line_at (drop i text) i ≡ r) where
   pub line_done : length text ≤ i → i ≡ r
@@ -102,9 +94,9 @@ pub step_in : (text : List ℕ) (at : ℕ) → at < length text → at + 1 ≡ s
 unfolding step_at
 step_in text at h = rw (lt-ltb at (length text) h)
 
-pub step-behind : (text : List ℕ) (at : ℕ) → length text ≤ at → at ≡ step_at text at
+pub step_behind : (text : List ℕ) (at : ℕ) → length text ≤ at → at ≡ step_at text at
 unfolding step_at
-step-behind text at h = rw (le-ltb at (length text) h)
+step_behind text at h = rw (le-ltb at (length text) h)
 
 -- a number with a minus sign, and one without
 module _ (text : List ℕ) (at : ℕ) {b : ℕ} (e : b ≡ get_or text at 0) where

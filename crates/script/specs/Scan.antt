@@ -1,5 +1,5 @@
 -- Numbers, lists and lines of a script: a line is a letter and tokens, parted by one space each, and ends with byte 10.
-use Rattle.std.specs.Prelude.{ℕ, zero, suc, ◌+◌, ◌-◌, ◌*◌, ◌^◌, ◌%◌, true, false, ◌&&◌, List, [], ◌∷◌, eqb, leb, ltb, Float, length, drop, get_or, set, if◌then◌else◌}
+use Rattle.std.specs.Prelude.{ℕ, ◌<◌, ◌≤◌, zero, suc, ◌+◌, ◌-◌, ◌*◌, ◌^◌, ◌%◌, true, false, ◌&&◌, List, [], ◌∷◌, eqb, leb, ltb, Float, length, drop, get_or, set, if◌then◌else◌}
 use Rattle.std.specs.Float.{binary32}
 use Rattle.std.specs.Float.Ieee.{of_bits}
 use Rattle.loops.specs.Loop.{iter}
@@ -9,6 +9,13 @@ use Rattle.script.specs.declared.Signed.{Signed}
 -- the digit that a byte stands for, 16 where it stands for none
 unfoldable pub digit_of : ℕ → ℕ
 digit_of b = if leb 48 b && leb b 57 then b - 48 else if leb 97 b && leb b 102 then b - 87 else 16
+
+-- a number with the digits v so far goes on at a byte that is a digit of the base, where it fits in 64 bits with it, and else ends
+abbrev pub GoesOn : ℕ → ℕ → ℕ → Type 0
+GoesOn base v b = (digit_of b < base) × (v * base + digit_of b < 2 ^ 64)
+
+abbrev pub Ends : ℕ → ℕ → ℕ → Type 0
+Ends base v b = digit_of b < base → 2 ^ 64 ≤ v * base + digit_of b
 
 -- the number at the front of the bytes left at place `at`, v being its digits so far; it ends before what is no digit of the base, or would
 -- not fit in 64 bits. The byte that ends it is passed

@@ -1,13 +1,27 @@
 // Reads a script: its bytes from a reader, then its numbers, lists and lines, and the floats whose bits it writes. Every program that plays scripts reads with it.
 #![tactic(auto)]
 
-ghost use Rattle.std.specs.Prelude.{◌≡◌, ◌<◌, ◌≤◌, ◌%◌, length, take, drop, get_or, set, IfOk};
+ghost use Rattle.std.specs.Prelude.{◌≡◌, ◌<◌, ◌≤◌, ◌%◌, length, take, drop, get_or, IfOk, ◌+◌, ◌*◌};
+ghost use Rattle.std.specs.Option.{MatchOption};
 ghost use Rattle.std.specs.Io.KnownBytes.{Consumes, IsAtEnd};
 ghost use Rattle.std.specs.Float.{binary32, binary64};
 ghost use Rattle.std.specs.Float.Ieee.{of_bits, to_bits};
-ghost use Rattle.script.specs.Scan.{digit_of, number_at, step_at, signed_at, line_at, lines_end, whole_lines, moved_by, place_after, numbers_read, floats_read};
+ghost use Rattle.script.specs.Scan.{digit_of, GoesOn, Ends, number_at, step_at, signed_at, line_at, lines_end, whole_lines, moved_by, place_after, numbers_read, floats_read};
 
+mod lines;
+mod pattern;
+mod session;
+mod words;
+
+pub use lines::{Lines, Script};
+pub use pattern::{Pattern, print, print_list};
+pub use session::{Files, Held, NO_FILES, not_here, print_answer};
 use std::io::{self, Read};
+use std::num::{
+    f32_from_bits_with_nan, f32_to_bits_with_nan, f64_from_bits_with_nan, f64_to_bits_with_nan,
+};
+use words::put;
+pub use words::{Item, Words, front, lend};
 
 // A number, and the place after the byte that ends it.
 #[derive(Clone, Copy)]
@@ -34,6 +48,7 @@ pub fn read_full<R: Read>(reader: &mut R, room: &mut [u8]) -> io::Result<usize>
     ensures end { IfOk result (λ n. n < length room.new → IsAtEnd (R.remaining reader.new)) }
 {
     let mut n = 0;
+    // a `while`: what a read took is the step
     while n < room.len() {
         let read = reader.read(&mut room[n..])?;
         if read == 0 {
@@ -50,39 +65,39 @@ pub fn read_full<R: Read>(reader: &mut R, room: &mut [u8]) -> io::Result<usize>
 pub fn byte_at(text: &[u8], at: usize) -> u8
     ensures { result ≡ get_or text.now at 0 }
 {
-    if at < text.len() {
-        return text[at];
-    }
-    0
+    text.get(at).copied().unwrap_or(0)
 }
 
 // The place after, in the text.
+#[tactic(auto, using(crate::proofs::Scanning::step_in, crate::proofs::Scanning::step_behind))]
 pub fn step(text: &[u8], at: usize) -> usize
     ensures { result ≡ step_at text.now at }
 {
-    if at < text.len() {
-        return at + 1;
-    }
-    at
+    if at < text.len() { at + 1 } else { at }
 }
 
 // ---- numbers
 
-// The digit that a byte stands for, 16 where it stands for none.
-fn digit(b: u8) -> usize
-    ensures { result ≡ digit_of b }
+// The digit that a byte stands for.
+fn digit(b: u8) -> Option<usize>
+    ensures { MatchOption result (digit_of b ≡ 16) (λ d. (d ≡ digit_of b) × (d < 16)) }
 {
     match b {
-        b'0'..=b'9' => wide(b - b'0'),
-        b'a'..=b'f' => wide(b - b'a') + 10,
-        _ => 16,
+        b'0'..=b'9' => Some(usize::from(b - b'0')),
+        b'a'..=b'f' => Some(usize::from(b - b'a') + 10),
+        _ => None,
     }
 }
 
-fn wide(b: u8) -> usize
-    ensures { result ≡ b }
+// A number with one digit more, where the byte is a digit of the base, and the number fits.
+fn with_digit(value: usize, base: usize, b: u8) -> Option<usize>
+    ensures { MatchOption result (Ends base value b) (λ n. GoesOn base value b × (n ≡ value * base + digit_of b)) }
 {
-    b as usize
+    let d = digit(b).unwrap_or(16);
+    if base <= d {
+        return None;
+    }
+    value.checked_mul(base)?.checked_add(d)
 }
 
 // The number at a place, in a base of at most 16.
@@ -90,19 +105,17 @@ pub fn number(text: &[u8], at: usize, base: usize) -> Scan
     ensures { result ≡ number_at base 0 (drop at text.now) at }
 {
     let mut value = 0;
-    let mut i = at;
-    while i < text.len() {
-        let d = digit(text[i]);
-        if base <= d {
-            return Scan { value, next: i + 1 };
+    // by index: the number so far is carried, and the place where a byte ends it is the answer; a fold says it no plainer
+    for i in at..text.len() {
+        match with_digit(value, base, text[i]) {
+            Some(more) => value = more,
+            None => return Scan { value, next: i + 1 },
         }
-        if (18446744073709551615 - d) / base < value {
-            return Scan { value, next: i + 1 };
-        }
-        value = value * base + d;
-        i = i + 1;
     }
-    Scan { value, next: i }
+    Scan {
+        value,
+        next: at.max(text.len()),
+    }
 }
 
 // The decimal number at a place, which may have a minus sign.
@@ -125,55 +138,28 @@ pub fn signed_number(text: &[u8], at: usize) -> Signed
     }
 }
 
-// n, or all that a room has places for.
-pub fn at_most(n: usize, room: usize) -> usize
-    ensures { (result ≤ n) × (result ≤ room) }
-{
-    if n <= room { n } else { room }
-}
-
 // n places more, or less where there is a minus sign; not below 0, and n where the sum is no usize.
+#[tactic(auto, unfolding(crate::specs::Scan::moved_by), using(crate::proofs::Scanning::moved_up, crate::proofs::Scanning::moved_not))]
 pub fn moved(n: usize, by: Signed) -> usize
     ensures { result ≡ moved_by n by }
 {
     if by.minus {
-        if by.size <= n {
-            return n - by.size;
-        }
-        return 0;
+        return n.saturating_sub(by.size);
     }
-    if n <= 18446744073709551615 - by.size {
-        return n + by.size;
-    }
-    n
+    n.checked_add(by.size).unwrap_or(n)
 }
 
 // ---- lists
-
-fn set_number(items: &mut [usize], i: usize, x: usize)
-    ensures { items.new ≡ set items.old i x }
-{
-    if i < items.len() {
-        items[i] = x;
-    }
-}
-
-fn set_float(items: &mut [f32], i: usize, x: f32)
-    ensures { items.new ≡ set items.old i x }
-{
-    if i < items.len() {
-        items[i] = x;
-    }
-}
 
 // n decimal numbers, into a room as far as it has places; the place after them.
 pub fn read_numbers(text: &[u8], at: usize, n: usize, items: &mut [usize]) -> usize
     ensures { (result ≡ place_after 10 text.now at n) × (items.new ≡ numbers_read text.now at n items.old) }
 {
     let mut next = at;
+    // by index: what is past the end of the room is read too, so no chain over the room says it
     for i in 0..n {
         let x = number(text, next, 10);
-        set_number(items, i, x.value);
+        put(items, i, x.value);
         next = x.next;
     }
     next
@@ -184,9 +170,10 @@ pub fn read_floats(text: &[u8], at: usize, n: usize, items: &mut [f32]) -> usize
     ensures { (result ≡ place_after 16 text.now at n) × (items.new ≡ floats_read text.now at n items.old) }
 {
     let mut next = at;
+    // by index: what is past the end of the room is read too, so no chain over the room says it
     for i in 0..n {
         let x = number(text, next, 16);
-        set_float(items, i, float(x.value));
+        put(items, i, float(x.value));
         next = x.next;
     }
     next
@@ -196,16 +183,17 @@ pub fn read_floats(text: &[u8], at: usize, n: usize, items: &mut [f32]) -> usize
 
 // Where the line after a place begins.
 pub fn next_line(text: &[u8], at: usize) -> usize
-    ensures { result ≡ line_at (drop at text.now) at }
+    ensures line { result ≡ line_at (drop at text.now) at }
+    ensures bound { at ≤ length text.now → result ≤ length text.now }
+    ensures further { at < length text.now → at < result }
 {
-    let mut i = at;
-    while i < text.len() {
+    // by index: the place is the answer, also behind the text; a `position` with two defaults says it no plainer
+    for i in at..text.len() {
         if text[i] == 10 {
             return i + 1;
         }
-        i = i + 1;
     }
-    i
+    at.max(text.len())
 }
 
 // How many of the n bytes that were read into a room are lines to play: all where the room has places left, else those up to the end of the
@@ -221,14 +209,14 @@ pub fn whole_lines(text: &[u8], n: usize) -> usize
 
 // Where the last line ends that is there to its end; 0 where none is.
 fn lines_end(text: &[u8]) -> usize
-    ensures { (result ≡ lines_end text.now (length text.now)) × (result ≤ length text.now) }
+    ensures end { result ≡ lines_end text.now (length text.now) }
+    ensures bound { result ≤ length text.now }
 {
-    let mut i = text.len();
-    while 0 < i {
-        if text[i - 1] == 10 {
-            return i;
+    // by index: the place is the answer; a `rposition` with a default says it no plainer
+    for last in (0..text.len()).rev() {
+        if text[last] == 10 {
+            return last + 1;
         }
-        i = i - 1;
     }
     0
 }
@@ -239,43 +227,24 @@ fn lines_end(text: &[u8]) -> usize
 pub fn float(bits: usize) -> f32
     ensures { result ≡ of_bits binary32 (bits % 0x1_0000_0000) }
 {
-    let b = bits % 0x1_0000_0000;
-    if 0x7f80_0000 < b % 0x8000_0000 {
-        return 0.0 / 0.0;
-    }
-    f32::from_bits(b as u32)
+    f32_from_bits_with_nan((bits % 0x1_0000_0000) as u32)
 }
 
 pub fn double(bits: usize) -> f64
     ensures { result ≡ of_bits binary64 bits }
 {
-    if 0x7ff0_0000_0000_0000 < bits % 0x8000_0000_0000_0000 {
-        return 0.0 / 0.0;
-    }
-    f64::from_bits(bits as u64)
+    f64_from_bits_with_nan(bits as u64)
 }
 
 // The pattern of a float; of a NaN always the same.
 pub fn float_bits(x: f32) -> u64
     ensures { result ≡ to_bits binary32 x }
 {
-    if x != x {
-        return 0x7fc0_0000;
-    }
-    wide_bits(f32::to_bits(x))
-}
-
-fn wide_bits(b: u32) -> u64
-    ensures { result ≡ b }
-{
-    b as u64
+    u64::from(f32_to_bits_with_nan(x))
 }
 
 pub fn double_bits(x: f64) -> u64
     ensures { result ≡ to_bits binary64 x }
 {
-    if x != x {
-        return 0x7ff8_0000_0000_0000;
-    }
-    f64::to_bits(x)
+    f64_to_bits_with_nan(x)
 }

@@ -3,22 +3,25 @@ use Rattle.std.specs.Prelude.{if◌then◌else◌}
 use mathlib.Core.Path.{◌≡◌, refl, sym, ap, ◌∙◌}
 use mathlib.Core.Bool.{Bool, true, false, not}
 use mathlib.Core.List.{List, [], ◌∷◌, ◌++◌}
-use Prim.Native.Nat.{ℕ, suc, ◌+◌, ◌-◌, ◌≤◌, ◌<◌}
+use native.Mathlib.Nat.{le_refl}
+use Prim.Native.Nat.{ℕ, zero, suc, ◌+◌, ◌-◌, ◌≤◌, ◌<◌}
 use native.Mathlib.Decide.{dec_lt}
 use native.Mathlib.Omega.{arith}
 use borrow.Author.Tests.{le-leb, lt-leb}
 use lib.Dec.{eqb}
 use lib.ListN.{length, take, drop, get_or, length-take, length-drop}
 use lib.Seq.{take-suc, take_all, take-length, drop-drop}
+use Rattle.std.specs.List.{suffix_len}
+use Rattle.std.proofs.lemmas.List.Sums.{suffix_len-take_yes, suffix_len-take_no}
+use Rattle.loops.proofs.Choose.{by-test}
 use Rattle.definition.specs.Reader.{run, same}
 use Rattle.definition.specs.Text.{space}
-use Rattle.kaldi_io.proofs.Bytes.{same_uneven}
 use Rattle.settings.specs.Settings.{onto, lines, closed, trim_end, trim, value}
 use Rattle.settings.specs.Steps.{lines_from}
 
 -- ---- the first line, and those behind it
 
-abbrev going : ℕ → Bool
+abbrev pub going : ℕ → Bool
 going b = not (eqb b 10)
 
 no_less : (n : ℕ) → n < 0 → ⊥
@@ -96,39 +99,47 @@ trim_full (a ∷ x) b e = ap (closed a) (trim_full x b e) ∙ kept x
     kept [] = refl
     kept (y ∷ x) = refl
 
--- the byte in front of place n is the last
-module _ (s : List ℕ) (n : ℕ) (some : 0 < n) (inside : n ≤ length s) {b : Bool} (is : b ≡ space (get_or s (n - 1) 0)) where
-  split : take n s ≡ take (n - 1) s ++ (get_or s (n - 1) 0 ∷ [])
-  split =
-      let e : n ≡ suc (n - 1) = omega arith in
-      ap (λ (k : ℕ). take k s) e ∙ take-suc s (n - 1) 0 (omega arith)
-
-  pub trim_turn : b ≡ true → trim_end (take (n - 1) s) ≡ trim_end (take n s)
-  trim_turn e = sym (ap trim_end split ∙ trim-blank (take (n - 1) s) (get_or s (n - 1) 0) (sym is ∙ e))
-
-  pub trim_stop : b ≡ false → take n s ≡ trim_end (take n s)
-  trim_stop e = sym (ap trim_end split ∙ trim_full (take (n - 1) s) (get_or s (n - 1) 0) (sym is ∙ e) ∙ sym split)
-
-pub trim-all : (s : List ℕ) → trim_end (take (length s) s) ≡ trim_end s
-trim-all s = ap trim_end (take-length s)
-
-pub trim-none : (s : List ℕ) (n : ℕ) → n ≤ 0 → take n s ≡ trim_end (take n s)
+trim-nothing : trim_end [] ≡ []
 unfolding trim_end
-trim-none s n h = let e : n ≡ 0 = omega arith in rw e
+trim-nothing = refl
+
+-- the first n bytes: the blanks at their end are std's `suffix_len`
+trim_front : (s : List ℕ) (n : ℕ) → n ≤ length s → trim_end (take n s) ≡ take (n - suffix_len space (take n s)) s
+trim_front s zero h = trim-nothing
+trim_front s (suc n) h = by-test (space (get_or s n 0)) (blank (trim_front s n (omega arith))) full
+  where
+    l : n < length s
+    l = omega arith
+
+    split : take (suc n) s ≡ take n s ++ (get_or s n 0 ∷ [])
+    split = take-suc s n 0 l
+
+    k : suc n - 1 ≡ n
+    k = omega arith
+
+    blank : trim_end (take n s) ≡ take (n - suffix_len space (take n s)) s → space (get_or s n 0) ≡ true → trim_end (take (suc n) s) ≡ take (suc n - suffix_len space (take (suc n) s)) s
+    blank r e =
+        let p : suffix_len space (take (suc n) s) ≡ 1 + suffix_len space (take (suc n - 1) s) = suffix_len-take_yes space s (suc n) 0 (omega arith) h (rw k e) in
+        let q : suffix_len space (take (suc n) s) ≡ 1 + suffix_len space (take n s) = rw k at p in
+        let z : n - suffix_len space (take n s) ≡ suc n - suffix_len space (take (suc n) s) = omega (arith, q) in
+        ap trim_end split ∙ trim-blank (take n s) (get_or s n 0) e ∙ r ∙ ap (λ (m : ℕ). take m s) z
+
+    full : space (get_or s n 0) ≡ false → trim_end (take (suc n) s) ≡ take (suc n - suffix_len space (take (suc n) s)) s
+    full e =
+        let q = suffix_len-take_no {X = ℕ} space s (suc n) 0 (omega arith) h (rw k e) in
+        let z : suc n ≡ suc n - suffix_len space (take (suc n) s) = omega (arith, q) in
+        ap trim_end split ∙ trim_full (take n s) (get_or s n 0) e ∙ sym split ∙ ap (λ (m : ℕ). take m s) z
+
+pub end_trimmed : (s : List ℕ) → take (length s - suffix_len space s) s ≡ trim_end s
+end_trimmed s = sym (ap trim_end (sym (take-length s)) ∙ trim_front s (length s) (le_refl (length s)) ∙ ap (λ (l : List ℕ). take (length s - suffix_len space l) s) (take-length s))
 
 -- the rest of a list, as a part up to its end
 pub rest_is : (s : List ℕ) (from : ℕ) → take (length s - from) (drop from s) ≡ drop from s
 rest_is s from = take_all (length s - from) (drop from s) (omega (arith, length-drop from s))
 
-pub rest_le : (n a : ℕ) (s : List ℕ) → length (take n (drop a s)) ≤ length s
-rest_le n a s = omega (arith, length-take n (drop a s), length-drop a s)
-
-pub part-le : (n k a : ℕ) (s : List ℕ) → length (take n (take k (drop a s))) ≤ length s
-part-le n k a s = omega (arith, length-take n (take k (drop a s)), length-take k (drop a s), length-drop a s)
-
-pub trim_is : (s : List ℕ) {from : ℕ} → from ≡ 0 + run space (drop 0 s) → trim_end (take (length s - from) (drop from s)) ≡ trim s
+pub trim_is : (s : List ℕ) {from : ℕ} → from ≡ run space s → trim_end (take (length s - from) (drop from s)) ≡ trim s
 unfolding trim
-trim_is s {from} e = let z : from ≡ run space s = omega (arith, e) in ap trim_end (rest_is s from) ∙ ap (λ (n : ℕ). trim_end (drop n s)) z
+trim_is s {from} e = ap trim_end (rest_is s from) ∙ ap (λ (n : ℕ). trim_end (drop n s)) e
 
 -- ---- the first line with a key
 
@@ -145,21 +156,18 @@ pub value_none : (key : List ℕ) → value key [] ≡ []
 unfolding value
 value_none key = refl
 
--- a line shorter than the key does not begin with it
-pub short-line : (line key : List ℕ) → length line < length key → false ≡ same (take (length key) line) key
-short-line line key h =
-    same_uneven line key 0 (length line) (omega arith) (omega arith) ∙ ap (λ (l : List ℕ). same l key) (take-length line ∙ sym (take_all (length key) line (omega arith)))
-
 -- the line at a place: it has the key, or the first one with it is behind it
-module _ (s key : List ℕ) (at end : ℕ) (inside : at ≤ length s) (ends : end ≡ at + run going (drop at s))
-    {line : List ℕ} (is : line ≡ trim (take (end - at) (drop at s))) {b : Bool} (begins : b ≡ same (take (length key) line) key) where
-  begins_here : same (take (length key) (trim (take (end - at) (drop at s)))) key ≡ b
-  begins_here = sym (ap (λ (l : List ℕ). same (take (length key) l) key) is) ∙ sym begins
+module _ (s key : List ℕ) (at : ℕ) {n : ℕ} (inside : at ≤ length s) (ends : n ≡ run going (drop at s))
+    {line : List ℕ} (is : line ≡ trim (take (at + n - at) (drop at s))) where
+  next_here : lines_from s at ≡ take (at + n - at) (drop at s) ∷ lines_from s (at + n + 1)
+  next_here = next_line s at (at + n) inside (omega (arith, ends))
 
-  pub found_here : b ≡ true → {v : List ℕ} → v ≡ trim (take (length line - length key) (drop (length key) line)) → v ≡ value key (lines_from s at)
+  begins_here : {b : Bool} → same (take (length key) line) key ≡ b → same (take (length key) (trim (take (at + n - at) (drop at s)))) key ≡ b
+  begins_here e = ap (λ (l : List ℕ). same (take (length key) l) key) (sym is) ∙ e
+
+  pub found_here : same (take (length key) line) key ≡ true → {v : List ℕ} → v ≡ trim (drop (length key) line) → v ≡ value key (lines_from s at)
   found_here e h =
-      h ∙ ap trim (rest_is line (length key)) ∙ ap (λ (l : List ℕ). trim (drop (length key) l)) is ∙ sym (value_found key (take (end - at) (drop at s)) (lines_from s (end + 1)) (begins_here ∙ e))
-      ∙ sym (ap (value key) (next_line s at end inside ends))
+      h ∙ ap (λ (l : List ℕ). trim (drop (length key) l)) is ∙ sym (value_found key (take (at + n - at) (drop at s)) (lines_from s (at + n + 1)) (begins_here e)) ∙ sym (ap (value key) next_here)
 
-  pub not_here : b ≡ false → value key (lines_from s at) ≡ value key (lines_from s (end + 1))
-  not_here e = ap (value key) (next_line s at end inside ends) ∙ value_next key (take (end - at) (drop at s)) (lines_from s (end + 1)) (begins_here ∙ e)
+  pub not_here : same (take (length key) line) key ≡ false → value key (lines_from s at) ≡ value key (lines_from s (at + n + 1))
+  not_here e = ap (value key) next_here ∙ value_next key (take (at + n - at) (drop at s)) (lines_from s (at + n + 1)) (begins_here e)

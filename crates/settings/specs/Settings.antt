@@ -10,8 +10,6 @@ use Rattle.definition.specs.declared.TableLengths.{TableLengths}
 use Rattle.definition.specs.Reader.{Got, read, refused, Parser, after, ◌>>=◌, ◌>>◌, give, need, run, here, same, text}
 use Rattle.definition.specs.Text.{digits, digits_value, number, space}
 use Rattle.definition.specs.Model.{Model, Files, load}
-use Rattle.settings.specs.declared.Settings.{Settings}
-use Rattle.settings.specs.declared.Settings.TheVariants as S
 
 -- ---- lines `--key=value`
 
@@ -98,10 +96,6 @@ plain s = leb (length s) 65536 && all_of (λ b. leb b 127) s
 -- 25 comes before 1, which is for the load: an option that is read is given, in its range or not
 unfoldable pub settings_of : List ℕ → List ℕ → Got IvectorOptions
 settings_of splice cmvn = if plain splice && plain cmvn then read (options_of splice cmvn) 0 else refused 25
-
-abbrev pub settings_read : Got IvectorOptions → Settings
-settings_read (refused n) = S.Refused n
-settings_read (read o i) = S.Options o
 
 -- the options from the texts, then the load
 abbrev pub load_with : List ℕ → List ℕ → Files → TableLengths → ℕ → Got Model

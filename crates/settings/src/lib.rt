@@ -2,177 +2,120 @@
 // `IvectorInfo::open` in the Rust.
 #![tactic(auto)]
 
-ghost use Rattle.std.specs.Prelude.{◌≡◌, true, not, List, ℕ, ◌+◌, ◌≤◌, length, take, drop, eqb};
+ghost use Rattle.std.specs.Prelude.{◌≡◌, true, false, MatchOption, not, List, ℕ, ◌+◌, ◌≤◌, length, take, drop, eqb, leb};
+ghost use Rattle.loops.specs.Lists.{all_of};
 ghost use Rattle.std.specs.Float.{binary32};
-ghost use Rattle.definition.specs.Reader.{read, run, same};
-ghost use Rattle.definition.specs.Text.{digits_value, number};
-ghost use Rattle.settings.specs.Settings.{lines, trim_end, trim as trimmed, value as value_of, plus, whole, read_or, options_of, plain, settings_of, settings_read};
-ghost use Rattle.settings.specs.Steps.{below64, float_or};
+ghost use Rattle.definition.specs.Reader.{run, same};
+ghost use Rattle.definition.specs.Text.{digits_value, number, to_nearest};
+ghost use Rattle.kaldi_text.specs.Got.{given};
+ghost use Rattle.settings.specs.Settings.{lines, trim_end, trim as trimmed, value as value_of, whole, read_or, options_of, plain, settings_of};
+ghost use Rattle.settings.specs.Steps.{below64};
 
-use definition::IvectorOptions;
-use kaldi_io::same_at;
-use kaldi_text::{Decimal, digit_value, is_space, read_decimal, skip_digits, skip_spaces};
+use definition::{IvectorOptions, Refusal, need};
+use kaldi_text::{Decimal, TextReader, digit_value, is_space, spaces_len};
 
 // ---- lines
 
-fn goes_on(b: u8) -> bool
-    ensures { result ≡ not (eqb b 10) }
+// How long the first line is: up to a byte 10, or to the end.
+fn line_len(s: &[u8]) -> usize
+    ensures value { result ≡ run (λ b. not (eqb b 10)) s.now }
+    ensures in_bounds { result ≤ length s.now }
 {
-    b != 10
-}
-
-// Where the line from `at` on ends: at a byte 10, or at the end.
-fn line_end(s: &[u8], at: usize) -> usize
-    ensures { result ≡ at + run (λ b. not (eqb b 10)) (drop at s.now) }
-{
-    let mut i = at;
-    while i < s.len() {
-        if goes_on(s[i]) {
-            i += 1;
-        } else {
-            return i;
-        }
-    }
-    i
+    s.iter().take_while(|b| **b != b'\n').count()
 }
 
 // How many bytes are left without the blanks at the end.
 fn trim_end(s: &[u8]) -> usize
-    ensures { (result ≤ length s.now) × (take result s.now ≡ trim_end s.now) }
+    ensures in_bounds { result ≤ length s.now }
+    ensures value { take result s.now ≡ trim_end s.now }
 {
-    let mut n = s.len();
-    while n > 0 {
-        if is_space(s[n - 1]) {
-            n -= 1;
-        } else {
-            return n;
-        }
-    }
-    n
+    s.len() - s.iter().rev().take_while(|b| is_space(**b)).count()
 }
 
 fn trim(s: &[u8]) -> &[u8]
-    ensures result_value { result.now ≡ trimmed s.now }
-    ensures result_in_bounds { length result.now ≤ length s.now }
+    ensures value { result.now ≡ trimmed s.now }
+    ensures in_bounds { length result.now ≤ length s.now }
 {
-    let from = skip_spaces(s, 0);
-    let t = &s[from..];
-    let to = trim_end(t);
-    &t[..to]
+    let t = &s[spaces_len(s)..];
+    &t[..trim_end(t)]
 }
 
-// Whether a line begins with a key.
-fn begins(line: &[u8], key: &[u8]) -> bool
-    ensures value { result ≡ same (take (length key.now) line.now) key.now }
-    ensures key_in_bounds { result ≡ true → length key.now ≤ length line.now }
+// What stands behind a key, if a line begins with it.
+fn behind<'a>(line: &'a [u8], key: &[u8]) -> Option<&'a [u8]>
+    ensures { MatchOption result (same (take (length key.now) line.now) key.now ≡ false)
+        (λ v. (same (take (length key.now) line.now) key.now ≡ true) × (v.now ≡ drop (length key.now) line.now) × (length v.now ≤ length line.now)) }
 {
-    if line.len() < key.len() {
-        return false;
-    }
-    same_at(line, 0, key.len(), key)
+    line.strip_prefix(key)
 }
 
 // The value on the first line with the key.
 fn value<'a>(s: &'a [u8], key: &[u8]) -> &'a [u8]
-    ensures result_value { result.now ≡ value_of key.now (lines s.now) }
-    ensures result_in_bounds { length result.now ≤ length s.now }
+    ensures value { result.now ≡ value_of key.now (lines s.now) }
+    ensures in_bounds { length result.now ≤ length s.now }
 {
     let mut at = 0;
     while at <= s.len() {
-        let end = line_end(s, at);
+        let end = at + line_len(&s[at..]);
         let line = trim(&s[at..end]);
-        if begins(line, key) {
-            let from = key.len();
-            return trim(&line[from..]);
+        if let Some(v) = behind(line, key) {
+            return trim(v);
         }
         at = end + 1;
     }
-    &s[..0]
+    &[]
 }
 
 // ---- values
 
-// The number that the digits from a place on stand for, or the default where it is 2^64 or more.
-fn digits_or(v: &[u8], from: usize, default: usize) -> usize
-    ensures { result ≡ below64 default (digits_value 0 (drop from v.now)) }
+// The number that digits stand for, where it is below 2^64.
+fn below_64_bits(digits: &[u8]) -> Option<usize>
+    ensures { result ≡ below64 (digits_value 0 digits.now) }
 {
     let mut x: usize = 0;
-    let mut i = from;
-    while i < v.len() {
-        let d = digit_value(v[i]) as usize;
-        if x > 1844674407370955161 {
-            return default;
-        }
-        let y = x * 10;
-        if d > 18446744073709551615 - y {
-            return default;
-        }
-        x = y + d;
-        i += 1;
+    for &b in digits {
+        x = x.checked_mul(10)?.checked_add(digit_value(b) as usize)?;
     }
-    x
+    Some(x)
 }
 
-// Behind a plus, if any.
-fn after_plus(v: &[u8]) -> usize
-    ensures upper_bound { result ≤ length v.now }
-    ensures result_value { read tt result ≡ plus v.now 0 }
+// A plus, if any, and digits.
+#[tactic(auto, unfolding(crate::specs::Settings::whole, crate::specs::Settings::plus, loops::specs::Refusal::first_of))]
+fn whole(r: &mut TextReader<'_>) -> Result<usize, Refusal>
+    ensures value { given result r.new.at ≡ whole r.old.src.now r.old.at }
+    ensures same_bytes { r.new.src.now ≡ r.old.src.now }
 {
-    if v.len() == 0 {
-        return 0;
-    }
-    if v[0] == b'+' { 1 } else { 0 }
+    r.skip_byte(b'+');
+    let digits = r.digits();
+    need(!digits.is_empty(), Refusal::CmvnForm)?;
+    below_64_bits(digits).ok_or(Refusal::CmvnForm)
 }
 
-fn whole_or(v: &[u8], default: usize) -> usize
-    ensures { result ≡ read_or default (length v.now) (whole v.now 0) }
+// The nearest f32, where the limits are kept.
+#[tactic(auto, unfolding(definition::specs::Text::to_nearest, loops::specs::Refusal::first_of))]
+fn nearest(d: Decimal) -> Result<f32, Refusal>
+    ensures { (s : List ℕ) (at : ℕ) → given result at ≡ to_nearest binary32 d.minus d.m d.up d.down s at }
 {
-    let from = after_plus(v);
-    let to = skip_digits(v, from);
-    if to == from {
-        return default;
-    }
-    if to < v.len() {
-        return default;
-    }
-    digits_or(v, from, default)
+    need(d.m < 16_777_216, Refusal::CmvnForm)?;
+    need(d.up <= d.down + 10, Refusal::CmvnForm)?;
+    need(d.down <= d.up + 10, Refusal::CmvnForm)?;
+    Ok(floats::decimal(d.minus, d.m, d.up, d.down))
 }
 
-// The f32 ±m * 10^(up - down), or the default where it is outside the limits.
-fn finish(minus: bool, m: u64, up: u64, down: u64, default: f32) -> f32
-    requires { (up ≤ 200000) × (down ≤ 200000) }
-    ensures { result ≡ float_or default minus m up down }
+fn float(r: &mut TextReader<'_>) -> Result<f32, Refusal>
+    requires { length r.old.src.now ≤ 65536 }
+    ensures value { given result r.new.at ≡ number binary32 r.old.src.now r.old.at }
+    ensures same_bytes { r.new.src.now ≡ r.old.src.now }
 {
-    if m >= 16777216 {
-        return default;
-    }
-    if up > down + 10 {
-        return default;
-    }
-    if down > up + 10 {
-        return default;
-    }
-    floats::decimal_f32(minus, m, up, down)
+    nearest(r.decimal()?)
 }
 
-fn float_or(v: &[u8], default: f32) -> f32
-    requires { length v.now ≤ 65536 }
-    ensures { result ≡ read_or default (length v.now) (number binary32 v.now 0) }
+// What was read up to a place, if that is the end of the value.
+fn all_or<T: Copy>(read: Result<T, Refusal>, at: usize, end: usize, default: T) -> T
+    ensures { result ≡ read_or default end (given read at) }
 {
-    match read_decimal(v, 0) {
-        Decimal::Refused(_) => default,
-        Decimal::Is {
-            minus,
-            m,
-            up,
-            down,
-            next,
-        } => {
-            if next != v.len() {
-                return default;
-            }
-            finish(minus, m, up, down, default)
-        }
+    match read {
+        Ok(x) if at == end => x,
+        _ => default,
     }
 }
 
@@ -183,7 +126,10 @@ fn int_setting(s: &[u8], key: &[u8], default: usize) -> usize
         let v : List ℕ = value_of key.now (lines s.now) in
         result ≡ read_or default (length v) (whole v 0)) }
 {
-    whole_or(value(s, key), default)
+    let v = value(s, key);
+    let mut r = TextReader::new(v);
+    let n = whole(&mut r);
+    all_or(n, r.at, v.len(), default)
 }
 
 fn float_setting(s: &[u8], key: &[u8], default: f32) -> f32
@@ -192,7 +138,10 @@ fn float_setting(s: &[u8], key: &[u8], default: f32) -> f32
         let v : List ℕ = value_of key.now (lines s.now) in
         result ≡ read_or default (length v) (number binary32 v 0)) }
 {
-    float_or(value(s, key), default)
+    let v = value(s, key);
+    let mut r = TextReader::new(v);
+    let x = float(&mut r);
+    all_or(x, r.at, v.len(), default)
 }
 
 // The options of two texts: the defaults where they say nothing, or nothing that can be read.
@@ -219,39 +168,28 @@ fn options_of(splice: &[u8], cmvn: &[u8]) -> IvectorOptions
     }
 }
 
+#[tactic(auto, unfolding(loops::specs::Lists::all_of))]
+fn is_ascii(s: &[u8]) -> bool
+    ensures { result ≡ all_of (λ b. leb b 127) s.now }
+{
+    s.iter().all(|&b| b <= 127)
+}
+
+// ASCII, and at most 65,536 bytes.
+#[tactic(auto, unfolding(crate::specs::Settings::plain))]
 fn is_plain(s: &[u8]) -> bool
     ensures value { result ≡ plain s.now }
-    ensures s_len_bound { result ≡ true → length s.now ≤ 65536 }
+    ensures short { result ≡ true → length s.now ≤ 65536 }
 {
-    if s.len() > 65536 {
-        return false;
-    }
-    let mut i = 0;
-    while i < s.len() {
-        if s[i] > 127 {
-            return false;
-        }
-        i += 1;
-    }
-    true
+    s.len() <= 65536 && is_ascii(s)
 }
 
-// What two settings texts give: the options, whether they are in their ranges or not, or the refusal 25.
-#[derive(Clone, Copy)]
-pub enum Settings {
-    Options(IvectorOptions),
-    Refused(usize),
-}
-
-// splice.conf and online_cmvn.conf; a missing file is an empty text.
-pub fn read_settings(splice: &[u8], online_cmvn: &[u8]) -> Settings
-    ensures { result ≡ settings_read (settings_of splice.now online_cmvn.now) }
+/// The options of splice.conf and online_cmvn.conf, whether they are in their ranges or not; a missing file is an empty text.
+#[tactic(auto, unfolding(crate::specs::Settings::settings_of, loops::specs::Refusal::first_of))]
+pub fn read_settings(splice: &[u8], online_cmvn: &[u8]) -> Result<IvectorOptions, Refusal>
+    ensures { given result 0 ≡ settings_of splice.now online_cmvn.now }
 {
-    if !is_plain(splice) {
-        return Settings::Refused(25);
-    }
-    if !is_plain(online_cmvn) {
-        return Settings::Refused(25);
-    }
-    Settings::Options(options_of(splice, online_cmvn))
+    need(is_plain(splice), Refusal::SettingsText)?;
+    need(is_plain(online_cmvn), Refusal::SettingsText)?;
+    Ok(options_of(splice, online_cmvn))
 }

@@ -1,16 +1,15 @@
--- A search of the silence phones, where code compares the bits of signed numbers.
-use Prim.Native.Nat.{ℕ, ◌+◌, ◌≤◌, ◌<◌}
+-- Whether a phone is one of the silence phones, as std's `contains` answers it and as the definition does.
 use mathlib.Core.Path.{◌≡◌, refl, sym, ap, ◌∙◌}
-use mathlib.Core.Bool.{true, false}
-use mathlib.Core.List.{List}
+use mathlib.Core.Bool.{Bool, true, false, ◌||◌}
+use mathlib.Core.List.{List, [], ◌∷◌}
 use borrow.Author.Tests.{eq-eqb, ne_eqb}
 use lib.IntN.{ℤ, pos, negsuc}
-use lib.ListN.{length, get_or, drop}
-use mir.Syntax.{w32}
-use mir.Val.{to_z, of_z, SFits}
-use mir.ValLaws.{to_z-of_z}
+use Rattle.std.specs.List.{list_any}
+use Rattle.std.specs.Ordering.{int_eq}
+use Rattle.std.proofs.lemmas.Bool.{false≢true}
+use Rattle.std.proofs.lemmas.Bool.Decides.{Decides-int_eq}
 use Rattle.loops.specs.Lists.{any_of}
-use Rattle.loops.proofs.Tests.{any_turn, any_found, any_end}
+use Rattle.loops.proofs.Choose.{by-test}
 use Rattle.definition.specs.Silence.{same_phone}
 
 same_true : (p q : ℤ) → p ≡ q → same_phone p q ≡ true
@@ -25,20 +24,12 @@ same_false (pos m) (negsuc n) h = refl
 same_false (negsuc m) (pos n) h = refl
 same_false (negsuc m) (negsuc n) h = ne_eqb m n (λ e. h (ap negsuc e))
 
-module _ (phones : List ℤ) (p : ℤ) (fp : SFits w32 p) where
-  bits : to_z w32 (of_z w32 p) ≡ p
-  bits = to_z-of_z w32 p fp
+phone_is : (p q : ℤ) → int_eq q p ≡ same_phone p q
+phone_is p q =
+    by-test (int_eq q p) (λ e. e ∙ sym (same_true p q (sym ((Decides-int_eq q p).0 e))))
+    (λ e. e ∙ sym (same_false p q (λ h. absurd (false≢true (sym e ∙ (Decides-int_eq q p).1 (sym h))))))
 
-  -- what is left from i decides
-  abbrev pub Rest : ℕ → Type 0
-  Rest i = any_of (same_phone (to_z w32 (of_z w32 p))) (drop i phones) ≡ any_of (same_phone (to_z w32 (of_z w32 p))) phones
-
-  module _ (d : ℤ) (i : ℕ) (r : Rest i) where
-    pub phone_found : i < length phones → SFits w32 (get_or phones i d) → of_z w32 (get_or phones i d) ≡ of_z w32 p → true ≡ any_of (same_phone p) phones
-    phone_found h f q = any_found (same_phone p) d phones i h (same_true p _ (sym (sym (to_z-of_z w32 (get_or phones i d) f) ∙ ap (to_z w32) q ∙ bits))) (rw bits at r)
-
-    pub phone_turn : i < length phones → (of_z w32 (get_or phones i d) ≡ of_z w32 p → ⊥) → Rest (i + 1)
-    phone_turn h q = rw bits (any_turn (same_phone p) d phones i h (same_false p _ (λ z. q (ap (of_z w32) (sym z)))) (rw bits at r))
-
-    pub phone_end : length phones ≤ i → false ≡ any_of (same_phone p) phones
-    phone_end h = any_end (same_phone p) phones i h (rw bits at r)
+pub contains_is : (p : ℤ) (phones : List ℤ) → list_any (λ q. int_eq q p) phones ≡ any_of (same_phone p) phones
+unfolding any_of
+contains_is p [] = refl
+contains_is p (q ∷ qs) = ap (λ (b : Bool). b || list_any (λ q. int_eq q p) qs) (phone_is p q) ∙ ap (λ (b : Bool). same_phone p q || b) (contains_is p qs)

@@ -1,7 +1,8 @@
 -- What a call may rest on once no refusal is met.
-use Prim.Native.Nat.{ℕ, ◌≤◌, ◌<◌, min}
-use mathlib.Core.Path.{◌≡◌}
-use mathlib.Core.Bool.{false, not}
+use Prim.Native.Nat.{ℕ, suc, ◌≤◌, ◌<◌, min}
+use mathlib.Core.Path.{◌≡◌, sym, ◌∙◌}
+use native.Mathlib.Omega.{arith}
+use mathlib.Core.Bool.{Bool, false, not}
 use mathlib.Core.List.{[], ◌∷◌}
 use borrow.Author.Tests.{eqb-true, ltb-false, leb-true, not-false}
 use lib.Dec.{eqb, leb, ltb}
@@ -14,6 +15,9 @@ use Rattle.loops.proofs.Refusal.{none_first}
 use Rattle.definition.specs.declared.InputFrame.{InputFrame}
 use Rattle.definition.specs.declared.DecoderFrame.{DecoderFrame}
 use Rattle.definition.specs.declared.SilenceWeighting.{SilenceWeighting}
+use Rattle.definition.specs.declared.refusal.Refusal.{Refusal}
+use Rattle.definition.specs.declared.refusal.Refusal.TheVariants as R
+use Rattle.definition.specs.Number.{number_of}
 use Rattle.definition.specs.Options.{within}
 use Rattle.definition.specs.Silence.{Table, settings_refusal, places, table_broken, traceback_tests, wanted, asked, TableRooms, table_in, delta_tests, get_delta_weights}
 
@@ -84,3 +88,47 @@ delta_taken s z ready first f w q =
       wanted_is = ltb-false _ _ a.1;
       room_is = ltb-false _ _ h.1.1.0;
     }
+
+-- what a `need` that was met tells: of the record, and of two numbers
+pub not_broken : (broken whole : Bool) → broken ≡ not whole → 0 ≡ first_of ((not whole, 10) ∷ []) → broken ≡ false
+not_broken broken whole e h = e ∙ (none_first ((not whole, 10) ∷ []) tt (sym h)).0
+
+pub at_most : (a b k : ℕ) → 0 ≡ first_of ((not (leb a b), suc k) ∷ []) → a ≤ b
+at_most a b k e = leb-true a b (not-false _ (none_first ((not (leb a b), suc k) ∷ []) tt (sym e)).0)
+
+-- no refusal has the number 0
+pub numbered : (e : Refusal) → number_of e ≡ 0 → ⊥
+numbered R.OptionRange h = absurd (omega arith)
+numbered R.CutShort h = absurd (omega arith)
+numbered R.BadMark h = absurd (omega arith)
+numbered R.DimensionRange h = absurd (omega arith)
+numbered R.Disagree h = absurd (omega arith)
+numbered R.BadNumber h = absurd (omega arith)
+numbered R.CmvnForm h = absurd (omega arith)
+numbered R.ShortRoom h = absurd (omega arith)
+numbered R.SilenceSettings h = absurd (omega arith)
+numbered R.ForeignRecord h = absurd (omega arith)
+numbered R.FrameLength h = absurd (omega arith)
+numbered R.FrameNumber h = absurd (omega arith)
+numbered R.LastFrame h = absurd (omega arith)
+numbered R.FramesFull h = absurd (omega arith)
+numbered R.RowsFull h = absurd (omega arith)
+numbered R.ChangeList h = absurd (omega arith)
+numbered R.ChangeNumber h = absurd (omega arith)
+numbered R.FrameGone h = absurd (omega arith)
+numbered R.WaitingFull h = absurd (omega arith)
+numbered R.OutputLength h = absurd (omega arith)
+numbered R.NotReady h = absurd (omega arith)
+numbered R.AboveHighest h = absurd (omega arith)
+numbered R.DecoderFrames h = absurd (omega arith)
+numbered R.SilenceLists h = absurd (omega arith)
+numbered R.SettingsText h = absurd (omega arith)
+numbered R.ShortOutput h = absurd (omega arith)
+numbered R.VoiceCount h = absurd (omega arith)
+numbered R.VectorLength h = absurd (omega arith)
+numbered R.VectorNumber h = absurd (omega arith)
+numbered R.Forgotten h = absurd (omega arith)
+numbered R.WindowRange h = absurd (omega arith)
+numbered R.OldWindow h = absurd (omega arith)
+numbered R.TrySizes h = absurd (omega arith)
+numbered R.ListTooShort h = absurd (omega arith)

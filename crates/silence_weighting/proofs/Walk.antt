@@ -1,5 +1,5 @@
 -- The walk of `get_delta_weights` over a table in rooms, and the changes that it gives.
-use Rattle.std.specs.Prelude.{if◌then◌else◌}
+use Rattle.std.specs.Prelude.{if◌then◌else◌, Option, Some, None, is_some}
 use Prim.Native.Nat.{ℕ, suc, ◌+◌, ◌-◌, ◌*◌, ◌≤◌, ◌<◌}
 use mathlib.Core.Path.{◌≡◌, refl, sym, ap, ◌∙◌, subst}
 use mathlib.Core.Bool.{Bool, true, false, not, ◌||◌}
@@ -23,27 +23,10 @@ use Rattle.definition.specs.declared.InputFrame.{InputFrame}
 use Rattle.definition.specs.declared.DecoderFrame.{DecoderFrame}
 use Rattle.definition.specs.Changes.{Change}
 use Rattle.definition.specs.Silence.{decoder, FrameInfo, Table, info_at, begin, before, carried, walked, weighted, input_frame, delta_weights}
-use Rattle.silence_weighting.specs.Steps.{table_of, place_at, flag_at, weight_at, difference, number, given, changes_to}
+use Rattle.silence_weighting.specs.Steps.{table_of, place_at, flag_at, status_at, status_of, weight_at, difference, number, given, changes_to}
 use Rattle.silence_weighting.proofs.Tables.{place_in, length_table, info_is}
 
--- ---- a frame's weight
-
-module _ (w : Float) (blind : Bool) (f : FrameInfo) (p : Float) where
-  pub carried_blind : blind ≡ true → p ≡ carried w blind f p
-  unfolding carried
-  carried_blind e = rw e
-
-  pub carried_silence : blind ≡ false → f.known ≡ true → f.is_silence ≡ true → w ≡ carried w blind f p
-  unfolding carried
-  carried_silence e k s = rw (e, k, s)
-
-  pub carried_speech : blind ≡ false → f.known ≡ true → f.is_silence ≡ false → one₃₂ ≡ carried w blind f p
-  unfolding carried
-  carried_speech e k s = rw (e, k, s)
-
-  pub carried_unknown : blind ≡ false → f.known ≡ false → p ≡ carried w blind f p
-  unfolding carried
-  carried_unknown e k = rw (e, k)
+-- ---- a frame's status and weight
 
 module _ (n : ℕ) (ks ss : List Bool) (ws : List Float) (k : ℕ) where
   pub known_at : flag_at n ks k ≡ (info_at (table_of n ks ss ws) k).known
@@ -54,6 +37,29 @@ module _ (n : ℕ) (ks ss : List Bool) (ws : List Float) (k : ℕ) where
 
   pub weight_at_is : weight_at n ws k ≡ (info_at (table_of n ks ss ws) k).current_weight
   weight_at_is = sym (ap (λ (f : FrameInfo). f.current_weight) (info_is n ks ss ws k))
+
+  -- whether it is silence, where that is known
+  status_is : status_at n ks ss k ≡ status_of (info_at (table_of n ks ss ws) k)
+  status_is =
+      ap (λ (b : Bool). if b then Some (flag_at n ss k) else None) known_at
+      ∙ ap (λ (b : Bool). if (info_at (table_of n ks ss ws) k).known then Some b else None) silence-at
+
+  -- the weight carried to it is that of its status, which is read from rooms that hold the same
+  pub carried_on : (w : Float) (blind : Bool) (p : Float) {ks' ss' : List Bool} {o : Option Bool} {q : Float} → ((f : FrameInfo) → o ≡ status_of f → q ≡ carried w blind f p)
+      → ks' ≡ ks → ss' ≡ ss → o ≡ status_at n ks' ss' k → q ≡ carried w blind (info_at (table_of n ks ss ws) k) p
+  carried_on w blind p h ek es e = h (info_at (table_of n ks ss ws) k) (rw (ek, es) at e ∙ status_is)
+
+some-if : (b s : Bool) → is_some (if b then Some s else None) ≡ b
+some-if true s = refl
+some-if false s = refl
+
+turned : (b c : Bool) → b ≡ not c → c ≡ not b
+turned b true e = rw e refl
+turned b false e = rw e refl
+
+-- whether the walk is blind
+pub blind_is : (n : ℕ) (ks ss : List Bool) (k : ℕ) {o : Option Bool} {blind : Bool} → o ≡ status_at n ks ss k → is_some o ≡ not blind → blind ≡ not (flag_at n ks k)
+blind_is n ks ss k {blind = blind} e h = turned (flag_at n ks k) blind (sym (some-if (flag_at n ks k) (flag_at n ss k)) ∙ ap is_some (sym e) ∙ h)
 
 -- ---- the walk, as far as its frame i: from frame b on, q being the last weight
 
@@ -116,18 +122,6 @@ module _ {n : ℕ} {ks ss : List Bool} {ws : List Float} {w : Float} {size b out
 -- ---- the changes
 
 module _ (subsampling : ℕ) (diff : Float) (last : Bool) where
-  pub number_changed : ne diff zero₃₂ ≡ true → subsampling ≡ number subsampling diff last
-  unfolding number
-  number_changed e = choose_true _ (or_first _ last e) refl
-
-  pub number_last : last ≡ true → subsampling ≡ number subsampling diff last
-  unfolding number
-  number_last e = choose_true 0 (or_second (ne diff zero₃₂) last e) refl
-
-  pub number_none : ne diff zero₃₂ ≡ false → last ≡ false → 0 ≡ number subsampling diff last
-  unfolding number
-  number_none e l = choose_false _ (or_none _ last e l) refl
-
   pub number_le : (n : ℕ) → n ≡ number subsampling diff last → n ≤ subsampling
   unfolding number
   number_le n h = by-test (ne diff zero₃₂ || last) (λ e. rw (h, e) (le_refl subsampling)) (λ e. rw (h, e) (omega arith))

@@ -1,5 +1,5 @@
 -- What the inner functions leave. Not for readers.
-use Rattle.std.specs.Prelude.{ℕ, suc, ◌+◌, Bool, false, ◌||◌, List, get_or, eqb, ltb, Float, if◌then◌else◌}
+use Rattle.std.specs.Prelude.{ℕ, suc, ◌+◌, Bool, false, ◌||◌, List, Option, Some, None, get_or, eqb, ltb, Float, if◌then◌else◌}
 use Rattle.std.specs.Float.{nan}
 use Rattle.std.specs.Float.Ieee.{ne}
 use Rattle.loops.specs.Lists.{build, flat}
@@ -7,7 +7,7 @@ use Rattle.floats.specs.Operators.{◌-₃₂◌, zero₃₂}
 use Rattle.definition.specs.declared.InputFrame.{InputFrame}
 use Rattle.definition.specs.declared.DecoderFrame.{DecoderFrame}
 use Rattle.definition.specs.Changes.{Change}
-use Rattle.definition.specs.Silence.{decoder, table_rooms, Table, info_at, table_in, begin, walked, input_frame}
+use Rattle.definition.specs.Silence.{decoder, FrameInfo, table_rooms, Table, info_at, table_in, begin, walked, input_frame}
 
 -- the table of n frames in three rooms
 abbrev pub table_of : ℕ → List Bool → List Bool → List Float → Table
@@ -20,6 +20,13 @@ place_at d z n room k = if ltb k n then get_or room k d else z
 -- a flag and the weight of frame k, from the rooms of a table of n frames
 abbrev pub flag_at : ℕ → List Bool → ℕ → Bool
 flag_at = place_at false false
+
+-- whether frame k is silence, where that is known
+abbrev pub status_at : ℕ → List Bool → List Bool → ℕ → Option Bool
+status_at n ks ss k = if flag_at n ks k then Some (flag_at n ss k) else None
+
+abbrev pub status_of : FrameInfo → Option Bool
+status_of f = if f.known then Some f.is_silence else None
 
 abbrev pub weight_at : ℕ → List Float → ℕ → Float
 weight_at = place_at nan zero₃₂

@@ -1,59 +1,55 @@
 // `SilenceWeighting`: frames that the decoder's best path calls silence enter the statistics at a small weight, and the
-// changes of weight are given by input frame. The table lies in three lent rooms with a place for each decoder frame:
-// `known`, `is_silence` and `current_weight`. Its record keeps how many of the places are in use.
+// changes of weight are given by input frame. The table lies in three lent rooms with a place for each decoder frame
+// (`SilenceRooms`). Its record keeps how many of the places are in use.
 #![tactic(auto)]
 
-ghost use Rattle.std.specs.Prelude.{◌≡◌, Bool, not, List, [], ◌∷◌, map, ℕ, ◌+◌, ◌-◌, ◌<◌, ◌≤◌, min, max, length, Float};
+mod rooms;
+
+ghost use Rattle.std.specs.Prelude.{◌≡◌, Bool, false, not, List, [], ◌∷◌, map, ℕ, ◌+◌, ◌-◌, ◌<◌, ◌≤◌, min, max, length, Float};
 ghost use Rattle.loops.specs.Lists.{build, any_of, over};
 ghost use Rattle.loops.specs.Refusal.{first_of};
 ghost use Rattle.loops.specs.Ring.{put};
-ghost use Rattle.definition.specs.Silence.{decoder, TableRooms, table_rooms, Table, info_at, table_in, segments, same_phone, traced, before, carried, weighted, decoder_frames, input_frame, delta_weights};
-ghost use Rattle.definition.specs.Silence.{settings_refusal, new_table, active, places, table_broken, traceback_tests, compute_current_traceback, get_delta_weights, silence_answer, table_call, table_done};
-ghost use Rattle.silence_weighting.specs.Steps.{flag_at, weight_at, number, given};
+ghost use Rattle.floats.specs.Operators.{zero₃₂};
+ghost use Rattle.definition.specs.Number.{refused_by};
+ghost use Rattle.definition.specs.Silence.{decoder, FrameInfo, TableRooms, table_rooms, Table, table_in, segments, traced, before, carried, weighted, decoder_frames, input_frame, delta_weights};
+ghost use Rattle.definition.specs.Silence.{settings_refusal, new_table, active, places, table_broken, traceback_tests, compute_current_traceback, get_delta_weights, table_call, table_done};
+ghost use Rattle.silence_weighting.specs.Steps.{table_of, status_of, number, given};
+ghost use Rattle.silence_weighting.specs.Rooms.{rooms_in, SameLoans, Holds, made, answer_of, noted};
 
-use basics::{less, smaller};
-use definition::{DecoderFrame, InputFrame, NewTable, SilenceAnswer, SilenceWeighting};
+use definition::{DecoderFrame, InputFrame, Refusal, SilenceAnswer, SilenceWeighting, need};
+pub use rooms::{LentPath, SilenceRooms};
 
-// The longer of two tables.
-fn longer(a: DecoderFrame, b: DecoderFrame) -> DecoderFrame
-    ensures { result.0 ≡ max a.0 b.0 }
+/// The highest number of an input frame.
+const MAX_INPUT: usize = 1000000000;
+
+/// The most decoder frames that a table takes, whatever its rooms.
+const MAX_FRAMES: usize = 1000000;
+
+// Refusal 9: the number of phones, the weight, the subsampling.
+#[tactic(auto, unfolding(loops::specs::Refusal::first_of, definition::specs::Silence::settings_refusal))]
+fn check_settings(phones: usize, silence_weight: f32, subsampling: usize) -> Result<(), Refusal>
+    ensures { refused_by result ≡ settings_refusal phones silence_weight subsampling }
 {
-    if a.0 <= b.0 { b } else { a }
+    need(phones <= 64, Refusal::SilenceSettings)?;
+    need(
+        1 <= subsampling && subsampling <= 16,
+        Refusal::SilenceSettings,
+    )?;
+    need(floats::is_finite(silence_weight), Refusal::SilenceSettings)
 }
 
-// Refusal 9, or 0.
-fn settings_refusal(phones: usize, silence_weight: f32, subsampling: usize) -> usize
-    ensures { result ≡ settings_refusal phones silence_weight subsampling }
-{
-    if 64 < phones {
-        return 9;
-    }
-    if subsampling == 0 {
-        return 9;
-    }
-    if 16 < subsampling {
-        return 9;
-    }
-    if floats::is_finite(silence_weight) {
-        return 0;
-    }
-    9
-}
-
-// A table of no frames yet, for rooms of `table` places each.
+/// A table of no frames yet, for rooms of `table` places each.
+#[tactic(auto, unfolding(definition::specs::Silence::new_table))]
 pub fn new(
     silence_phones: &[i32],
     silence_weight: f32,
     subsampling: usize,
     table: usize,
-) -> NewTable
-    ensures { result ≡ new_table (length silence_phones.now) silence_weight subsampling table }
+) -> Result<SilenceWeighting, Refusal>
+    ensures { made result ≡ new_table (length silence_phones.now) silence_weight subsampling table }
 {
-    let refusal = settings_refusal(silence_phones.len(), silence_weight, subsampling);
-    if refusal != 0 {
-        return NewTable::Refused(refusal);
-    }
-    NewTable::Table(SilenceWeighting {
+    check_settings(silence_phones.len(), silence_weight, subsampling)?;
+    Ok(SilenceWeighting {
         silence_weight,
         subsampling,
         phones: silence_phones.len(),
@@ -62,130 +58,95 @@ pub fn new(
     })
 }
 
-// Whether the weighting changes anything.
+/// Whether the weighting changes anything.
+#[tactic(auto, unfolding(definition::specs::Silence::active))]
 pub fn active(s: SilenceWeighting) -> bool
     ensures { result ≡ active s }
 {
-    if s.phones == 0 {
-        return false;
-    }
-    s.silence_weight != 1.0
+    s.phones != 0 && s.silence_weight != 1.0
 }
 
-// The places of a table, at most 1,000,000.
+// The places of a table.
 fn places(s: SilenceWeighting) -> usize
     ensures { result ≡ places s }
 {
-    smaller(s.table, 1000000)
+    s.table.min(MAX_FRAMES)
 }
 
-// What a refused call answers.
-fn refused(s: SilenceWeighting, refusal: usize) -> SilenceAnswer
-    ensures { (n m : ℕ) → (refusal ≡ 0 → ⊥) → result ≡ silence_answer refusal s n m }
+/// The answer, for C: what a call returned, and the record as it left it.
+pub fn answered(taken: Result<usize, Refusal>, s: SilenceWeighting) -> SilenceAnswer
+    ensures { result ≡ answer_of taken s }
 {
-    SilenceAnswer {
-        refusal,
-        changes: 0,
-        silence: s,
-    }
-}
-
-// What a call that is taken answers, the table having n frames now.
-fn answered(s: SilenceWeighting, changes: usize, n: DecoderFrame) -> SilenceAnswer
-    ensures { result ≡ silence_answer 0 s changes n.0 }
-{
-    let mut t = s;
-    t.length = n;
-    SilenceAnswer {
-        refusal: 0,
-        changes,
-        silence: t,
+    match taken {
+        Ok(changes) => SilenceAnswer {
+            refusal: 0,
+            changes,
+            silence: s,
+        },
+        Err(e) => SilenceAnswer {
+            refusal: e.number(),
+            changes: 0,
+            silence: s,
+        },
     }
 }
 
-// Refusal 10: the record, and the lengths of the three rooms.
-fn table_broken(s: SilenceWeighting, known: usize, is_silence: usize, current_weight: usize) -> bool
-    ensures { result ≡ table_broken s known is_silence current_weight }
+// Whether a call made the record, for rooms of these lengths: else refusal 10.
+#[tactic(auto, unfolding(definition::specs::Silence::table_broken))]
+fn is_whole(s: SilenceWeighting, rooms: &SilenceRooms<'_>) -> bool
+    ensures { table_broken s (length rooms.now.known.now) (length rooms.now.is_silence.now) (length rooms.now.current_weight.now) ≡ not result }
 {
-    if known != s.table {
-        return true;
-    }
-    if is_silence != s.table {
-        return true;
-    }
-    if current_weight != s.table {
-        return true;
-    }
-    let refusal = settings_refusal(s.phones, s.silence_weight, s.subsampling);
-    if refusal != 0 {
-        return true;
-    }
-    places(s) < s.length.0
+    rooms.known.len() == s.table
+        && rooms.is_silence.len() == s.table
+        && rooms.current_weight.len() == s.table
+        && check_settings(s.phones, s.silence_weight, s.subsampling).is_ok()
+        && s.length.0 <= places(s)
 }
 
 // n places of a room from place a on, set to v.
-fn fill(room: &mut [bool], a: usize, n: usize, v: bool)
-    requires { a + n ≤ length room.old }
+fn fill<T: Copy>(room: &mut [T], a: usize, n: usize, v: T)
+    requires within { a + n ≤ length room.old }
+    requires clones { T.is_infallible v }
+    requires same { (y : T) → T.is_clone v y → y ≡ v }
     ensures { room.new ≡ put a (build n (λ i. v)) room.old }
 {
-    for i in 0..n {
-        room[a + i] = v;
-    }
+    room[a..a + n].fill(v);
 }
 
-fn fill_weights(room: &mut [f32], a: usize, n: usize, v: f32)
-    requires { a + n ≤ length room.old }
-    ensures { room.new ≡ put a (build n (λ i. v)) room.old }
+// The places from `from` up to n more as those of frames that no path has named: unknown, of weight 0.
+fn grow(rooms: &mut SilenceRooms<'_>, from: DecoderFrame, n: usize)
+    requires { Holds (from.0 + n) (rooms_in rooms.old) }
+    ensures known { rooms.new.known.now ≡ put from.0 (build n (λ i. false)) rooms.old.known.now }
+    ensures is_silence { rooms.new.is_silence.now ≡ put from.0 (build n (λ i. false)) rooms.old.is_silence.now }
+    ensures current_weight { rooms.new.current_weight.now ≡ put from.0 (build n (λ i. zero₃₂)) rooms.old.current_weight.now }
+    ensures loans { SameLoans rooms.old rooms.new }
 {
-    for i in 0..n {
-        room[a + i] = v;
-    }
+    fill(rooms.known, from.0, n, false);
+    fill(rooms.is_silence, from.0, n, false);
+    fill(rooms.current_weight, from.0, n, 0.0);
 }
 
 // ---- the traceback
 
-fn traceback_refusal(
+#[tactic(auto, unfolding(loops::specs::Refusal::first_of, definition::specs::Silence::traceback_tests))]
+fn check_traceback(
     s: SilenceWeighting,
-    known: usize,
-    is_silence: usize,
-    current_weight: usize,
-    phones: usize,
+    rooms: &SilenceRooms<'_>,
+    silence_phones: usize,
+    path: LentPath<'_>,
     decoded: DecoderFrame,
-    n: usize,
-    starts: usize,
-    ends: usize,
-) -> usize
-    ensures { result ≡ first_of ((table_broken s known is_silence current_weight, 10) ∷ traceback_tests s phones decoded n starts ends) }
+) -> Result<(), Refusal>
+    ensures { refused_by result ≡ first_of ((table_broken s (length rooms.now.known.now) (length rooms.now.is_silence.now) (length rooms.now.current_weight.now), 10)
+        ∷ traceback_tests s silence_phones decoded (length path.entry.phones.now) (length path.entry.starts.now) (length path.entry.ends.now)) }
 {
-    if table_broken(s, known, is_silence, current_weight) {
-        return 10;
-    }
-    if phones != s.phones {
-        return 10;
-    }
-    if places(s) < decoded.0 {
-        return 23;
-    }
-    if n != starts {
-        return 24;
-    }
-    if n != ends {
-        return 24;
-    }
-    0
-}
-
-// Whether p is one of the silence phones.
-fn contains(silence_phones: &[i32], p: i32) -> bool
-    ensures { result ≡ any_of (same_phone p) silence_phones.now }
-{
-    for i in 0..silence_phones.len() {
-        let q = silence_phones[i];
-        if q == p {
-            return true;
-        }
-    }
-    false
+    need(is_whole(s, rooms), Refusal::ForeignRecord)?;
+    need(silence_phones == s.phones, Refusal::ForeignRecord)?;
+    need(decoded.0 <= places(s), Refusal::DecoderFrames)?;
+    let n = path.phones.len();
+    need(
+        n == path.starts.len() && n == path.ends.len(),
+        Refusal::SilenceLists,
+    )
 }
 
 // The segments' flags, one segment after the other, in a table of at least `decoded` frames.
@@ -193,198 +154,154 @@ fn mark_segments(
     silence_phones: &[i32],
     known: &mut [bool],
     is_silence: &mut [bool],
-    segment_phones: &[i32],
-    starts: &[usize],
-    ends: &[usize],
+    path: LentPath<'_>,
     decoded: DecoderFrame,
 )
-    requires { (decoded.0 ≤ length known.old) × (decoded.0 ≤ length is_silence.old) × (length segment_phones.now ≡ length starts.now) × (length segment_phones.now ≡ length ends.now) }
-    ensures { ((n : ℕ) (ws : List Float) → decoded.0 ≤ n → n ≤ length known.old → n ≤ length is_silence.old →
+    requires known { decoded.0 ≤ length known.old }
+    requires is_silence { decoded.0 ≤ length is_silence.old }
+    requires starts { length path.phones.now ≡ length path.starts.now }
+    requires ends { length path.phones.now ≡ length path.ends.now }
+    ensures { (n : ℕ) (ws : List Float) → decoded.0 ≤ n → n ≤ length known.old → n ≤ length is_silence.old →
         let z : TableRooms = table_rooms known.old is_silence.old ws in
-        let t : Table = traced silence_phones.now decoded (segments segment_phones.now starts.now ends.now) (table_in (decoder n) z) in
+        let t : Table = traced silence_phones.now decoded (segments path.entry.phones.now path.entry.starts.now path.entry.ends.now) (table_in (decoder n) z) in
         (known.new ≡ over (map (λ f. f.known) t) known.old)
-        × (is_silence.new ≡ over (map (λ f. f.is_silence) t) is_silence.old)) }
+        × (is_silence.new ≡ over (map (λ f. f.is_silence) t) is_silence.old) }
 {
-    for i in 0..segment_phones.len() {
-        let stop = smaller(ends[i], decoded.0);
-        let start = smaller(starts[i], stop);
-        let n = less(stop, start);
-        let sil = contains(silence_phones, segment_phones[i]);
-        fill(known, start, n, true);
-        fill(is_silence, start, n, sil);
+    // by index: three lists in step, of which two zips would say no more
+    for i in 0..path.phones.len() {
+        let stop = path.ends[i].min(decoded.0);
+        let start = path.starts[i].min(stop);
+        let sil = silence_phones.contains(&path.phones[i]);
+        fill(known, start, stop - start, true);
+        fill(is_silence, start, stop - start, sil);
     }
 }
 
-// Records the silence status of every decoded frame from the best path's phone segments.
+/// Records the silence status of every decoded frame from the best path's phone segments.
 pub fn compute_current_traceback(
-    s: SilenceWeighting,
+    s: &mut SilenceWeighting,
     silence_phones: &[i32],
-    known: &mut [bool],
-    is_silence: &mut [bool],
-    current_weight: &mut [f32],
-    segment_phones: &[i32],
-    starts: &[usize],
-    ends: &[usize],
+    rooms: &mut SilenceRooms<'_>,
+    path: LentPath<'_>,
     num_frames_decoded: DecoderFrame,
-) -> SilenceAnswer
-    ensures { (
-        let z : TableRooms = table_rooms known.old is_silence.old current_weight.old in
-        table_call result (table_rooms known.new is_silence.new current_weight.new) [] []
-        ≡ table_done s z [] [] (compute_current_traceback s z silence_phones.now segment_phones.now starts.now ends.now num_frames_decoded)) }
+) -> Result<(), Refusal>
+    ensures call { (
+        let z : TableRooms = rooms_in rooms.old in
+        table_call (noted (refused_by result) s.new) (rooms_in rooms.new) [] []
+        ≡ table_done s.old z [] [] (compute_current_traceback s.old z silence_phones.now path.entry.phones.now path.entry.starts.now path.entry.ends.now num_frames_decoded)) }
+    ensures loans { SameLoans rooms.old rooms.new }
 {
-    let refusal = traceback_refusal(
-        s,
-        known.len(),
-        is_silence.len(),
-        current_weight.len(),
-        silence_phones.len(),
-        num_frames_decoded,
-        segment_phones.len(),
-        starts.len(),
-        ends.len(),
-    );
-    if refusal != 0 {
-        return refused(s, refusal);
-    }
+    check_traceback(*s, rooms, silence_phones.len(), path, num_frames_decoded)?;
     let old = s.length;
-    let more = less(num_frames_decoded.0, old.0);
-    fill(known, old.0, more, false);
-    fill(is_silence, old.0, more, false);
-    fill_weights(current_weight, old.0, more, 0.0);
+    grow(rooms, old, num_frames_decoded.0.saturating_sub(old.0));
     mark_segments(
         silence_phones,
-        known,
-        is_silence,
-        segment_phones,
-        starts,
-        ends,
+        rooms.known,
+        rooms.is_silence,
+        path,
         num_frames_decoded,
     );
-    answered(s, 0, longer(old, num_frames_decoded))
+    s.length = DecoderFrame(old.0.max(num_frames_decoded.0));
+    Ok(())
 }
 
 // ---- the weights
 
-// A flag of frame k in a table of n frames.
-fn flag_at(room: &[bool], n: DecoderFrame, k: DecoderFrame) -> bool
-    requires { n.0 ≤ length room.now }
-    ensures { result ≡ flag_at n.0 room.now k.0 }
-{
-    let place = k.0;
-    if place < n.0 {
-        return room[place];
-    }
-    false
+// How decoder frames lie among input frames: decoder frame 0 begins at `first`, and each is `subsampling` of them.
+#[derive(Clone, Copy)]
+struct Clock {
+    subsampling: usize,
+    first: InputFrame,
+    ghost some: { 0 < subsampling },
+    ghost few: { subsampling ≤ 16 },
+    ghost early: { first.0 ≤ 1000000000 },
 }
 
-// The current weight of frame k in a table of n frames.
-fn weight_at(room: &[f32], n: DecoderFrame, k: DecoderFrame) -> f32
-    requires { n.0 ≤ length room.now }
-    ensures { result ≡ weight_at n.0 room.now k.0 }
-{
-    let place = k.0;
-    if place < n.0 {
-        return room[place];
+impl Clock {
+    // The decoder frames that the input frames from `first` up to `ready` reach into.
+    #[tactic(auto, unfolding(definition::specs::Silence::decoder_frames))]
+    fn decoder_frames(self, ready: InputFrame) -> DecoderFrame
+        requires { ready.0 ≤ 1000000000 }
+        ensures { result ≡ decoder_frames self.subsampling ready self.first }
+    {
+        let n = ready.0.saturating_sub(self.first.0);
+        DecoderFrame((n + (self.subsampling - 1)) / self.subsampling)
     }
-    0.0
+
+    // Input frame j of decoder frame k.
+    #[tactic(auto, unfolding(definition::specs::Silence::input_frame))]
+    fn input_frame(self, k: DecoderFrame, j: usize) -> InputFrame
+        requires k_in { k.0 ≤ 1000000 }
+        requires j_in { j < self.subsampling }
+        ensures { result ≡ input_frame self.subsampling self.first k j }
+    {
+        InputFrame(self.first.0 + k.0 * self.subsampling + j)
+    }
 }
 
 // Where the walk begins.
 fn walk_begin(s: SilenceWeighting) -> DecoderFrame
     ensures { result.0 ≡ s.length.0 - 100 }
 {
-    DecoderFrame(less(s.length.0, 100))
+    DecoderFrame(s.length.0.saturating_sub(100))
 }
 
 // The weight before the walk's first frame.
-fn before_weight(s: SilenceWeighting, current_weight: &[f32]) -> f32
-    requires { s.length.0 ≤ length current_weight.now }
-    ensures { (ks ss : List Bool) → result ≡ before s.silence_weight (table_in s.length (table_rooms ks ss current_weight.now)) }
+fn before_weight(s: SilenceWeighting, rooms: &SilenceRooms<'_>) -> f32
+    requires { s.length.0 ≤ length rooms.now.current_weight.now }
+    ensures { (ks ss : List Bool) → result ≡ before s.silence_weight (table_of s.length.0 ks ss rooms.now.current_weight.now) }
 {
     let begin = walk_begin(s);
     if begin.0 == 0 {
         return s.silence_weight;
     }
-    weight_at(current_weight, s.length, DecoderFrame(begin.0 - 1))
+    rooms.weight(s.length, DecoderFrame(begin.0 - 1))
 }
 
-// The new weight of frame k, p being that of the frame before it.
-fn next_weight(
-    s: SilenceWeighting,
-    known: &[bool],
-    is_silence: &[bool],
-    blind: bool,
-    k: DecoderFrame,
-    p: f32,
-) -> f32
-    requires { (s.length.0 ≤ length known.now) × (s.length.0 ≤ length is_silence.now) }
-    ensures { (ws : List Float) → result ≡ carried s.silence_weight blind (info_at (table_in s.length (table_rooms known.now is_silence.now ws)) k.0) p }
+// The new weight of a frame of this status, p being that of the frame before it.
+#[tactic(auto, unfolding(definition::specs::Silence::carried))]
+fn next_weight(silence_weight: f32, blind: bool, status: Option<bool>, p: f32) -> f32
+    ensures { (f : FrameInfo) → status ≡ status_of f → result ≡ carried silence_weight blind f p }
 {
-    if blind {
-        return p;
+    match status {
+        Some(true) if !blind => silence_weight,
+        Some(false) if !blind => 1.0,
+        _ => p,
     }
-    if flag_at(known, s.length, k) {
-        if flag_at(is_silence, s.length, k) {
-            return s.silence_weight;
-        }
-        return 1.0;
-    }
-    p
-}
-
-// The decoder frames that the input frames from `first` up to `ready` reach into.
-fn decoder_frames(subsampling: usize, ready: InputFrame, first: InputFrame) -> DecoderFrame
-    requires { (0 < subsampling) × (subsampling ≤ 16) × (ready.0 ≤ 1000000000) }
-    ensures { result ≡ decoder_frames subsampling ready first }
-{
-    let n = less(ready.0, first.0);
-    DecoderFrame((n + (subsampling - 1)) / subsampling)
-}
-
-// Input frame j of decoder frame k, decoder frame 0 beginning at `first`.
-fn input_frame(subsampling: usize, first: InputFrame, k: DecoderFrame, j: usize) -> InputFrame
-    requires { (subsampling ≤ 16) × (first.0 ≤ 1000000000) × (k.0 ≤ 1000000) × (j < subsampling) }
-    ensures { result ≡ input_frame subsampling first k j }
-{
-    InputFrame(first.0 + k.0 * subsampling + j)
 }
 
 // How many changes a frame gives.
+#[tactic(auto, unfolding(crate::specs::Steps::number))]
 fn number_of(subsampling: usize, diff: f32, last: bool) -> usize
     ensures { result ≡ number subsampling diff last }
 {
-    if diff != 0.0 {
-        return subsampling;
-    }
-    if last {
-        return subsampling;
-    }
-    0
+    if diff != 0.0 || last { subsampling } else { 0 }
 }
 
 // The number of changes to a table that is to have n frames.
-fn count_changes(
-    s: SilenceWeighting,
-    known: &[bool],
-    is_silence: &[bool],
-    current_weight: &[f32],
-    n: DecoderFrame,
-) -> usize
-    requires { (s.length.0 ≤ length known.now) × (s.length.0 ≤ length is_silence.now) × (s.length.0 ≤ length current_weight.now) × (s.length.0 ≤ n.0) × (n.0 ≤ 1000000) × (s.subsampling ≤ 16) }
-    ensures { ((first : InputFrame) →
-        let z : TableRooms = table_rooms known.now is_silence.now current_weight.now in
-        result ≡ length (delta_weights s.silence_weight s.subsampling first n (table_in s.length z))) }
+fn count_changes(s: SilenceWeighting, rooms: &SilenceRooms<'_>, n: DecoderFrame) -> usize
+    requires rooms { Holds s.length.0 (rooms_in rooms.now) }
+    requires longer { s.length.0 ≤ n.0 }
+    requires bound { n.0 ≤ 1000000 }
+    requires subsampling { s.subsampling ≤ 16 }
+    ensures { (first : InputFrame) → result ≡ length (delta_weights s.silence_weight s.subsampling first n (table_in s.length (rooms_in rooms.now))) }
 {
     let begin = walk_begin(s);
-    let blind = !flag_at(known, s.length, begin);
-    let mut weight = before_weight(s, current_weight);
+    let blind = rooms.status(s.length, begin).is_none();
+    let mut weight = before_weight(s, rooms);
     let mut count = 0;
-    let frames_out = less(n.0, begin.0);
+    let frames_out = n.0 - begin.0;
+    // by number: a step is of frame `begin + offset`, and looks at places of three rooms
     for offset in 0..frames_out {
         let frame = DecoderFrame(begin.0 + offset);
-        let w = next_weight(s, known, is_silence, blind, frame, weight);
-        let diff = w - weight_at(current_weight, s.length, frame);
-        count = count + number_of(s.subsampling, diff, frame.0 + 1 == n.0);
+        let w = next_weight(
+            s.silence_weight,
+            blind,
+            rooms.status(s.length, frame),
+            weight,
+        );
+        let diff = w - rooms.weight(s.length, frame);
+        count += number_of(s.subsampling, diff, frame.0 + 1 == n.0);
         weight = w;
     }
     count
@@ -395,162 +312,132 @@ fn give(
     frames: &mut [usize],
     weights: &mut [f32],
     at: usize,
-    subsampling: usize,
-    first: InputFrame,
+    clock: Clock,
     k: DecoderFrame,
     diff: f32,
     last: bool,
 ) -> usize
-    requires { (at + number subsampling diff last ≤ length frames.old) × (at + number subsampling diff last ≤ length weights.old) × (subsampling ≤ 16) × (first.0 ≤ 1000000000) × (k.0 ≤ 1000000) }
-    ensures { (result ≡ at + number subsampling diff last) × (frames.new ≡ put at (map (λ x. x.0) (given subsampling first k diff last)) frames.old)
-        × (weights.new ≡ put at (map (λ x. x.1) (given subsampling first k diff last)) weights.old) }
+    requires frames { at + number clock.subsampling diff last ≤ length frames.old }
+    requires weights { at + number clock.subsampling diff last ≤ length weights.old }
+    requires k_in { k.0 ≤ 1000000 }
+    ensures after { result ≡ at + number clock.subsampling diff last }
+    ensures frames { frames.new ≡ put at (map (λ x. x.0) (given clock.subsampling clock.first k diff last)) frames.old }
+    ensures weights { weights.new ≡ put at (map (λ x. x.1) (given clock.subsampling clock.first k diff last)) weights.old }
 {
-    let n = number_of(subsampling, diff, last);
+    let n = number_of(clock.subsampling, diff, last);
+    // by number: input frame j of a decoder frame is reckoned from j
     for j in 0..n {
-        let input = input_frame(subsampling, first, k, j);
-        frames[at + j] = input.0;
-        weights[at + j] = diff;
+        frames[at + j] = clock.input_frame(k, j).0;
     }
+    fill(weights, at, n, diff);
     at + n
 }
 
 // The walk to a table that is to have n frames: the new weights, and the changes. Returns how many.
 fn give_changes(
     s: SilenceWeighting,
-    known: &[bool],
-    is_silence: &[bool],
-    current_weight: &mut [f32],
+    rooms: &mut SilenceRooms<'_>,
     n: DecoderFrame,
-    first: InputFrame,
+    clock: Clock,
     frames: &mut [usize],
     weights: &mut [f32],
 ) -> usize
-    requires { (s.length.0 ≤ length known.now) × (s.length.0 ≤ length is_silence.now) × (n.0 ≤ length current_weight.old) × (s.length.0 ≤ n.0) × (n.0 ≤ 1000000) × (s.subsampling ≤ 16) × (first.0 ≤ 1000000000)
-        × (length (delta_weights s.silence_weight s.subsampling first n (table_in s.length (table_rooms known.now is_silence.now current_weight.old))) ≤ min (length frames.old) (length weights.old)) }
-    ensures { (
-        let t : Table = table_in s.length (table_rooms known.now is_silence.now current_weight.old) in
-        let changes = delta_weights s.silence_weight s.subsampling first n t in
-        (result ≡ length changes)
-        × (current_weight.new ≡ over (map (λ f. f.current_weight) (weighted s.silence_weight n t)) current_weight.old)
-        × (frames.new ≡ over (map (λ x. x.0) changes) frames.old)
-        × (weights.new ≡ over (map (λ x. x.1) changes) weights.old)) }
+    requires rooms { Holds n.0 (rooms_in rooms.old) }
+    requires longer { s.length.0 ≤ n.0 }
+    requires bound { n.0 ≤ 1000000 }
+    requires enough { length (delta_weights s.silence_weight clock.subsampling clock.first n (table_in s.length (rooms_in rooms.old))) ≤ min (length frames.old) (length weights.old) }
+    ensures count { result ≡ length (delta_weights s.silence_weight clock.subsampling clock.first n (table_in s.length (rooms_in rooms.old))) }
+    ensures known { rooms.new.known.now ≡ rooms.old.known.now }
+    ensures is_silence { rooms.new.is_silence.now ≡ rooms.old.is_silence.now }
+    ensures current_weight { rooms.new.current_weight.now
+        ≡ over (map (λ f. f.current_weight) (weighted s.silence_weight n (table_in s.length (rooms_in rooms.old)))) rooms.old.current_weight.now }
+    ensures frames { frames.new ≡ over (map (λ x. x.0) (delta_weights s.silence_weight clock.subsampling clock.first n (table_in s.length (rooms_in rooms.old)))) frames.old }
+    ensures weights { weights.new ≡ over (map (λ x. x.1) (delta_weights s.silence_weight clock.subsampling clock.first n (table_in s.length (rooms_in rooms.old)))) weights.old }
+    ensures loans { SameLoans rooms.old rooms.new }
 {
     let begin = walk_begin(s);
-    let blind = !flag_at(known, s.length, begin);
-    let mut weight = before_weight(s, current_weight);
+    let blind = rooms.status(s.length, begin).is_none();
+    let mut weight = before_weight(s, rooms);
     let mut at = 0;
-    let frames_out = less(n.0, begin.0);
+    let frames_out = n.0 - begin.0;
+    // by number, as in `count_changes`
     for offset in 0..frames_out {
         let frame = DecoderFrame(begin.0 + offset);
-        let w = next_weight(s, known, is_silence, blind, frame, weight);
-        let diff = w - weight_at(current_weight, s.length, frame);
-        let place = frame.0;
-        current_weight[place] = w;
-        at = give(
-            frames,
-            weights,
-            at,
-            s.subsampling,
-            first,
-            frame,
-            diff,
-            frame.0 + 1 == n.0,
+        let w = next_weight(
+            s.silence_weight,
+            blind,
+            rooms.status(s.length, frame),
+            weight,
         );
+        let diff = w - rooms.weight(s.length, frame);
+        let last = frame.0 + 1 == n.0;
+        rooms.current_weight[frame.0] = w;
+        at = give(frames, weights, at, clock, frame, diff, last);
         weight = w;
     }
     at
 }
 
-fn delta_refusal(
+#[tactic(auto, unfolding(loops::specs::Refusal::first_of, definition::specs::Silence::delta_tests, definition::specs::Silence::get_delta_weights))]
+fn check_deltas(
     s: SilenceWeighting,
-    known: &[bool],
-    is_silence: &[bool],
-    current_weight: &[f32],
+    rooms: &SilenceRooms<'_>,
     ready: InputFrame,
     first: InputFrame,
-    frames: usize,
-    weights: usize,
-) -> usize
-    ensures { result ≡ (get_delta_weights s (table_rooms known.now is_silence.now current_weight.now) ready first frames weights).refusal }
+    room: usize,
+) -> Result<(), Refusal>
+    ensures { (frames weights : ℕ) → room ≡ min frames weights → refused_by result ≡ (get_delta_weights s (rooms_in rooms.now) ready first frames weights).refusal }
 {
-    if table_broken(s, known.len(), is_silence.len(), current_weight.len()) {
-        return 10;
-    }
-    if 1000000000 < ready.0 {
-        return 23;
-    }
-    if 1000000000 < first.0 {
-        return 23;
-    }
-    let wanted = decoder_frames(s.subsampling, ready, first);
-    if places(s) < wanted.0 {
-        return 23;
-    }
+    need(is_whole(s, rooms), Refusal::ForeignRecord)?;
+    need(ready.0 <= MAX_INPUT, Refusal::DecoderFrames)?;
+    need(first.0 <= MAX_INPUT, Refusal::DecoderFrames)?;
+    let clock = Clock {
+        subsampling: s.subsampling,
+        first,
+    };
+    let wanted = clock.decoder_frames(ready);
+    need(wanted.0 <= places(s), Refusal::DecoderFrames)?;
     if ready.0 <= first.0 {
-        return 0;
+        return Ok(());
     }
-    let n = longer(s.length, wanted);
-    let room = smaller(frames, weights);
+    let n = DecoderFrame(s.length.0.max(wanted.0));
     // where a change of each input frame would find room, the changes need not be counted
-    let begin = walk_begin(s);
-    let frames_out = less(n.0, begin.0);
+    let frames_out = n.0 - walk_begin(s).0;
     if frames_out * s.subsampling <= room {
-        return 0;
+        return Ok(());
     }
-    let count = count_changes(s, known, is_silence, current_weight, n);
-    if room < count {
-        return 24;
-    }
-    0
+    need(count_changes(s, rooms, n) <= room, Refusal::SilenceLists)
 }
 
-// The weight changes by input frame, Kaldi's `GetDeltaWeights`. Decoder frame 0 begins at input frame `first_decoder_frame`.
+/// The weight changes by input frame, Kaldi's `GetDeltaWeights`, and how many they are. Decoder frame 0 begins at input frame `first_decoder_frame`.
 pub fn get_delta_weights(
-    s: SilenceWeighting,
-    known: &mut [bool],
-    is_silence: &mut [bool],
-    current_weight: &mut [f32],
+    s: &mut SilenceWeighting,
+    rooms: &mut SilenceRooms<'_>,
     num_frames_ready: InputFrame,
     first_decoder_frame: InputFrame,
     frames: &mut [usize],
     weights: &mut [f32],
-) -> SilenceAnswer
-    ensures { (
-        let z : TableRooms = table_rooms known.old is_silence.old current_weight.old in
-        table_call result (table_rooms known.new is_silence.new current_weight.new) frames.new weights.new
-        ≡ table_done s z frames.old weights.old (get_delta_weights s z num_frames_ready first_decoder_frame (length frames.old) (length weights.old))) }
+) -> Result<usize, Refusal>
+    ensures call { (
+        let z : TableRooms = rooms_in rooms.old in
+        table_call (answer_of result s.new) (rooms_in rooms.new) frames.new weights.new
+        ≡ table_done s.old z frames.old weights.old (get_delta_weights s.old z num_frames_ready first_decoder_frame (length frames.old) (length weights.old))) }
+    ensures loans { SameLoans rooms.old rooms.new }
 {
-    let refusal = delta_refusal(
-        s,
-        known,
-        is_silence,
-        current_weight,
-        num_frames_ready,
-        first_decoder_frame,
-        frames.len(),
-        weights.len(),
-    );
-    if refusal != 0 {
-        return refused(s, refusal);
-    }
-    let old = s.length;
+    let room = frames.len().min(weights.len());
+    check_deltas(*s, rooms, num_frames_ready, first_decoder_frame, room)?;
     if num_frames_ready.0 <= first_decoder_frame.0 {
-        return answered(s, 0, old);
+        return Ok(0);
     }
-    let wanted = decoder_frames(s.subsampling, num_frames_ready, first_decoder_frame);
-    let n = longer(old, wanted);
-    let changes = give_changes(
-        s,
-        known,
-        is_silence,
-        current_weight,
-        n,
-        first_decoder_frame,
-        frames,
-        weights,
-    );
-    let more = less(n.0, old.0);
-    fill(known, old.0, more, false);
-    fill(is_silence, old.0, more, false);
-    answered(s, changes, n)
+    let clock = Clock {
+        subsampling: s.subsampling,
+        first: first_decoder_frame,
+    };
+    let old = s.length;
+    let n = DecoderFrame(old.0.max(clock.decoder_frames(num_frames_ready).0));
+    let changes = give_changes(*s, rooms, n, clock, frames, weights);
+    fill(rooms.known, old.0, n.0 - old.0, false);
+    fill(rooms.is_silence, old.0, n.0 - old.0, false);
+    s.length = n;
+    Ok(changes)
 }

@@ -1,8 +1,8 @@
 -- A record and lent rings that meet no refusal 10: what is known of them, and the number of a call whose further tests come after those.
-use mathlib.Core.Path.{◌≡◌, sym, ◌∙◌}
-use mathlib.Core.Bool.{Bool, true, false, not}
-use mathlib.Core.List.{List, ◌++◌}
-use Prim.Native.Nat.{ℕ, ◌≤◌}
+use mathlib.Core.Path.{◌≡◌, refl, sym, ap, ◌∙◌}
+use mathlib.Core.Bool.{Bool, true, false, not, ◌||◌, or-false}
+use mathlib.Core.List.{List, [], ◌∷◌, ◌++◌}
+use Prim.Native.Nat.{ℕ, suc, ◌≤◌}
 use native.Mathlib.Omega.{arith}
 use lib.ListN.{length}
 use lib.Dec.{eqb}
@@ -12,12 +12,40 @@ use Rattle.loops.specs.Ring.{rows_in}
 use Rattle.loops.proofs.Choose.{by-test}
 use Rattle.loops.proofs.Refusal.{NoneFirst, FirstAt, number_at, first-here, first_past, first_is, first-none, first_then, first_already, none_first}
 use Rattle.loops.proofs.Tests.{each_pair}
+use lib.Ieee.{Float}
+use lib.Ieee.Scale.{finite}
+use Rattle.std.specs.Prelude.{Result, Ok, fold}
+use Rattle.std.specs.Float.{float_is_finite}
+use Rattle.floats.proofs.Finite.{std_finite}
+use Rattle.loops.specs.Lists.{any_of}
+use Rattle.definition.specs.declared.refusal.Refusal.{Refusal}
+use Rattle.definition.specs.Number.{number_of, refused_by}
 use Rattle.definition.specs.declared.IvectorStream.{IvectorStream}
 use Rattle.definition.specs.Stream.{is_broken, same_rings, ring_lengths}
 use Rattle.definition.proofs.Ranges.{DimRanges, dim-ranges, info_sound_lem, fitting}
 use Rattle.limits.proofs.Records.{Whole, whole}
 use Rattle.program.specs.Rooms.{Rings, ring_lengths_of}
 use Rattle.program.specs.Calls.{record_tests}
+
+-- a number that is not finite, found without an early exit
+fold_from : (b : Bool) (xs : List Float) → fold (λ (a : Bool) (v : Float). a || not (float_is_finite v)) b xs ≡ (b || any_of (λ v. not (finite v)) xs)
+unfolding any_of
+fold_from b [] = sym (or-false b)
+fold_from true (x ∷ xs) = fold_from true xs
+fold_from false (x ∷ xs) = rw std_finite (fold_from (not (finite x)) xs)
+
+pub any_fold : (xs : List Float) → fold (λ (a : Bool) (v : Float). a || not (float_is_finite v)) false xs ≡ any_of (λ v. not (finite v)) xs
+any_fold xs = fold_from false xs
+
+-- a test that `need` let through
+pub needed : {A : Type 0} {a : A} {r : Result A Refusal} (n : ℕ) (t : Bool) → refused_by r ≡ first_of ((not t, suc n) ∷ []) → r ≡ Ok a → t ≡ true
+unfolding first_of
+needed n true e h = refl
+needed n false e h = let g = ap refused_by h in absurd (omega arith)
+
+-- no refusal has the number 0
+pub some_number : (e : Refusal) → number_of e ≡ 0 → ⊥
+some_number e h = grind arith
 
 module _ (s : IvectorStream) (z : Rings) where
   pub record Passed : Type 0 where
@@ -42,17 +70,6 @@ module _ (s : IvectorStream) (z : Rings) where
         waiting_frames_are = eqb-true _ _ h.1.1.0;
         waiting_weights_are = eqb-true _ _ h.1.1.1.0;
       }
-
-  -- the number, by the two tests as code makes them: a says that the rings differ, b that the record is broken
-  module _ {a : Bool} (e : a ≡ not (same_rings (ring_lengths_of z) s.lengths.rings)) where
-    pub rings_differ : a ≡ true → 10 ≡ first_of (record_tests s z)
-    rings_differ h = first_is 0 (record_tests s z) (sym e ∙ h)
-
-    pub record_broken : a ≡ false → {b : Bool} → b ≡ is_broken s z.waiting_frames → b ≡ true → 10 ≡ first_of (record_tests s z)
-    record_broken h f g = first_is 1 (record_tests s z) (sym e ∙ h, sym f ∙ g)
-
-    pub record_whole : a ≡ false → {b : Bool} → b ≡ is_broken s z.waiting_frames → b ≡ false → 0 ≡ first_of (record_tests s z)
-    record_whole h f g = first-none (record_tests s z) (sym e ∙ h, (sym f ∙ g, tt))
 
   -- r is the refusal number: there is none, or another than 10
   pub plain_passed : {r : ℕ} → r ≡ first_of (record_tests s z) → r ≡ 0 → Passed

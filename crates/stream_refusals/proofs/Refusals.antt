@@ -1,25 +1,25 @@
 -- What is known once a call is taken; and its refusal number, from the tests as code makes them.
-use mathlib.Core.Path.{◌≡◌, refl, sym, ap, ◌∙◌}
-use mathlib.Core.Bool.{Bool, true, false, not, ◌||◌}
+use mathlib.Core.Path.{◌≡◌, sym, ◌∙◌}
+use mathlib.Core.Bool.{Bool, false, not, ◌&&◌}
 use mathlib.Core.List.{List, [], ◌∷◌, ◌++◌}
-use Prim.Native.Nat.{ℕ, zero, suc, ◌+◌, ◌-◌, ◌≤◌, ◌<◌}
+use Prim.Native.Nat.{ℕ, ◌+◌, ◌-◌, ◌≤◌, ◌<◌}
 use native.Mathlib.Nat.{div-mul-le_self, mul-le-mul_right}
 use native.Mathlib.Omega.{arith}
 use lib.ListN.{length}
 use lib.Dec.{eqb, leb, ltb}
 use lib.Ieee.{Float}
 use lib.Ieee.Scale.{finite}
-use borrow.Author.Tests.{not-false, eqb-true, eqb-false, eq-eqb, ne_eqb, lt-ltb, le-ltb, ltb-false}
+use Rattle.std.proofs.lemmas.Bool.Decides.{nat_tests}
+use borrow.Author.Tests.{not-false, eqb-true, eqb-false, ltb-false}
 use Rattle.loops.specs.Lists.{any_of}
 use Rattle.loops.specs.Refusal.{first_of}
 use Rattle.loops.specs.Ring.{rows_in}
-use Rattle.loops.proofs.Choose.{and_first, and_second, and_both, or_first, or_second, or_none, or_fails}
+use Rattle.loops.proofs.Choose.{or_fails}
 use Rattle.loops.proofs.Refusal.{NoneFirst, FirstAt, number_at, none_first}
 use Rattle.definition.specs.declared.IvectorInfo.{IvectorInfo}
 use Rattle.definition.specs.declared.IvectorStream.{IvectorStream}
 use Rattle.definition.specs.declared.RoomLengths.{RoomLengths}
 use Rattle.definition.specs.declared.TableLengths.{TableLengths}
-use Rattle.definition.specs.Options.{within}
 use Rattle.definition.specs.Model.{tables_fit}
 use Rattle.definition.specs.Machine.{frames_held, rows_held, waiting_room, max_changes, push_tests, change_tests, window_tests}
 use Rattle.definition.specs.Stream.{record_sound, same_tables, rooms_fit, new_refusal}
@@ -27,12 +27,6 @@ use Rattle.definition.proofs.Ranges.{DimRanges, dim-ranges, record_sound_lem, Fi
 use Rattle.program.specs.Rooms.{Rings}
 use Rattle.program.specs.Calls.{record_tests, push_frame, update_frame_weights, set_cmn_window}
 use Rattle.stream_refusals.proofs.Records.{Passed, tests_passed, few, other_few, already, then_all, then_first, then_none}
-
--- the first k tests fail, and P
-abbrev pub Past : ℕ → List (Bool × ℕ) → Type 0 → Type 0
-Past zero ts P = P
-Past (suc k) [] P = P
-Past (suc k) (t ∷ ts) P = (t.0 ≡ false) × Past k ts P
 
 -- ---- a fresh stream
 
@@ -120,41 +114,15 @@ module _ (fs : List ℕ) (ws : List Float) where
   abbrev uneven : Bool
   uneven = not (eqb (length fs) (length ws))
 
-  pub lists_differ : (length fs ≡ length ws → ⊥) → (uneven || ltb max_changes (length fs)) ≡ true
-  lists_differ h = or_first uneven _ (ap not (ne_eqb _ _ h))
-
-  pub lists_long : max_changes < length fs → (uneven || ltb max_changes (length fs)) ≡ true
-  lists_long h = or_second uneven _ (lt-ltb _ _ h)
-
-  pub lists_pass : length fs ≡ length ws → length fs ≤ max_changes → (uneven || ltb max_changes (length fs)) ≡ false
-  lists_pass e h = or_none uneven _ (ap not (eq-eqb _ _ e)) (le-ltb _ _ h)
-
   abbrev far : Bool
   far = any_of (leb 1000000000) fs
 
   abbrev wild : Bool
   wild = any_of (λ w. not (finite w)) ws
 
-  pub frames_far : far ≡ true → (far || wild) ≡ true
-  frames_far = or_first far wild
-
-  pub weights_wild : wild ≡ true → (far || wild) ≡ true
-  weights_wild = or_second far wild
-
-  pub numbers_pass : far ≡ false → wild ≡ false → (far || wild) ≡ false
-  numbers_pass = or_none far wild
-
--- the frames themselves: with nothing taken off
-pub below_floor : (floor : ℕ) (fs : List ℕ) → any_of (λ f. ltb f floor) fs ≡ any_of (λ f. ltb (f - 0) floor) fs
-unfolding any_of
-below_floor floor [] = refl
-below_floor floor (f ∷ fs) = let e : f - 0 ≡ f = omega arith in rw (e, below_floor floor fs)
-
-pub room-short : {room free n m : ℕ} → n ≤ room → free ≡ room - n → free < m → ltb room (n + m) ≡ true
-room-short {room} {n = n} {m = m} l e h = lt-ltb room (n + m) (omega arith)
-
-pub room-enough : {room free n m : ℕ} → n ≤ room → free ≡ room - n → m ≤ free → ltb room (n + m) ≡ false
-room-enough {room} {n = n} {m = m} l e h = le-ltb room (n + m) (omega arith)
+-- the room that is left, without a sum that might wrap
+pub room_is : (room n m : ℕ) → not (ltb room (n + m)) ≡ (leb m room && leb n (room - m))
+room_is room n m = grind (arith, nat_tests)
 
 module _ (s : IvectorStream) (z : Rings) (gs : List ℕ) (ws : List Float) where
   abbrev pub change_tests_is : List (Bool × ℕ)
@@ -183,20 +151,6 @@ module _ (s : IvectorStream) (z : Rings) (gs : List ℕ) (ws : List Float) where
   unfolding update_frame_weights
   change_few = other_few s z change_tests_is
 
-  -- by its tests
-  module _ {r : ℕ} (e : r ≡ first_of (record_tests s z)) where
-    pub change_already : (r ≡ 0 → ⊥) → r ≡ (update_frame_weights s z gs ws).refusal
-    unfolding update_frame_weights
-    change_already = already s z change_tests_is e
-
-    pub change_first : r ≡ 0 → (k : ℕ) → FirstAt k change_tests_is → number_at k change_tests_is ≡ (update_frame_weights s z gs ws).refusal
-    unfolding update_frame_weights
-    change_first = then_first s z change_tests_is e
-
-    pub change_none : r ≡ 0 → NoneFirst change_tests_is → 0 ≡ (update_frame_weights s z gs ws).refusal
-    unfolding update_frame_weights
-    change_none = then_none s z change_tests_is e
-
 -- ---- a new window
 
 module _ (s : IvectorStream) (z : Rings) (w : ℕ) where
@@ -210,27 +164,3 @@ module _ (s : IvectorStream) (z : Rings) (w : ℕ) where
   pub window_few : {r : ℕ} → r ≡ (set_cmn_window s z w).refusal → (r ≡ 10 → ⊥) → (s.accepted ≤ 1000000000) × (s.mark ≤ 1000000000)
   unfolding set_cmn_window
   window_few = other_few s z window_tests_is
-
-  -- by its tests
-  module _ {r : ℕ} (e : r ≡ first_of (record_tests s z)) where
-    pub window_already : (r ≡ 0 → ⊥) → r ≡ (set_cmn_window s z w).refusal
-    unfolding set_cmn_window
-    window_already = already s z window_tests_is e
-
-    module _ (h : r ≡ 0) where
-      pub window_out : within 1 1000 w ≡ false → 31 ≡ (set_cmn_window s z w).refusal
-      unfolding set_cmn_window window_tests
-      window_out f = then_first s z window_tests_is e h 0 (ap not f)
-
-      module _ (f : within 1 1000 w ≡ true) where
-        pub window_within : w ≤ s.longest → 0 ≡ (set_cmn_window s z w).refusal
-        unfolding set_cmn_window window_tests
-        window_within g = then_none s z window_tests_is e h (ap not f, (and_first (ltb s.longest w) _ (le-ltb _ _ g), tt))
-
-        pub window_gone : s.longest < w → s.longest ≤ s.mark → 32 ≡ (set_cmn_window s z w).refusal
-        unfolding set_cmn_window window_tests
-        window_gone g l = then_first s z window_tests_is e h 1 (ap not f, and_both (ltb s.longest w) _ (lt-ltb _ _ g) (lt-ltb s.longest (s.mark + 1) (omega arith)))
-
-        pub window_above : s.mark < s.longest → 0 ≡ (set_cmn_window s z w).refusal
-        unfolding set_cmn_window window_tests
-        window_above l = then_none s z window_tests_is e h (ap not f, (and_second (ltb s.longest w) _ (le-ltb s.longest (s.mark + 1) (omega arith)), tt))

@@ -7,88 +7,74 @@ ghost use Rattle.loops.specs.Lists.{build, any_of};
 ghost use Rattle.loops.specs.Refusal.{first_of};
 ghost use Rattle.loops.specs.Ring.{rows_in, place, put};
 ghost use Rattle.floats.specs.Operators.{◌+₆₄◌, at};
-ghost use Rattle.definition.specs.Machine.{frames_held, rows_held, push_tests};
-ghost use Rattle.definition.specs.Stream.{new_refusal, same_rings};
-ghost use Rattle.program.specs.Rooms.{rings_from, ring_lengths_of, ring_at};
+ghost use Rattle.definition.specs.Number.{refused_by};
+ghost use Rattle.definition.specs.Machine.{frames_held, rows_held, waiting_room, push_tests};
+ghost use Rattle.definition.specs.Stream.{new_refusal};
+ghost use Rattle.program.specs.Rooms.{ring_at};
+ghost use Rattle.program.specs.Lent.{rings_in};
 ghost use Rattle.program.specs.Calls.{record_tests, push_frame, update_frame_weights, set_cmn_window};
 
-use definition::{Dimensions, IvectorInfo, IvectorStream, RingLengths, RoomLengths, TableLengths};
+use definition::{
+    Dimensions, IvectorInfo, IvectorStream, LentFrames, LentWaiting, Refusal, RingLengths,
+    RoomLengths, TableLengths, need,
+};
 
 // ---- every call
 
-// Whether rings are lent that are not as long as the record's.
-fn other_rings(
-    s: IvectorStream,
-    frames: &[f32],
-    rows: &[f64],
-    waiting_frames: &[usize],
-    waiting_weights: &[f32],
-) -> bool
-    ensures { result ≡ not (same_rings (ring_lengths_of (rings_from frames.now rows.now waiting_frames.now waiting_weights.now)) s.lengths.rings) }
-{
-    let z = s.lengths;
-    let own = z.rings;
-    let lent = RingLengths {
-        frames: frames.len(),
-        rows: rows.len(),
-        waiting_frames: waiting_frames.len(),
-        waiting_weights: waiting_weights.len(),
-    };
-    !limits::same_rings(lent, own)
-}
-
-// Refusal 10 of every call, or 0.
+// Refusal 10 of every call: rings of other lengths than the record's, or a record that no call made.
+#[inline(always)]
+#[tactic(auto, unfolding(loops::specs::Refusal::first_of, definition::specs::Stream::same_rings))]
 pub fn plain_refusal(
-    s: IvectorStream,
-    frames: &[f32],
-    rows: &[f64],
-    waiting_frames: &[usize],
-    waiting_weights: &[f32],
-) -> usize
-    ensures { result ≡ first_of (record_tests s (rings_from frames.now rows.now waiting_frames.now waiting_weights.now)) }
+    s: &IvectorStream,
+    frames: LentFrames<'_>,
+    waiting: LentWaiting<'_>,
+) -> Result<(), Refusal>
+    ensures { refused_by result ≡ first_of (record_tests s.now (rings_in frames.entry waiting.entry)) }
 {
-    if other_rings(s, frames, rows, waiting_frames, waiting_weights) {
-        return 10;
-    }
-    if limits::is_broken(s, waiting_frames) {
-        return 10;
-    }
-    0
+    let lent = RingLengths {
+        frames: frames.frames.len(),
+        rows: frames.rows.len(),
+        waiting_frames: waiting.frames.len(),
+        waiting_weights: waiting.weights.len(),
+    };
+    need(lent == s.lengths.rings, Refusal::ForeignRecord)?;
+    need(
+        !limits::is_broken(s, waiting.frames),
+        Refusal::ForeignRecord,
+    )
 }
 
 // ---- a fresh stream
 
-pub fn new_refusal(info: IvectorInfo, tables: TableLengths, lengths: RoomLengths) -> usize
-    ensures { result ≡ new_refusal info tables lengths }
+#[tactic(auto, unfolding(loops::specs::Refusal::first_of, definition::specs::Stream::new_refusal, definition::specs::Stream::same_tables))]
+pub fn new_refusal(
+    info: IvectorInfo,
+    tables: TableLengths,
+    lengths: RoomLengths,
+) -> Result<(), Refusal>
+    ensures { refused_by result ≡ new_refusal info tables lengths }
 {
-    let t = info.tables;
-    let o = info.opts;
-    let d = info.dims;
-    if !limits::same_tables(tables, t) {
-        return 10;
-    }
-    if !limits::record_sound(info) {
-        return 10;
-    }
-    if !limits::tables_fit(o, d, t) {
-        return 8;
-    }
-    if limits::rooms_fit(d, lengths) { 0 } else { 8 }
+    need(tables == info.tables, Refusal::ForeignRecord)?;
+    need(limits::record_sound(info), Refusal::ForeignRecord)?;
+    need(
+        limits::tables_fit(info.opts, info.dims, info.tables),
+        Refusal::ShortRoom,
+    )?;
+    let fits = limits::rooms_fit(info.dims, lengths);
+    need(fits, Refusal::ShortRoom)
 }
 
 // ---- push
 
 // Whether there was one that is not finite, or x is not.
+#[inline(always)]
 fn or_not_finite(bad: bool, x: f32) -> bool
     ensures { result ≡ (bad || not (finite x)) }
 {
-    if bad {
-        return true;
-    }
-    !floats::is_finite(x)
+    bad || !floats::is_finite(x)
 }
 
-// No early exit: so the loop takes several at a time.
+// No early exit, and by index: so the loop takes several at a time. A fold over the numbers, which was tried, takes 31 instructions for four.
 fn any_not_finite(x: &[f32]) -> bool
     ensures { result ≡ any_of (λ v. not (finite v)) x.now }
 {
@@ -99,7 +85,8 @@ fn any_not_finite(x: &[f32]) -> bool
     bad
 }
 
-// Refusals 11 to 15 of a push, or 0. The record is not passed, so that it is not copied.
+// Refusals 11 to 15 of a push. The record is not passed, so that it is not copied.
+#[tactic(auto, unfolding(loops::specs::Refusal::first_of, definition::specs::Machine::push_tests))]
 fn push_tests(
     d: Dimensions,
     own: RingLengths,
@@ -107,60 +94,51 @@ fn push_tests(
     accepted: usize,
     mark: usize,
     frame: &[f32],
-) -> usize
+) -> Result<(), Refusal>
     requires { (0 < d.base_dim) × (d.base_dim ≤ 64) × (accepted ≤ 1000000000) × (mark ≤ 1000000000)
         × (frames_held accepted mark ≤ rows_in own.frames d.base_dim) × (rows_held longest accepted mark ≤ rows_in own.rows d.base_dim) }
-    ensures { result ≡ first_of (push_tests d own longest accepted mark frame.now) }
+    ensures { refused_by result ≡ first_of (push_tests d own longest accepted mark frame.now) }
 {
-    if frame.len() != d.base_dim {
-        return 11;
-    }
-    if any_not_finite(frame) {
-        return 12;
-    }
-    if accepted == 1000000000 {
-        return 13;
-    }
+    need(frame.len() == d.base_dim, Refusal::FrameLength)?;
+    need(!any_not_finite(frame), Refusal::FrameNumber)?;
+    need(accepted != 1000000000, Refusal::LastFrame)?;
     let frames_held = limits::frames_held(accepted, mark);
-    if own.frames < (frames_held + 1) * d.base_dim {
-        return 14;
-    }
+    need(
+        (frames_held + 1) * d.base_dim <= own.frames,
+        Refusal::FramesFull,
+    )?;
     let rows_held = limits::rows_held(longest, accepted, mark);
-    if own.rows < (rows_held + 1) * d.base_dim {
-        return 15;
-    }
-    0
+    need((rows_held + 1) * d.base_dim <= own.rows, Refusal::RowsFull)
 }
 
+#[inline(always)]
+#[tactic(auto, unfolding(loops::specs::Refusal::first_of, program::specs::Calls::push_frame))]
 pub fn push_refusal(
-    s: IvectorStream,
+    s: &IvectorStream,
     frame: &[f32],
-    frames: &[f32],
-    rows: &[f64],
-    waiting_frames: &[usize],
-    waiting_weights: &[f32],
-) -> usize
-    ensures { result ≡ (push_frame s (rings_from frames.now rows.now waiting_frames.now waiting_weights.now) frame.now).refusal }
+    frames: LentFrames<'_>,
+    waiting: LentWaiting<'_>,
+) -> Result<(), Refusal>
+    ensures { refused_by result ≡ (push_frame s.now (rings_in frames.entry waiting.entry) frame.now).refusal }
 {
-    let refusal = plain_refusal(s, frames, rows, waiting_frames, waiting_weights);
-    if refusal != 0 {
-        return refusal;
-    }
-    let i = s.info;
-    let d = i.dims;
-    let z = s.lengths;
-    let own = z.rings;
-    push_tests(d, own, s.longest, s.accepted, s.mark, frame)
+    plain_refusal(s, frames, waiting)?;
+    push_tests(
+        s.info.dims,
+        s.lengths.rings,
+        s.longest,
+        s.accepted,
+        s.mark,
+        frame,
+    )
 }
 
 // A frame stored from place a on.
+#[tactic(auto, using(loops::proofs::Std::put_std))]
 fn put_frame(frames: &mut [f32], a: usize, frame: &[f32])
     requires { a + length frame.now ≤ length frames.old }
     ensures { frames.new ≡ put a frame.now frames.old }
 {
-    for d in 0..frame.len() {
-        frames[a + d] = frame[d];
-    }
+    frames[a..a + frame.len()].copy_from_slice(frame);
 }
 
 // The prefix row at `last` and a frame, summed into the row at `next`. The frame is finite: so the cast needs no test of a NaN.
@@ -169,6 +147,7 @@ fn add_frame(rows: &mut [f64], last: usize, next: usize, frame: &[f32])
         × ((last + length frame.now ≤ next) ⊎ (next + length frame.now ≤ last)) × (any_of (λ v. not (finite v)) frame.now ≡ false) }
     ensures { rows.new ≡ put next (build (length frame.now) (λ d. at rows.old (last + d) +₆₄ at frame.now d)) rows.old }
 {
+    // By index: the row that is read and the one that is written lie in one slice, so no iterator over the one is held while the other is written.
     for d in 0..frame.len() {
         rows[next + d] = rows[last + d] + frame[d] as f64;
     }
@@ -191,144 +170,79 @@ pub fn store_frame(frames: &mut [f32], rows: &mut [f64], accepted: usize, frame:
     add_frame(rows, last, next, frame);
 }
 
-// ---- the exported push
-
-// `plain_refusal` with the record's test that is compiled into the exported push.
-fn plain_refusal_at_push(
-    s: IvectorStream,
-    frames: &[f32],
-    rows: &[f64],
-    waiting_frames: &[usize],
-    waiting_weights: &[f32],
-) -> usize
-    ensures { result ≡ first_of (record_tests s (rings_from frames.now rows.now waiting_frames.now waiting_weights.now)) }
-{
-    if other_rings(s, frames, rows, waiting_frames, waiting_weights) {
-        return 10;
-    }
-    if limits::is_broken_at_push(s, waiting_frames) {
-        return 10;
-    }
-    0
-}
-
-pub fn push_refusal_exported(
-    s: IvectorStream,
-    frame: &[f32],
-    frames: &[f32],
-    rows: &[f64],
-    waiting_frames: &[usize],
-    waiting_weights: &[f32],
-) -> usize
-    ensures { result ≡ (push_frame s (rings_from frames.now rows.now waiting_frames.now waiting_weights.now) frame.now).refusal }
-{
-    let refusal = plain_refusal_at_push(s, frames, rows, waiting_frames, waiting_weights);
-    if refusal != 0 {
-        return refusal;
-    }
-    let i = s.info;
-    let d = i.dims;
-    let z = s.lengths;
-    let own = z.rings;
-    push_tests(d, own, s.longest, s.accepted, s.mark, frame)
-}
-
 // ---- change
 
 // Whether a frame is `limit` or more.
+#[tactic(auto, unfolding(loops::specs::Lists::any_of))]
 fn any_from(frames: &[usize], limit: usize) -> bool
     ensures { result ≡ any_of (leb limit) frames.now }
 {
-    for i in 0..frames.len() {
-        if limit <= frames[i] {
-            return true;
-        }
-    }
-    false
+    frames.iter().any(|&f| limit <= f)
 }
 
 // Whether a frame less `left` is below `mark`.
+#[tactic(auto, unfolding(loops::specs::Lists::any_of))]
 fn any_below(frames: &[usize], left: usize, mark: usize) -> bool
     ensures { result ≡ any_of (λ f. ltb (f - left) mark) frames.now }
 {
-    for i in 0..frames.len() {
-        let first = basics::less(frames[i], left);
-        if first < mark {
-            return true;
-        }
-    }
-    false
+    frames.iter().any(|&f| f.saturating_sub(left) < mark)
 }
 
+// Whether the waiting room has places for n changes more.
+#[tactic(auto, using(crate::proofs::Refusals::room_is))]
+fn has_places(own: RingLengths, waiting: usize, n: usize) -> bool
+    ensures { result ≡ not (ltb (waiting_room own) (waiting + n)) }
+{
+    let room = own.waiting_frames.min(own.waiting_weights);
+    n <= room && waiting <= room - n
+}
+
+#[tactic(auto, unfolding(loops::specs::Refusal::first_of, program::specs::Calls::update_frame_weights, definition::specs::Machine::change_tests))]
 pub fn change_refusal(
-    s: IvectorStream,
+    s: &IvectorStream,
     delta_frames: &[usize],
     delta_weights: &[f32],
-    frames: &[f32],
-    rows: &[f64],
-    waiting_frames: &[usize],
-    waiting_weights: &[f32],
-) -> usize
-    ensures { result ≡ (update_frame_weights s (rings_from frames.now rows.now waiting_frames.now waiting_weights.now) delta_frames.now delta_weights.now).refusal }
+    frames: LentFrames<'_>,
+    waiting: LentWaiting<'_>,
+) -> Result<(), Refusal>
+    ensures { refused_by result
+        ≡ (update_frame_weights s.now (rings_in frames.entry waiting.entry) delta_frames.now delta_weights.now).refusal }
 {
-    let refusal = plain_refusal(s, frames, rows, waiting_frames, waiting_weights);
-    if refusal != 0 {
-        return refusal;
-    }
-    let i = s.info;
-    let o = i.opts;
-    let z = s.lengths;
-    let own = z.rings;
-    if delta_frames.len() != delta_weights.len() {
-        return 16;
-    }
-    if 384 < delta_frames.len() {
-        return 16;
-    }
-    if any_from(delta_frames, 1000000000) {
-        return 17;
-    }
-    if any_not_finite(delta_weights) {
-        return 17;
-    }
-    if any_below(delta_frames, 0, s.floor) {
-        return 30;
-    }
-    if any_below(delta_frames, o.left_context, s.mark) {
-        return 18;
-    }
-    let room = basics::smaller(own.waiting_frames, own.waiting_weights);
-    let free = basics::less(room, s.waiting);
-    if free < delta_frames.len() {
-        return 19;
-    }
-    0
+    plain_refusal(s, frames, waiting)?;
+    need(
+        delta_frames.len() == delta_weights.len() && delta_frames.len() <= 384,
+        Refusal::ChangeList,
+    )?;
+    need(
+        !any_from(delta_frames, 1000000000) && !any_not_finite(delta_weights),
+        Refusal::ChangeNumber,
+    )?;
+    need(!any_below(delta_frames, 0, s.floor), Refusal::Forgotten)?;
+    need(
+        !any_below(delta_frames, s.info.opts.left_context, s.mark),
+        Refusal::FrameGone,
+    )?;
+    need(
+        has_places(s.lengths.rings, s.waiting, delta_frames.len()),
+        Refusal::WaitingFull,
+    )
 }
 
 // ---- a new window
 
+#[tactic(auto, unfolding(loops::specs::Refusal::first_of, program::specs::Calls::set_cmn_window, definition::specs::Machine::window_tests))]
 pub fn window_refusal(
-    s: IvectorStream,
+    s: &IvectorStream,
     window: usize,
-    frames: &[f32],
-    rows: &[f64],
-    waiting_frames: &[usize],
-    waiting_weights: &[f32],
-) -> usize
-    ensures { result ≡ (set_cmn_window s (rings_from frames.now rows.now waiting_frames.now waiting_weights.now) window).refusal }
+    frames: LentFrames<'_>,
+    waiting: LentWaiting<'_>,
+) -> Result<(), Refusal>
+    ensures { refused_by result ≡ (set_cmn_window s.now (rings_in frames.entry waiting.entry) window).refusal }
 {
-    let refusal = plain_refusal(s, frames, rows, waiting_frames, waiting_weights);
-    if refusal != 0 {
-        return refusal;
-    }
-    if !limits::window_in_range(window) {
-        return 31;
-    }
-    if window <= s.longest {
-        return 0;
-    }
-    if s.longest <= s.mark {
-        return 32;
-    }
-    0
+    plain_refusal(s, frames, waiting)?;
+    need(limits::window_in_range(window), Refusal::WindowRange)?;
+    need(
+        window <= s.longest || s.mark < s.longest,
+        Refusal::OldWindow,
+    )
 }

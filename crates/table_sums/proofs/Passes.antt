@@ -1,7 +1,6 @@
 -- A room of n places, each with a counted loop of its own: code does some turns at all places before the next turns. A pass adds one
 -- to four rows, each number of rows by the one before it and a row more (`added_more`).
 use mathlib.Core.Path.{◌≡◌, sym, ap, ◌∙◌}
-use mathlib.Core.Bool.{Bool}
 use mathlib.Core.List.{List}
 use Prim.Native.Nat.{ℕ, ◌+◌, ◌-◌, ◌*◌, ◌≤◌, ◌<◌}
 use native.Mathlib.Omega.{arith}
@@ -16,7 +15,7 @@ use Rattle.loops.proofs.Loop.{iter_more}
 use Rattle.loops.proofs.From.{from-after}
 use Rattle.loops.proofs.Parts.{at_part}
 use Rattle.floats.specs.Operators.{◌+₃₂◌, ◌*₃₂◌, at, sum₃₂}
-use Rattle.table_sums.specs.Factor.{factor, row}
+use Rattle.table_sums.specs.Factor.{row}
 
 -- place m starts at what x has there, and turn k takes it through f m k
 module _ {A : Type 0} (d : A) (n : ℕ) (f : ℕ → ℕ → A → A) (x : List A) where
@@ -44,52 +43,52 @@ module _ {S : Type 0} (k : ℕ) (f : ℕ → S → S) (s : S) where
       let g : k + (i - k) ≡ i = omega arith in
       rw (h, iter_more _ _ (i - k)) (ap (λ (q : ℕ). f q (iter (i - k) (λ t. f (k + t)) s)) g)
 
--- rows of a table, n wide, each times its factor
-module _ (n : ℕ) (table x : List Float) (squared : Bool) (sum : List Float) where
-  term : (k m : ℕ) {r : List Float} {v : Float} → m < n → r ≡ row n table k → v ≡ factor squared (at x k) → at r m *₃₂ v ≡ at table (k * n + m) *₃₂ factor squared (at x k)
+-- rows of a table, n wide, each times what `times` makes of its number
+module _ (n : ℕ) (table x : List Float) (times : Float → Float) (sum : List Float) where
+  term : (k m : ℕ) {r : List Float} {v : Float} → m < n → r ≡ row n table k → v ≡ times (at x k) → at r m *₃₂ v ≡ at table (k * n + m) *₃₂ times (at x k)
   unfolding row
   term k m p e h = rw (e, h, at_part nan (k * n) n table m p)
 
   -- g m is place m with the rows from k to i added, one after the other
   abbrev Added : ℕ → ℕ → (ℕ → Float) → Type 0
-  Added k i g = (m : ℕ) → m < n → g m ≡ from k i (λ i a. a +₃₂ at table (i * n + m) *₃₂ factor squared (at x i)) (at sum m)
+  Added k i g = (m : ℕ) → m < n → g m ≡ from k i (λ i a. a +₃₂ at table (i * n + m) *₃₂ times (at x i)) (at sum m)
 
   -- no row, and a row more
   added_none : (k : ℕ) → Added k k (at sum)
   added_none k m p = sym (from_none k _ _)
 
-  added_more : (k i j : ℕ) {g : ℕ → Float} {r : List Float} {v : Float} → k ≤ i → j ≡ i + 1 → Added k i g → r ≡ row n table i → v ≡ factor squared (at x i)
+  added_more : (k i j : ℕ) {g : ℕ → Float} {r : List Float} {v : Float} → k ≤ i → j ≡ i + 1 → Added k i g → r ≡ row n table i → v ≡ times (at x i)
       → Added k j (λ m. g m +₃₂ at r m *₃₂ v)
   added_more k i j l q w e h m p = rw (w m p, term i m p e h) (sym (from_more k _ _ i j l q))
 
-  module _ (k : ℕ) {r0 : List Float} {v0 : Float} (e0 : r0 ≡ row n table k) (h0 : v0 ≡ factor squared (at x k)) where
+  module _ (k : ℕ) {r0 : List Float} {v0 : Float} (e0 : r0 ≡ row n table k) (h0 : v0 ≡ times (at x k)) where
     pub one-row : Added k (k + 1) (λ m. at sum m +₃₂ at r0 m *₃₂ v0)
     one-row = added_more k k (k + 1) (omega arith) (omega arith) (added_none k) e0 h0
 
-    module _ {r1 : List Float} {v1 : Float} (e1 : r1 ≡ row n table (k + 1)) (h1 : v1 ≡ factor squared (at x (k + 1))) where
+    module _ {r1 : List Float} {v1 : Float} (e1 : r1 ≡ row n table (k + 1)) (h1 : v1 ≡ times (at x (k + 1))) where
       pub two_rows : Added k (k + 2) (λ m. at sum m +₃₂ at r0 m *₃₂ v0 +₃₂ at r1 m *₃₂ v1)
       two_rows = added_more k (k + 1) (k + 2) (omega arith) (omega arith) one-row e1 h1
 
-      module _ {r2 : List Float} {v2 : Float} (e2 : r2 ≡ row n table (k + 2)) (h2 : v2 ≡ factor squared (at x (k + 2))) where
+      module _ {r2 : List Float} {v2 : Float} (e2 : r2 ≡ row n table (k + 2)) (h2 : v2 ≡ times (at x (k + 2))) where
         pub three_rows : Added k (k + 3) (λ m. at sum m +₃₂ at r0 m *₃₂ v0 +₃₂ at r1 m *₃₂ v1 +₃₂ at r2 m *₃₂ v2)
         three_rows = added_more k (k + 2) (k + 3) (omega arith) (omega arith) two_rows e2 h2
 
-        pub four_rows : {r3 : List Float} {v3 : Float} → r3 ≡ row n table (k + 3) → v3 ≡ factor squared (at x (k + 3))
+        pub four_rows : {r3 : List Float} {v3 : Float} → r3 ≡ row n table (k + 3) → v3 ≡ times (at x (k + 3))
             → Added k (k + 4) (λ m. at sum m +₃₂ at r0 m *₃₂ v0 +₃₂ at r1 m *₃₂ v1 +₃₂ at r2 m *₃₂ v2 +₃₂ at r3 m *₃₂ v3)
         four_rows = added_more k (k + 3) (k + 4) (omega arith) (omega arith) three_rows
 
   -- a pass over all places
-  pub pass_is : (k i : ℕ) {g : ℕ → Float} {y : List Float} → Added k i g → y ≡ fill n g sum → y ≡ fill n (λ m. from k i (λ i a. a +₃₂ at table (i * n + m) *₃₂ factor squared (at x i)) (at sum m)) sum
+  pub pass_is : (k i : ℕ) {g : ℕ → Float} {y : List Float} → Added k i g → y ≡ fill n g sum → y ≡ fill n (λ m. from k i (λ i a. a +₃₂ at table (i * n + m) *₃₂ times (at x i)) (at sum m)) sum
   pass_is k i w h = h ∙ fill_ext n _ _ sum w
 
   -- the rows below k are added, then those from k to r
   pub rows_turn : (k r : ℕ) {y z : List Float} → k ≤ r → length y ≡ n
-      → y ≡ fill n (λ m. sum₃₂ (at sum m) k (λ i. at table (i * n + m) *₃₂ factor squared (at x i))) sum
-      → z ≡ fill (length y) (λ m. from k r (λ i a. a +₃₂ at table (i * length y + m) *₃₂ factor squared (at x i)) (at y m)) y
-      → z ≡ fill n (λ m. sum₃₂ (at sum m) r (λ i. at table (i * n + m) *₃₂ factor squared (at x i))) sum
+      → y ≡ fill n (λ m. sum₃₂ (at sum m) k (λ i. at table (i * n + m) *₃₂ times (at x i))) sum
+      → z ≡ fill (length y) (λ m. from k r (λ i a. a +₃₂ at table (i * length y + m) *₃₂ times (at x i)) (at y m)) y
+      → z ≡ fill n (λ m. sum₃₂ (at sum m) r (λ i. at table (i * n + m) *₃₂ times (at x i))) sum
   rows_turn k r {y} l e g h =
-      pass_turn nan n (λ m i a. a +₃₂ at table (i * n + m) *₃₂ factor squared (at x i)) sum k r l g
-      (h ∙ ap (λ (n : ℕ). fill n (λ m. from k r (λ i a. a +₃₂ at table (i * n + m) *₃₂ factor squared (at x i)) (at y m)) y) e)
+      pass_turn nan n (λ m i a. a +₃₂ at table (i * n + m) *₃₂ times (at x i)) sum k r l g
+      (h ∙ ap (λ (n : ℕ). fill n (λ m. from k r (λ i a. a +₃₂ at table (i * n + m) *₃₂ times (at x i)) (at y m)) y) e)
 
 -- the sums from what a room of n places is given to start from: s m at place m
 pub rows_from : (n d : ℕ) (table : List Float) (v s : ℕ → Float) (room : List Float) {y z : List Float} → length room ≡ n → y ≡ fill n s room

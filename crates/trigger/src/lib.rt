@@ -4,12 +4,13 @@
 
 ghost use Rattle.std.specs.Prelude.{◌≡◌, false, length};
 ghost use Rattle.definition.specs.Model.{Tables, tables_from};
-ghost use Rattle.definition.specs.Silence.{table_rooms};
+ghost use Rattle.silence_weighting.specs.Rooms.{rooms_in, SameLoans};
 ghost use Rattle.program.specs.Rooms.{Rings, rings_from, estimate_from, Rooms, rooms_from};
 ghost use Rattle.trigger_steps.specs.Round.{Utterance, Voices, Bench, bench, with_rings, with_fetch, Round, round_from, ended, after, forgets, cut, pushed, push_all, frame_length, pushes, last_steps, round as round_of, worked};
 ghost use Rattle.trigger.specs.Answer.{round_answer};
 
 use definition::{IvectorStream, SilenceWeighting};
+use silence_weighting::{LentPath, SilenceRooms};
 use trigger_steps::{RoundOutcome, RoundResult};
 
 // What a round returns: how it ended, how many changes weighing gave, and the records for the next call.
@@ -226,9 +227,7 @@ pub fn round(
     silence: SilenceWeighting,
     start: usize,
     numbers: &[f32],
-    phones: &[i32],
-    starts: &[usize],
-    ends: &[usize],
+    path: LentPath<'_>,
     gconsts: &[f32],
     means_invvars_t: &[f32],
     inv_vars_t: &[f32],
@@ -247,9 +246,7 @@ pub fn round(
     current: &mut [f64],
     scratch: &mut [f64],
     silence_phones: &[i32],
-    known: &mut [bool],
-    is_silence: &mut [bool],
-    current_weight: &mut [f32],
+    table_rooms: &mut SilenceRooms<'_>,
     delta_frames: &mut [usize],
     delta_weights: &mut [f32],
     out: &mut [u32],
@@ -257,21 +254,22 @@ pub fn round(
     enrolled: &[u32],
     limit: f32,
 ) -> TriggerRound
-    ensures { (
+    ensures round { (
         let t : Tables = tables_from gconsts.now means_invvars_t.now inv_vars_t.now sigma_inv_m.now
         u.now lda_t.now lda_offset.now global_mean_stats.now in
         let z : Rooms = rooms_from (rings_from frames.old rows.old waiting_frames.old waiting_weights.old)
         (estimate_from cmvn_stats.old linear.old quadratic.old current.old) in
         let y : Rooms = rooms_from (rings_from frames.new rows.new waiting_frames.new waiting_weights.new)
         (estimate_from cmvn_stats.new linear.new quadratic.new current.new) in
-        let w : Utterance = record { start = start; numbers = numbers.now; phones = phones.now; starts = starts.now; ends = ends.now } in
+        let w : Utterance = record { start = start; numbers = numbers.now; phones = path.entry.phones.now; starts = path.entry.starts.now; ends = path.entry.ends.now } in
         let v : Voices = record { count = voices; enrolled = enrolled.now; limit = limit } in
-        let b : Bench = bench s z silence (table_rooms known.old is_silence.old current_weight.old)
+        let b : Bench = bench s z silence (rooms_in table_rooms.old)
         delta_frames.old delta_weights.old 0 out.old in
-        (round_from result.result (bench result.stream y result.silence (table_rooms known.new is_silence.new current_weight.new)
+        (round_from result.result (bench result.stream y result.silence (rooms_in table_rooms.new)
         delta_frames.new delta_weights.new result.changes out.new)
         ≡ round_of t (length scratch.old) silence_phones.now w v b)
         × (worked result.result ≡ false → scratch.new ≡ scratch.old)) }
+    ensures loans { SameLoans table_rooms.old table_rooms.new }
 {
     let heard = hear(
         s,
@@ -296,34 +294,32 @@ pub fn round(
         };
     }
     let ready = ivector_stream::num_frames_ready(pushed);
+    let mut table = silence;
     let weighed = trigger_steps::weigh_path(
-        silence,
+        &mut table,
         silence_phones,
-        known,
-        is_silence,
-        current_weight,
+        table_rooms,
         start,
-        phones,
-        starts,
-        ends,
+        path,
         ready,
         delta_frames,
         delta_weights,
     );
-    let table = weighed.silence;
-    let changes = weighed.changes;
-    if weighed.refusal != 0 {
-        let result = RoundResult::Refused {
-            refusal: weighed.refusal,
-            step: weighed.step,
-        };
-        return TriggerRound {
-            result,
-            changes,
-            stream: pushed,
-            silence: table,
-        };
-    }
+    let changes = match weighed {
+        Ok(n) => n,
+        Err(h) => {
+            let result = RoundResult::Refused {
+                refusal: h.refusal,
+                step: h.step.number(),
+            };
+            return TriggerRound {
+                result,
+                changes: 0,
+                stream: pushed,
+                silence: table,
+            };
+        }
+    };
     let c = ivector_stream::update_frame_weights(
         pushed,
         &delta_frames[..changes],

@@ -1,5 +1,5 @@
 -- The steps of a round, from what a call returned: each law takes the equation of a call's contract and says what the step is then.
-use Rattle.std.specs.Prelude.{if◌then◌else◌}
+use Rattle.std.specs.Prelude.{if◌then◌else◌, Result, Ok, Err, IfOk, IfErr}
 use mathlib.Core.Path.{◌≡◌, refl, sym, ap, ◌∙◌}
 use mathlib.Core.Bool.{true}
 use mathlib.Core.List.{List, [], ◌∷◌}
@@ -18,14 +18,21 @@ use Rattle.definition.specs.declared.StreamAnswer.{StreamAnswer}
 use Rattle.definition.specs.declared.StreamCall.{StreamCall}
 use Rattle.definition.specs.declared.SilenceWeighting.{SilenceWeighting}
 use Rattle.definition.specs.declared.SilenceAnswer.{SilenceAnswer}
+use Rattle.definition.specs.declared.refusal.Refusal.{Refusal}
+use Rattle.definition.specs.Number.{number_of as refusal_number, refused_by}
 use Rattle.definition.specs.Model.{Tables}
 use Rattle.definition.specs.Machine.{frames_held, rows_held}
 use Rattle.definition.specs.Silence.{input, decoder, TableRooms, table_call, table_done, compute_current_traceback, get_delta_weights, delta_tests, asked, table_in, table_broken, silence_answer}
 use Rattle.program.specs.Rooms.{Rings, EstimateRooms, Rooms, rooms_from}
 use Rattle.program.specs.Calls.{answer_from, answer_of, ring_call, done_on, fetch_call, fetched_on, push_frame, update_frame_weights, forget_before, get_frame}
+use Rattle.silence_weighting.specs.Rooms.{given_by}
+use Rattle.silence_weighting.proofs.Refusals.{numbered}
 use Rattle.nearest_voice.specs.declared.NearestVoice.{NearestVoice}
 use Rattle.nearest_voice.specs.declared.NearestVoice.TheVariants as N
 use Rattle.nearest_voice.specs.Voice.{nearest_voice}
+use Rattle.trigger_steps.specs.declared.Halt.{Halt}
+use Rattle.trigger_steps.specs.declared.Step.TheVariants as S
+use Rattle.trigger_steps.specs.Halts.{number_of, halted, step_in, refusal_in, given_in}
 use Rattle.trigger_steps.specs.declared.RoundResult.{RoundResult}
 use Rattle.trigger_steps.specs.declared.RoundResult.TheVariants as R
 use Rattle.trigger_steps.specs.Round.{Utterance, Voices, Bench, bench, with_rings, with_table, with_fetch, Round, round_from, done, ended, after, forgets, cut, pushed, push_all, frame_length, pushes, decoded, notes, ready, weighs, changes, fetches, result_of, finds, last_steps, round, worked}
@@ -134,13 +141,8 @@ module _ (q : SilenceWeighting) (t : TableRooms) (fs : List ℕ) (ws : List Floa
 -- both steps: a is what the traceback returned, w what the weighing did
 module _ (q : SilenceWeighting) (t : TableRooms) (fs : List ℕ) (ws : List Float) (ps : List ℤ) (u : Utterance) (k : ℕ) (k-is : k ≡ decoded u.ends) (a : SilenceAnswer) (y : TableRooms)
     (e : table_call a y [] [] ≡ table_done q t [] [] (compute_current_traceback q t ps u.phones u.starts u.ends (decoder k))) (b : Bench) (next : Bench → Round) where
-  noted : after 3 (notes ps u (with_table b q t fs ws 0)) (λ c. after 4 (weighs (ready c.stream) u.start c) next) ≡ ended 3 a.refusal (with_table b a.silence y fs ws 0) (λ c. after 4 (weighs (ready c.stream) u.start c) next)
+  pub noted : after 3 (notes ps u (with_table b q t fs ws 0)) (λ c. after 4 (weighs (ready c.stream) u.start c) next) ≡ ended 3 a.refusal (with_table b a.silence y fs ws 0) (λ c. after 4 (weighs (ready c.stream) u.start c) next)
   noted = ap (λ d. after 3 d (λ c. after 4 (weighs (ready c.stream) u.start c) next)) (note_is q t fs ws 0 a y ps u k b k-is e)
-
-  pub not_noted :
-      (a.refusal ≡ 0 → ⊥)
-      → after 3 (notes ps u (with_table b q t fs ws 0)) (λ c. after 4 (weighs (ready c.stream) u.start c) next) ≡ ended 3 a.refusal (with_table b a.silence y fs ws 0) next
-  not_noted h = noted ∙ stops _ _ _ _ h ∙ sym (stops _ _ _ next h)
 
   pub then_weighed :
       a.refusal ≡ 0 → (n : ℕ) → ready b.stream ≡ n → (w : SilenceAnswer) (y' : TableRooms) (fs' : List ℕ) (ws' : List Float)
@@ -150,6 +152,36 @@ module _ (q : SilenceWeighting) (t : TableRooms) (fs : List ℕ) (ws : List Floa
       noted ∙ goes_on 3 a.refusal (with_table b a.silence y fs ws 0) (λ c. after 4 (weighs (ready c.stream) u.start c) next) h
       ∙ ap (λ (j : ℕ). after 4 (weighs j u.start (with_table b a.silence y fs ws 0)) next) n_is
       ∙ ap (λ d. after 4 d next) (weigh_is a.silence y fs ws 0 w y' fs' ws' n u.start g b)
+
+-- the same by what the code has of the two calls: r and w, each at its step
+pub note_stopped : (r : Result Unit Refusal) (h : Halt) (b : Bench) (next next' : Bench → Round) → Err h ≡ halted S.Note r
+    → ended 3 (refused_by r) b next ≡ ended (number_of h.step) h.refusal b next'
+note_stopped (Ok u) h b next next' e = let z : ◌≡◌ {A = ℕ} 0 1 = cc in absurd (omega arith)
+note_stopped (Err d) h b next next' e =
+    let q : h ≡ record { refusal = refusal_number d; step = S.Note } = cc in
+    stops 3 (refusal_number d) b next (numbered d) ∙ sym (stops 3 (refusal_number d) b next' (numbered d)) ∙ ap (λ (h : Halt). ended (number_of h.step) h.refusal b next') (sym q)
+
+pub note_halt : (r : Result Unit Refusal) (h : Halt) → Err h ≡ halted S.Note r → 0 < h.refusal
+note_halt (Ok u) h e = let z : ◌≡◌ {A = ℕ} 0 1 = cc in absurd (omega arith)
+note_halt (Err d) h e = let q : h ≡ record { refusal = refusal_number d; step = S.Note } = cc in rw q (omega (arith, numbered d))
+
+pub note_went_on : (r : Result Unit Refusal) (u : Unit) → Ok u ≡ halted S.Note r → refused_by r ≡ 0
+note_went_on (Ok u) v e = refl
+note_went_on (Err d) v e = let z : ◌≡◌ {A = ℕ} 0 1 = cc in absurd (omega arith)
+
+pub weigh_ends : (w : Result ℕ Refusal) (f : ℕ → Bench) (next : Bench → Round)
+    → ended 4 (refused_by w) (f (given_by w)) next ≡ ended (step_in (halted S.Weigh w)) (refusal_in (halted S.Weigh w)) (f (given_in (halted S.Weigh w))) next
+unfolding ended
+weigh_ends (Ok n) f next = refl
+weigh_ends (Err e) f next = refl
+
+pub weigh_fits : (w : Result ℕ Refusal) (m : ℕ) → (refused_by w ≡ 0 → given_by w ≤ m) → IfOk (halted S.Weigh w) (λ n. n ≤ m)
+weigh_fits (Ok n) m h = h refl
+weigh_fits (Err e) m h = tt
+
+pub weigh_halt : (w : Result ℕ Refusal) → IfErr (halted S.Weigh w) (λ h. 0 < h.refusal)
+weigh_halt (Ok n) = tt
+weigh_halt (Err d) = omega (arith, numbered d)
 
 -- ---- 5
 

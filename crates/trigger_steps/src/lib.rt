@@ -2,12 +2,14 @@
 // (specs/Round.antt), with the laws of each; `trigger` has the rest of it.
 #![tactic(auto)]
 
-ghost use Rattle.std.specs.Prelude.{◌≡◌, List, ◌≤◌, length, Float};
-ghost use Rattle.definition.specs.Silence.{table_rooms};
+ghost use Rattle.std.specs.Prelude.{◌≡◌, List, ◌<◌, ◌≤◌, length, Float, IfOk, IfErr};
+ghost use Rattle.silence_weighting.specs.Rooms.{rooms_in, SameLoans};
 ghost use Rattle.trigger_steps.specs.Round.{Utterance, Bench, with_table, Round, ended, after, decoded as decoded_of, notes, ready as ready_of, weighs, result_of, round_outcome};
+ghost use Rattle.trigger_steps.specs.Halts.{number_of, halted, step_in, refusal_in, given_in};
 
-use definition::{DecoderFrame, InputFrame, SilenceWeighting};
+use definition::{DecoderFrame, InputFrame, Refusal, SilenceWeighting};
 use nearest_voice::NearestVoice;
+use silence_weighting::{LentPath, SilenceRooms};
 
 // How a round ends: with the nearest voice; with no vector, no frame being ready; or with a refusal's number and its step, 1 to 7.
 #[derive(Clone, Copy)]
@@ -31,86 +33,96 @@ pub struct RoundOutcome {
     pub distance: f32,
 }
 
+/// A step of a round.
+#[derive(Clone, Copy, Debug, PartialEq, Eq, Hash)]
+pub enum Step {
+    Forget = 1,
+    Push = 2,
+    Note = 3,
+    Weigh = 4,
+    Change = 5,
+    Fetch = 6,
+    Find = 7,
+}
+
+impl Step {
+    /// The number that the C interface gives.
+    pub fn number(self) -> usize
+        ensures { result ≡ number_of self }
+    {
+        self as usize
+    }
+}
+
+/// Where a refusal ended a round.
+#[derive(Clone, Copy, Debug, PartialEq, Eq)]
+pub struct Halt {
+    pub refusal: usize,
+    pub step: Step,
+}
+
+/// What a call of this step gave: its refusal ends the round there.
+pub fn at_step<T>(step: Step, r: Result<T, Refusal>) -> Result<T, Halt>
+    ensures { result ≡ halted step r }
+{
+    match r {
+        Ok(given) => Ok(given),
+        Err(e) => Err(Halt {
+            refusal: e.number(),
+            step,
+        }),
+    }
+}
+
 // The frames decoded.
+#[tactic(auto, unfolding(crate::specs::Round::decoded))]
 fn decoded(ends: &[usize]) -> usize
     ensures { result ≡ decoded_of ends.now }
 {
-    let mut last = 0;
-    for i in 0..ends.len() {
-        last = basics::larger(last, ends[i]);
-    }
-    last
+    ends.iter().fold(0, |last, &end| last.max(end))
 }
 
-// What steps 3 and 4 return: a refusal and its step, or 0, how many changes were given, and the record.
-#[derive(Clone, Copy)]
-pub struct Weighed {
-    pub refusal: usize,
-    pub step: usize,
-    pub changes: usize,
-    pub silence: SilenceWeighting,
-}
-
-// Steps 3 and 4: note the path, weigh. `ready` is the stream's ready count.
+/// Steps 3 and 4: note the path, weigh, and how many changes that gave. `ready` is the stream's ready count.
 pub fn weigh_path(
-    silence: SilenceWeighting,
+    silence: &mut SilenceWeighting,
     silence_phones: &[i32],
-    known: &mut [bool],
-    is_silence: &mut [bool],
-    current_weight: &mut [f32],
+    rooms: &mut SilenceRooms<'_>,
     start: usize,
-    phones: &[i32],
-    starts: &[usize],
-    ends: &[usize],
+    path: LentPath<'_>,
     ready: usize,
     delta_frames: &mut [usize],
     delta_weights: &mut [f32],
-) -> Weighed
-    ensures { (result.refusal ≡ 0 → (result.changes ≤ length delta_frames.old) × (result.changes ≤ length delta_weights.old)) × ((b : Bench) (xs : List Float) (next : Bench → Round) →
-        let u : Utterance = record { start = start; numbers = xs; phones = phones.now; starts = starts.now; ends = ends.now } in
+) -> Result<usize, Halt>
+    ensures frames { IfOk result (λ n. n ≤ length delta_frames.old) }
+    ensures weights { IfOk result (λ n. n ≤ length delta_weights.old) }
+    ensures halt { IfErr result (λ h. 0 < h.refusal) }
+    ensures steps { (b : Bench) (xs : List Float) (next : Bench → Round) →
+        let u : Utterance = record { start = start; numbers = xs; phones = path.entry.phones.now; starts = path.entry.starts.now; ends = path.entry.ends.now } in
         ready_of b.stream ≡ ready →
-        after 3 (notes silence_phones.now u (with_table b silence (table_rooms known.old is_silence.old current_weight.old) delta_frames.old delta_weights.old 0))
+        after 3 (notes silence_phones.now u (with_table b silence.old (rooms_in rooms.old) delta_frames.old delta_weights.old 0))
         (λ c. after 4 (weighs (ready_of c.stream) start c) next)
-        ≡ ended result.step result.refusal
-        (with_table b result.silence (table_rooms known.new is_silence.new current_weight.new) delta_frames.new delta_weights.new result.changes) next) }
+        ≡ ended (step_in result) (refusal_in result)
+        (with_table b silence.new (rooms_in rooms.new) delta_frames.new delta_weights.new (given_in result)) next }
+    ensures loans { SameLoans rooms.old rooms.new }
 {
-    let a = silence_weighting::compute_current_traceback(
+    let frames = DecoderFrame(decoded(path.ends));
+    let noted = silence_weighting::compute_current_traceback(
         silence,
         silence_phones,
-        known,
-        is_silence,
-        current_weight,
-        phones,
-        starts,
-        ends,
-        DecoderFrame(decoded(ends)),
+        rooms,
+        path,
+        frames,
     );
-    let noted = a.silence;
-    if a.refusal != 0 {
-        return Weighed {
-            refusal: a.refusal,
-            step: 3,
-            changes: 0,
-            silence: noted,
-        };
-    }
-    let w = silence_weighting::get_delta_weights(
-        noted,
-        known,
-        is_silence,
-        current_weight,
+    at_step(Step::Note, noted)?;
+    let weighed = silence_weighting::get_delta_weights(
+        silence,
+        rooms,
         InputFrame(ready),
         InputFrame(start),
         delta_frames,
         delta_weights,
     );
-    let weighed = w.silence;
-    Weighed {
-        refusal: w.refusal,
-        step: 4,
-        changes: w.changes,
-        silence: weighed,
-    }
+    at_step(Step::Weigh, weighed)
 }
 
 // The nearest voice as the result of a full round.

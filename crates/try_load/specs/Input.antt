@@ -3,7 +3,6 @@ use Rattle.std.specs.Prelude.{ℕ, ◌+◌, List, length, drop, eqb, leb, ltb, i
 use Rattle.definition.specs.Reader.{Got, read, refused, Parser, ◌>>=◌, ◌>>◌, give, need, run}
 use Rattle.definition.specs.Text.{digits, digits_value, space, skip}
 use Rattle.try_load.specs.Draws.{size_refusal}
-use Rattle.try_load.specs.declared.Asked.{Asked}
 
 -- blanks, and digits after them, one at least; so that two runs have a blank between them
 unfoldable pub a_number : Parser ℕ
@@ -16,6 +15,13 @@ a_number = do
 -- nothing more but blanks
 unfoldable pub closing : Parser (Unit {0})
 closing s i = need (leb (length s) (i + run space (drop i s))) 33 s i
+
+-- what is asked for: nothing where it is refused
+pub record Asked : Type 0 where
+  pub refusal : ℕ
+  pub seed : ℕ
+  pub dim : ℕ
+  pub count : ℕ
 
 abbrev pub asked_for : ℕ → ℕ → ℕ → ℕ → Asked
 asked_for r seed dim count = record { refusal = r; seed = seed; dim = dim; count = count }

@@ -1,16 +1,18 @@
 // A load to try it with: a generator, the calls that it draws into lent lists, and the program's input.
 #![tactic(auto)]
 
-ghost use Rattle.std.specs.Prelude.{◌≡◌, ℕ, ◌+◌, ◌-◌, ◌*◌, ◌%◌, ◌^◌, ◌<◌, ◌≤◌, min, length, take, drop, eqb, if◌then◌else◌};
+ghost use Rattle.std.specs.Prelude.{◌≡◌, ℕ, IfErr, ◌+◌, ◌-◌, ◌*◌, ◌%◌, ◌^◌, ◌<◌, ◌≤◌, length, eqb, if◌then◌else◌};
 ghost use Rattle.loops.specs.Lists.{build};
 ghost use Rattle.loops.specs.Refusal.{taken};
 ghost use Rattle.loops.specs.Ring.{put};
-ghost use Rattle.definition.specs.Text.{digits_value};
+ghost use Rattle.definition.specs.Number.{number_of as refusal_number, refused_by};
+ghost use Rattle.kaldi_text.specs.Got.{given};
 ghost use Rattle.try_load.specs.Draws.{draw as draw_of, draws, number_of, numbers_of, frame_of, weight_of, state_after, drawing_at, DrawnLists, drawn_lists, filled, size_refusal, list_refusal, fill_refusal};
-ghost use Rattle.try_load.specs.Input.{a_number, asked_for, asked_of};
-ghost use Rattle.try_load.specs.Steps.{FoundIn};
+ghost use Rattle.try_load.specs.Input.{a_number, asked_of};
+ghost use Rattle.try_load.specs.Steps.{capped, asked_by};
 
-use kaldi_text::{digit_value, skip_digits, skip_spaces};
+use definition::{Refusal, need};
+use kaldi_text::{TextReader, value_of};
 
 // The generator's next result, which is its state.
 pub fn draw(s: u32) -> u32
@@ -28,37 +30,29 @@ pub fn number(r: u32) -> f32
     ((r % 2001) as f32 - 1000.0) / 8.0
 }
 
-fn wide(r: u32) -> usize
-    ensures { result ≡ r }
-{
-    r as usize
-}
-
-// The frame of a call of a kind.
+// The frame of a call of a kind. A kind is any number: an enum of five would ask more of callers.
+#[tactic(auto, unfolding(crate::specs::Draws::frame_of))]
 pub fn frame_of(kind: u32, s: u32, pushes: usize) -> usize
     requires { pushes ≤ 10000 }
     ensures { result ≡ frame_of kind s pushes }
 {
-    if kind == 2 {
-        return wide(draw(s)) % (pushes + 16);
+    match kind {
+        2 => draw(s) as usize % (pushes + 16),
+        3 | 4 => draw(s) as usize % (pushes + 1),
+        _ => 0,
     }
-    if kind == 3 {
-        return wide(draw(s)) % (pushes + 1);
-    }
-    if kind == 4 {
-        return wide(draw(s)) % (pushes + 1);
-    }
-    0
 }
 
 // The weight of a call of a kind.
+#[tactic(auto, unfolding(crate::specs::Draws::weight_of, crate::specs::Draws::draws, loops::specs::Loop::iter))]
 pub fn weight_of(kind: u32, s: u32) -> f32
     ensures { result ≡ weight_of kind s }
 {
     if kind == 2 {
-        return number(draw(draw(s)));
+        number(draw(draw(s)))
+    } else {
+        0.0
     }
-    0.0
 }
 
 // The numbers of a push, from place `at` on.
@@ -88,6 +82,7 @@ fn skip(n: usize, s: u32) -> u32
     ensures { result ≡ draws n s }
 {
     let mut t = s;
+    // a range: a fold over numbers that are not used is no plainer
     for i in 0..n {
         t = draw(t);
     }
@@ -99,27 +94,20 @@ fn pushes_after(n: usize, kind: u32) -> usize
     requires { n < 10000 }
     ensures { (result ≡ n + (if eqb kind 0 then 1 else 0)) × (result ≤ n + 1) }
 {
-    if kind == 0 {
-        return n + 1;
-    }
-    n
+    if kind == 0 { n + 1 } else { n }
 }
 
 // The state after a call of a kind.
+#[tactic(auto, unfolding(crate::specs::Draws::state_after, crate::specs::Draws::draws, loops::specs::Loop::iter))]
 fn after(dim: usize, kind: u32, s: u32) -> u32
     ensures { result ≡ state_after dim kind s }
 {
-    if kind == 0 {
-        return skip(dim, s);
+    match kind {
+        0 => skip(dim, s),
+        1 => s,
+        2 => draw(draw(s)),
+        _ => draw(s),
     }
-    if kind == 1 {
-        return s;
-    }
-    let t = draw(s);
-    if kind == 2 {
-        return draw(t);
-    }
-    t
 }
 
 // Between two calls: the generator's state, and how many pushes were drawn.
@@ -151,6 +139,7 @@ fn pushes_of(seed: u32, dim: usize, count: usize) -> usize
         state: seed,
         pushes: 0,
     };
+    // a range: a fold over numbers that are not used is no plainer
     for i in 0..count {
         p = next_place(dim, p);
     }
@@ -159,32 +148,19 @@ fn pushes_of(seed: u32, dim: usize, count: usize) -> usize
 
 // ---- the lists
 
-// 33 where a size is outside its limits.
-pub fn size_refusal(seed: usize, dim: usize, count: usize) -> usize
-    ensures { result ≡ size_refusal seed dim count }
+/// 33 where a size is outside its limits.
+#[tactic(auto, unfolding(crate::specs::Draws::size_refusal, loops::specs::Refusal::first_of))]
+pub fn size_refusal(seed: usize, dim: usize, count: usize) -> Result<(), Refusal>
+    ensures value { refused_by result ≡ size_refusal seed dim count }
+    ensures one_number { IfErr result (λ e. refusal_number e ≡ 33) }
 {
-    if seed == 0 {
-        return 33;
-    }
-    if seed > 4294967295 {
-        return 33;
-    }
-    if dim == 0 {
-        return 33;
-    }
-    if dim > 64 {
-        return 33;
-    }
-    if count == 0 {
-        return 33;
-    }
-    if count > 10000 {
-        return 33;
-    }
-    0
+    need(0 < seed && seed <= 4_294_967_295, Refusal::TrySizes)?;
+    need(0 < dim && dim <= 64, Refusal::TrySizes)?;
+    need(0 < count && count <= 10_000, Refusal::TrySizes)
 }
 
 // 33 where a lent list is too short for what is drawn.
+#[tactic(auto, unfolding(crate::specs::Draws::list_refusal, loops::specs::Refusal::first_of))]
 fn list_refusal(
     seed: u32,
     dim: usize,
@@ -193,38 +169,17 @@ fn list_refusal(
     kinds: usize,
     named: usize,
     weights: usize,
-) -> usize
+) -> Result<(), Refusal>
     requires { (dim ≤ 64) × (count ≤ 10000) }
-    ensures { result ≡ list_refusal seed dim count frames kinds named weights }
+    ensures { refused_by result ≡ list_refusal seed dim count frames kinds named weights }
 {
-    let pushes = pushes_of(seed, dim, count);
-    if frames < pushes * dim {
-        return 33;
-    }
-    if kinds < count {
-        return 33;
-    }
-    if named < count {
-        return 33;
-    }
-    if weights < count {
-        return 33;
-    }
-    0
-}
-
-fn narrow(kind: u32) -> u8
-    requires { kind < 256 }
-    ensures { result ≡ kind }
-{
-    kind as u8
-}
-
-pub fn first_state(seed: usize) -> u32
-    requires { seed < 2 ^ 32 }
-    ensures { result ≡ seed }
-{
-    seed as u32
+    need(
+        pushes_of(seed, dim, count) * dim <= frames,
+        Refusal::TrySizes,
+    )?;
+    need(count <= kinds, Refusal::TrySizes)?;
+    need(count <= named, Refusal::TrySizes)?;
+    need(count <= weights, Refusal::TrySizes)
 }
 
 // All calls, into lists that are long enough.
@@ -246,19 +201,21 @@ fn fill_lists(
         state: seed,
         pushes: 0,
     };
+    // a range: three lists are written at one index, so an iterator over one is no plainer
     for i in 0..count {
         let s = draw(p.state);
         let kind = s % 5;
         put_numbers(dim, kind, s, frames, p.pushes * dim);
-        kinds[i] = narrow(kind);
+        kinds[i] = kind as u8;
         named[i] = frame_of(kind, s, p.pushes);
         weights[i] = weight_of(kind, s);
         p = next_place(dim, p);
     }
 }
 
-// From a seed, a base dimension and a count of calls: the frames of the pushes, and of each call its kind (0 push, 1 finish, 2 change, 3
-// forget, 4 fetch), its frame and its weight. The result is 0, or 33, and then nothing is written.
+#[tactic(auto, unfolding(crate::specs::Draws::fill_refusal))]
+/// From a seed, a base dimension and a count of calls: the frames of the pushes, and of each call its kind (0 push, 1 finish, 2 change, 3
+/// forget, 4 fetch), its frame and its weight. Where it is refused, with 33, nothing is written.
 pub fn fill(
     seed: usize,
     dim: usize,
@@ -267,18 +224,15 @@ pub fn fill(
     kinds: &mut [u8],
     named: &mut [usize],
     weights: &mut [f32],
-) -> usize
+) -> Result<(), Refusal>
     ensures { (
         let l : DrawnLists = drawn_lists frames.old kinds.old named.old weights.old in
-        (result ≡ fill_refusal seed dim count (length l.frames) (length l.kinds) (length l.named) (length l.weights))
-        × (drawn_lists frames.new kinds.new named.new weights.new ≡ taken result (filled dim seed count l) l)) }
+        (refused_by result ≡ fill_refusal seed dim count (length l.frames) (length l.kinds) (length l.named) (length l.weights))
+        × (drawn_lists frames.new kinds.new named.new weights.new ≡ taken (refused_by result) (filled dim seed count l) l)) }
 {
-    let size = size_refusal(seed, dim, count);
-    if size != 0 {
-        return size;
-    }
-    let state = first_state(seed);
-    let short = list_refusal(
+    size_refusal(seed, dim, count)?;
+    let state = seed as u32;
+    list_refusal(
         state,
         dim,
         count,
@@ -286,112 +240,43 @@ pub fn fill(
         kinds.len(),
         named.len(),
         weights.len(),
-    );
-    if short != 0 {
-        return short;
-    }
+    )?;
     fill_lists(state, dim, count, frames, kinds, named, weights);
-    0
+    Ok(())
 }
 
 // ---- the input
 
-// A number that was read: 2^32 stands for every higher one.
-#[derive(Clone, Copy)]
-pub struct Found {
-    pub missing: bool,
-    pub value: usize,
-    pub next: usize,
-}
-
-// The whole number that the digits of a part stand for, at most 2^32.
-fn value_of(s: &[u8], from: usize, to: usize) -> usize
-    requires { to ≤ length s.now }
-    ensures { result ≡ min (digits_value 0 (take (to - from) (drop from s.now))) (2 ^ 32) }
+// Blanks, and digits after them: 2^32 stands for every higher number.
+#[tactic(auto, unfolding(crate::specs::Input::a_number, loops::specs::Refusal::first_of))]
+fn read_number(r: &mut TextReader<'_>) -> Result<usize, Refusal>
+    ensures value { given result r.new.at ≡ capped (a_number r.old.src.now r.old.at) }
+    ensures same_bytes { r.new.src.now ≡ r.old.src.now }
 {
-    let mut x: usize = 0;
-    let mut i = from;
-    while i < to {
-        let y = x * 10 + digit_value(s[i]) as usize;
-        if y < 4294967296 {
-            x = y;
-        } else {
-            x = 4294967296;
-        }
-        i += 1;
-    }
-    x
+    r.skip_spaces();
+    let digits = r.digits();
+    need(!digits.is_empty(), Refusal::TrySizes)?;
+    Ok(value_of(digits, 0, 4_294_967_296) as usize)
 }
 
-// Blanks, and digits after them.
-fn read_number(s: &[u8], at: usize) -> Found
-    requires { at ≤ length s.now }
-    ensures { FoundIn (a_number s.now at) (length s.now) result }
-{
-    let from = skip_spaces(s, at);
-    let to = skip_digits(s, from);
-    if to == from {
-        return Found {
-            missing: true,
-            value: 0,
-            next: to,
-        };
-    }
-    Found {
-        missing: false,
-        value: value_of(s, from, to),
-        next: to,
-    }
-}
-
-// What a program's input asks for; or the refusal 33.
-#[derive(Clone, Copy)]
-pub struct Asked {
-    pub refusal: usize,
+/// What a program's input asks for.
+#[derive(Clone, Copy, Debug, PartialEq, Eq)]
+pub struct LoadSizes {
     pub seed: usize,
     pub dim: usize,
     pub count: usize,
 }
 
-fn unreadable() -> Asked
-    ensures { result ≡ asked_for 33 0 0 0 }
+/// Three numbers within their limits; 33 where the text is anything else.
+pub fn read_input(text: &[u8]) -> Result<LoadSizes, Refusal>
+    ensures { asked_by result ≡ asked_of text.now }
 {
-    Asked {
-        refusal: 33,
-        seed: 0,
-        dim: 0,
-        count: 0,
-    }
-}
-
-pub fn read_input(text: &[u8]) -> Asked
-    ensures { result ≡ asked_of text.now }
-{
-    if text.len() > 100 {
-        return unreadable();
-    }
-    let a = read_number(text, 0);
-    if a.missing {
-        return unreadable();
-    }
-    let b = read_number(text, a.next);
-    if b.missing {
-        return unreadable();
-    }
-    let c = read_number(text, b.next);
-    if c.missing {
-        return unreadable();
-    }
-    if skip_spaces(text, c.next) < text.len() {
-        return unreadable();
-    }
-    if size_refusal(a.value, b.value, c.value) != 0 {
-        return unreadable();
-    }
-    Asked {
-        refusal: 0,
-        seed: a.value,
-        dim: b.value,
-        count: c.value,
-    }
+    need(text.len() <= 100, Refusal::TrySizes)?;
+    let mut r = TextReader::new(text);
+    let seed = read_number(&mut r)?;
+    let dim = read_number(&mut r)?;
+    let count = read_number(&mut r)?;
+    need(r.is_done(), Refusal::TrySizes)?;
+    size_refusal(seed, dim, count)?;
+    Ok(LoadSizes { seed, dim, count })
 }

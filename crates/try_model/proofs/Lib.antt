@@ -1,2 +1,2 @@
--- Bytes written one after the other.
-pub mod Written
+-- How long the files are.
+pub mod Lengths

@@ -162,9 +162,9 @@ pub fn play(
         × ((q ≡ 0 → ⊥) → scratch.new ≡ scratch.old)) }
 {
     let dim = info.dims.base_dim;
-    let size = try_load::size_refusal(seed, dim, times);
-    if size != 0 {
-        return no_totals(size);
+    match try_load::size_refusal(seed, dim, times) {
+        Err(e) => return no_totals(e.number()),
+        Ok(()) => {}
     }
     let made = ivector_stream::new(
         info,
@@ -190,7 +190,7 @@ pub fn play(
         NewStream::Refused(number) => no_totals(number),
         NewStream::Stream(c) => {
             let s = c.stream;
-            let state = try_load::first_state(seed);
+            let state = seed as u32;
             let mut lists = [0usize; 1];
             let mut samples = [0.0f32; 64];
             let mut outs = [0u32; 1];

@@ -20,33 +20,3 @@ returns c =
     let args = c.args in
     let h = c.loop-a.invariant in
     updated nan (λ k (v : Float). v +₆₄ args.w *₆₄ at args.x.now k) _ _ _ h.0 c.loop-a-test.false h.1 h.3
-
-pub loop-a-init : goal.loop-a-init
-loop-a-init c = search loops
-
-pub offset_bounds-x-a : goal.offset_bounds-x-a
-offset_bounds-x-a c = search loops
-
-pub bounds-x-a : goal.bounds-x-a
-bounds-x-a c = search loops
-
-pub f32_to_f64_with_nan-requires : goal.f32_to_f64_with_nan-requires
-f32_to_f64_with_nan-requires c = search loops
-
-pub offset_bounds-row-a : goal.offset_bounds-row-a
-offset_bounds-row-a c = search loops
-
-pub bounds-row-a : goal.bounds-row-a
-bounds-row-a c = search loops
-
-pub bounds-row-a-in-loop-a : goal.bounds-row-a-in-loop-a
-bounds-row-a-in-loop-a c = search loops
-
-pub overflow_step-a : goal.overflow_step-a
-overflow_step-a c = search loops
-
-pub loop-a-smaller : goal.loop-a-smaller
-loop-a-smaller c = search loops
-
-pub shape_of-row : goal.shape_of-row
-shape_of-row c = search loops

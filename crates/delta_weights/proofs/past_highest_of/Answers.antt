@@ -8,14 +8,14 @@ use Rattle.loops.proofs.Folds.{fold_turn, fold_end}
 use Rattle.loops.proofs.Tests.{none_at}
 use Rattle.delta_weights.proofs.past_highest_of.Goals as goal
 
-pub overflow_add-delta_frames : goal.overflow_add-delta_frames
-overflow_add-delta_frames c =
-    let args = c.args in
-    let loop = c.loop-i in
-    omega (arith, leb-false 1000000000 (get_or args.delta_frames.now loop.i 0) (none_at (leb 1000000000) 0 args.delta_frames.now loop.i c.requires c.loop-i-test.true))
+pub overflow_add-f : goal.overflow_add-f
+overflow_add-f c =
+    let xs = c.args.delta_frames.now in
+    let i = c.loop-f.f-index in
+    omega (arith, leb-false 1000000000 (get_or xs i 0) (none_at (leb 1000000000) 0 xs i c.requires c.loop-f-test.true))
 
-pub loop-i-preserved : goal.loop-i-preserved
-loop-i-preserved c = (omega arith, fold_turn _ 0 _ _ c.loop-i-test.true c.larger-past.ensures c.loop-i.invariant.1)
+pub loop-f-preserved : goal.loop-f-preserved
+loop-f-preserved c = fold_turn _ 0 _ _ c.loop-f-test.true c.max-past.ensures c.loop-f.invariant
 
 pub returns : goal.returns
-returns c = fold_end _ _ _ c.loop-i-test.false c.loop-i.invariant.1
+returns c = fold_end _ _ _ c.loop-f-test.false c.loop-f.invariant

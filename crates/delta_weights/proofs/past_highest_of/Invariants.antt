@@ -2,12 +2,9 @@
 -- (`fold_turn` in loops/proofs/Folds.antt).
 use mathlib.Core.Path.{◌≡◌}
 use mathlib.Core.List.{foldl}
-use Prim.Native.Nat.{◌+◌, ◌-◌, ◌≤◌, max}
+use Prim.Native.Nat.{◌+◌, max}
 use lib.ListN.{drop}
 use Rattle.delta_weights.proofs.past_highest_of.Given as goal
 
-abbrev pub invariant-loop-i : goal.invariant-loop-i
-invariant-loop-i l = (l.i ≤ l.m) × (foldl (λ n f. max n (f + 1)) l.past (drop l.i l.delta_frames) ≡ foldl (λ n f. max n (f + 1)) l.past_highest l.delta_frames)
-
-abbrev pub decreases-loop-i : goal.decreases-loop-i
-decreases-loop-i l = l.m - l.i
+abbrev pub invariant-loop-f : goal.invariant-loop-f
+invariant-loop-f l = foldl (λ n f. max n (f + 1)) l.past (drop l.f-index l.delta_frames) ≡ foldl (λ n f. max n (f + 1)) l.past_highest l.delta_frames

@@ -2,19 +2,22 @@
 -- definition's (`loglikes_is`, both in Likelihoods.antt).
 use native.Mathlib.Omega.{arith}
 use borrow.Author.Rules.{rules}
+use Rattle.loops.proofs.Std.{fill_whole}
 use Rattle.floats.specs.Operators.{◌*₃₂◌, at}
 use Rattle.diag_gmm.proofs.Likelihoods.{table_in_lem, sums_are, loglikes_is}
 use Rattle.diag_gmm.proofs.loglikes.Goals as goal
 
-pub add_rows-requires : goal.add_rows-requires
-add_rows-requires c = let p = c.requires in (table_in_lem _ _ _ _ (omega arith) p.2, search rules)
+pub add_rows-requires-clause-in_table : goal.add_rows-requires-clause-in_table
+add_rows-requires-clause-in_table c = table_in_lem _ _ _ _ (omega arith) c.requires.2
 
-pub add_rows-requires-2 : goal.add_rows-requires-2
-add_rows-requires-2 c = let p = c.requires in (table_in_lem _ _ _ _ (omega arith) p.3, search rules)
+pub add_rows-requires-2-clause-in_table : goal.add_rows-requires-2-clause-in_table
+add_rows-requires-2-clause-in_table c = table_in_lem _ _ _ _ (omega arith) c.requires.3
 
 pub returns : goal.returns
 returns c =
     let a = c.args in
     let p = c.requires in
-    loglikes_is _ _ _ _ _ _ (sums_are _ _ _ (at a.x.now) a.out.now p.0 c.clear.ensures c.add_rows.ensures)
-    (sums_are _ _ _ (λ k. at a.x.now k *₃₂ at a.x.now k) a.b.now p.1 c.clear-2.ensures c.add_rows-2.ensures) c.add_constants.ensures
+    loglikes_is _ _ _ _ _ _
+    (sums_are _ _ _ (at a.x.now) a.out.now p.0 (fill_whole _ _ _ (c.fill.ensures.after (λ y e. e))) (c.add_rows.ensures (λ v. v) (λ v r h. search rules)))
+    (sums_are _ _ _ (λ k. at a.x.now k *₃₂ at a.x.now k) a.b.now p.1 (fill_whole _ _ _ (c.fill-2.ensures.after (λ y e. e))) (c.add_rows-2.ensures (λ v. v *₃₂ v) (λ v r h. search rules)))
+    c.add_constants.ensures

@@ -4,12 +4,6 @@ use mathlib.Core.Path.{ap, ◌∙◌}
 use Rattle.answers.specs.Answers.{load_answer}
 use Rattle.exports.proofs.shofrakin_load.Goals as goal
 
-pub load-a-requires : goal.load-a-requires
-load-a-requires c = search rules
-
-pub load_answer-requires : goal.load_answer-requires
-load_answer-requires c = search rules
-
 pub shape_of-gconsts : goal.shape_of-gconsts
 shape_of-gconsts c = c.load-a.auto.gconsts
 

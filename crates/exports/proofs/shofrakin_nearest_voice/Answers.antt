@@ -4,11 +4,5 @@ use mathlib.Core.Path.{ap, ◌∙◌}
 use Rattle.nearest_voice.specs.Voice.{voice_answer}
 use Rattle.exports.proofs.shofrakin_nearest_voice.Goals as goal
 
-pub nearest_voice-a-requires : goal.nearest_voice-a-requires
-nearest_voice-a-requires c = search rules
-
-pub voice_answer-requires : goal.voice_answer-requires
-voice_answer-requires c = search rules
-
 pub returns : goal.returns
 returns c = c.voice_answer.ensures ∙ ap voice_answer c.nearest_voice-a.ensures

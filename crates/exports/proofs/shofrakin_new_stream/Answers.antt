@@ -4,12 +4,6 @@ use mathlib.Core.Path.{ap, ◌∙◌}
 use Rattle.answers.specs.Answers.{new_stream_answer}
 use Rattle.exports.proofs.shofrakin_new_stream.Goals as goal
 
-pub new-a-requires : goal.new-a-requires
-new-a-requires c = search rules
-
-pub stream_answer-requires : goal.stream_answer-requires
-stream_answer-requires c = search rules
-
 pub shape_of-rows : goal.shape_of-rows
 shape_of-rows c = c.new-a.auto.rows
 

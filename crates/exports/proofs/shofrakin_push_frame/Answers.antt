@@ -11,4 +11,4 @@ unfolding push_frame
 returns c =
     let s = c.args.s.now in
     let z = rings_from c.args.frames.now c.args.rows.now c.args.waiting_frames.now c.args.waiting_weights.now in
-    ring_stored (λ (t : IvectorStream). record s { accepted = t.accepted }) s z (push_frame s z c.args.frame.now) c.push_frame_exported-c.ensures refl refl
+    ring_stored (λ (t : IvectorStream). record s { accepted = t.accepted }) s z (push_frame s z c.args.frame.now) c.push_frame-c.ensures refl refl

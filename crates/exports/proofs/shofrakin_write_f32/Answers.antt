@@ -1,17 +1,18 @@
--- `shofrakin_write_f32` meets its contract: the record of what `write_f32` answers, by the two calls' contracts.
+-- `shofrakin_write_f32` meets its contract: what `write` answers at f32, as a record; each number stands for itself in the parameters (`as_they_are`).
 use borrow.Author.Rules.{rules}
-use mathlib.Core.Path.{ap, ◌∙◌}
-use Rattle.model_bytes.specs.Written.{written_answer}
+use mathlib.Core.Path.{◌≡◌, ap, ◌∙◌}
+use lib.ListN.{length}
+use lib.Ieee.{binary32}
+use Rattle.model_bytes.specs.Written.{Params, written, written_out, written_answer}
+use Rattle.model_bytes.specs.Lent.{written_of}
+use Rattle.exports.proofs.Params.{as_they_are}
 use Rattle.exports.proofs.shofrakin_write_f32.Goals as goal
 
-pub write_f32-a-requires : goal.write_f32-a-requires
-write_f32-a-requires c = search rules
-
-pub written_answer-requires : goal.written_answer-requires
-written_answer-requires c = search rules
-
-pub shape_of-out : goal.shape_of-out
-shape_of-out c = search rules
-
 pub returns : goal.returns
-returns c = (c.written_answer.ensures ∙ ap written_answer c.write_f32-a.ensures.0, c.write_f32-a.ensures.1)
+returns c =
+    let a = c.args in
+    let same = as_they_are a.sizes a.weights.now a.means_invvars.now a.inv_vars.now a.m.now a.sigma_inv.now a.prior_offset a.lda.now in
+    let told : c.from.result ≡ written_answer (written_of c.write.result) = search rules in (
+      told ∙ ap written_answer (c.write.ensures.answer ∙ ap (λ (p : Params). written binary32 a.opts a.cmvn.now p (length a.out.now)) same),
+      c.write.ensures.bytes ∙ ap (λ (p : Params). written_out binary32 a.opts a.cmvn.now p a.out.now) same,
+    )

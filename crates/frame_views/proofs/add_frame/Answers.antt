@@ -17,7 +17,7 @@ returns c =
     let a = c.args in
     let n = length a.out.now in (
       c.fetch_frame.ensures.0,
-      c.add_rows.ensures
+      c.add_rows.ensures (λ v. v) (λ v r h. search rules)
           ∙ ap (λ (z : List Float). fill n (λ r. sum₃₂ (at a.out.now r) a.dim (λ c. at a.part.now (c * n + r) *₃₂ at z c)) a.out.now)
           (viewed_on _ _ _ _ _ _ _ _ c.fetch_frame.ensures.1 (c.spliced_row-row.ensures.0 _ c.requires.t_lt_accepted.3.frame)),
     )

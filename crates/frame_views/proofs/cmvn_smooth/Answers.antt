@@ -5,7 +5,7 @@ use Rattle.frame_views.proofs.cmvn_smooth.Goals as goal
 pub returns-then-cur_count-window : goal.returns-then-cur_count-window
 returns-then-cur_count-window c =
     smooth_true _ _ _ _ c.nearest_u64_to_f64-window.ensures c.requires.1
-    c.if-cur_count-window.true c.nearest_u64_to_f64.ensures c.min_f64-from_global.ensures c.add_scaled.ensures
+    c.if-cur_count-window.true c.nearest_u64_to_f64.ensures c.min-from_global.ensures c.add_scaled.ensures
 
 pub returns-else-cur_count-window : goal.returns-else-cur_count-window
 returns-else-cur_count-window c = smooth_false _ _ _ _ c.nearest_u64_to_f64-window.ensures c.if-cur_count-window.false

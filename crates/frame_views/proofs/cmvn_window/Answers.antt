@@ -19,7 +19,7 @@ returns-then-raw-o c =
     let a = c.args in
     let pre = c.requires.dim_nonzero in
     let placed = c.requires.placed in
-    let lo = c.less-lo.ensures in
+    let lo = c.saturating_sub-lo.ensures in
     window_true _ _ _ _ _ _ _ pre.0 (c.frame-raw.ensures.is _ pre.1 placed.frame) pre.3
     c.if-raw-o.true lo (c.prefix.ensures.is _ pre.2 (placed.last refl))
     (c.prefix-then-raw-o.ensures.is _ pre.2 (placed.first refl ∙ ap (place (length a.rows.now) a.dim) (sym lo)))

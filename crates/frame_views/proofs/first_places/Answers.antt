@@ -9,7 +9,7 @@ returns-then-normalized c =
     record {
       frame = c.row_place-here.ensures;
       last = λ e. c.row_place.ensures;
-      first = λ e. c.row_place-then-normalized.ensures ∙ ap (place a.rows a.dim) c.less.ensures;
+      first = λ e. c.row_place-then-normalized.ensures ∙ ap (place a.rows a.dim) c.saturating_sub.ensures;
     }
 
 pub returns : goal.returns

@@ -35,7 +35,7 @@ overflow_mul-size c =
 pub first_places-p-requires : goal.first_places-p-requires
 first_places-p-requires c =
     let p = c.requires.lent in
-    (p.some, p.frame_room_is, p.row_room_is, omega (arith, c.less-u.ensures, c.requires.t_lt_accepted.0, p.few))
+    (p.some, p.frame_room_is, p.row_room_is, omega (arith, c.saturating_sub-u.ensures, c.requires.t_lt_accepted.0, p.few))
 
 pub loop-n-init : goal.loop-n-init
 loop-n-init c =
@@ -47,7 +47,7 @@ loop-n-init c =
       refl,
       spliced_none _ _ _ _ _ _ _,
       lda_start _ _ _ _ _ _ _ a.d a.lda_t.now a.lda_offset.now a.out.now q.6 c.copy_offset.ensures,
-      splice_first a.o a.accepted a.t q.0 c.less-u.ensures,
+      splice_first a.o a.accepted a.t q.0 c.saturating_sub-u.ensures,
       c.first_places-p.ensures,
     )
 

@@ -4,4 +4,4 @@ use Rattle.frame_views.proofs.SplicedRows.{splice_at_on}
 use Rattle.frame_views.proofs.splice_at.Goals as goal
 
 pub returns : goal.returns
-returns c = (splice_at_on _ _ _ _ c.less.ensures c.smaller.ensures, omega arith)
+returns c = (splice_at_on _ _ _ _ c.saturating_sub.ensures c.min.ensures, omega arith)

@@ -35,18 +35,3 @@ loop-i-preserved c =
 pub returns : goal.returns
 unfolding add_diagonal
 returns c = search loops
-
-pub loop-i-init : goal.loop-i-init
-loop-i-init c = search loops
-
-pub packed_index-place-requires : goal.packed_index-place-requires
-packed_index-place-requires c = search loops
-
-pub overflow_step-i : goal.overflow_step-i
-overflow_step-i c = search loops
-
-pub loop-i-smaller : goal.loop-i-smaller
-loop-i-smaller c = search loops
-
-pub shape_of-quadratic : goal.shape_of-quadratic
-shape_of-quadratic c = search loops

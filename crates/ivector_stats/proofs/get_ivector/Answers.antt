@@ -13,7 +13,7 @@ raise-requires c =
 pub linear_cgd-requires : goal.linear_cgd-requires
 linear_cgd-requires c =
     let p = c.requires in
-    (p.1, omega (arith, p.3), omega (arith, p.2), c.raise.auto.ivector ∙ p.4, p.5)
+    record { few = p.1; b_long = omega (arith, p.2); x_long = c.raise.auto.ivector ∙ p.4; scratch_long = p.5 }
 
 pub returns-then-num_frames : goal.returns-then-num_frames
 returns-then-num_frames c =

@@ -5,4 +5,4 @@ use Rattle.floats.specs.Operators.{◌/₆₄◌}
 use Rattle.ivector_stats.proofs.prior_scale.Goals as goal
 
 pub returns : goal.returns
-returns c = ap (λ (v : Float). v /₆₄ c.args.max_count) c.max_f64.ensures
+returns c = ap (λ (v : Float). v /₆₄ c.args.max_count) c.max.ensures

@@ -1,5 +1,4 @@
 -- `ivector_stream::lowest` meets its contract: in frames in order the first is the lowest.
-use borrow.Author.Rules.{rules}
 use native.Mathlib.Omega.{arith}
 use Rattle.ivector_stream.proofs.Taken.{lowest_none, lowest_first}
 use Rattle.ivector_stream.proofs.lowest.Goals as goal
@@ -7,11 +6,5 @@ use Rattle.ivector_stream.proofs.lowest.Goals as goal
 pub returns-then-n-eq0 : goal.returns-then-n-eq0
 returns-then-n-eq0 c = lowest_none _ _ _ c.if-n-eq0.true
 
-pub bounds-waiting_frames-0 : goal.bounds-waiting_frames-0
-bounds-waiting_frames-0 c = search rules
-
-pub smaller-requires : goal.smaller-requires
-smaller-requires c = search rules
-
 pub returns : goal.returns
-returns c = lowest_first _ _ _ (omega arith) c.requires.0 c.requires.1 c.smaller.ensures
+returns c = lowest_first _ _ _ (omega arith) c.requires.0 c.requires.1 c.min.ensures

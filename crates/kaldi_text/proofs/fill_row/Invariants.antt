@@ -1,4 +1,4 @@
--- `fill_row` meets its contract. The loop's invariant: the rest of the row stands at p, and the first i places hold its first i numbers. That
+-- `fill_row` meets its contract. The loop's invariant: the rest of the row stands where the reader is, and the first i places hold its first i numbers. That
 -- a number is there at every turn, since the text was checked, is `number_there`; a turn is `row_rest` and `number_value` (Rows.antt).
 use mathlib.Core.Path.{◌≡◌}
 use Prim.Native.Nat.{◌-◌, ◌≤◌}
@@ -12,8 +12,9 @@ use Rattle.kaldi_text.specs.Answers.{cells}
 use Rattle.kaldi_text.proofs.fill_row.Given as goal
 
 abbrev pub invariant-loop-i : goal.invariant-loop-i
-invariant-loop-i l = (l.i ≤ l.n) × (length l.out ≡ l.n) × (l.n ≡ length l.initial.out) × (l.p ≤ length l.s) × (row (66 - l.i) l.s l.p ≡ read (drop l.i (cells (line l.s l.from))) (place_of (line l.s l.from)))
-    × (l.out ≡ fill l.i (at (cells (line l.s l.from))) l.initial.out)
-
-abbrev pub decreases-loop-i : goal.decreases-loop-i
-decreases-loop-i l = l.n - l.i
+invariant-loop-i l = record {
+  same_length : length l.out ≡ length l.initial.out;
+  same_bytes : l.r.src.now ≡ l.s;
+  rest : row (66 - l.i) l.s l.r.at ≡ read (drop l.i (cells (line l.s l.from))) (place_of (line l.s l.from));
+  filled : l.out ≡ fill l.i (at (cells (line l.s l.from))) l.initial.out;
+}

@@ -21,8 +21,7 @@ passes p n j y t e f g = ap (λ (q : Float). ahead (0, p) (0, q)) (sym (back_in 
 
 pub returns-then-leads : goal.returns-then-leads
 returns-then-leads c =
-    let s = c.slide.ensures in
-    (s.0, s.1, record { most = omega arith; front = λ k h. absurd (not-suc-le-zero h); here = c.leads.ensures c.if-leads.true })
+    (c.slide.ensures, c.slide-then-leads.ensures, record { most = omega arith; front = λ k h. absurd (not-suc-le-zero h); here = c.leads.ensures c.if-leads.true })
 
 pub loop-j-init : goal.loop-j-init
 loop-j-init c = (c.fours-j.ensures.most, refl, refl, λ z y h l m. m)

@@ -1,17 +1,14 @@
 -- `leading::slide` meets its contract. The loop's invariant: sliding what is in hand from place j on gives what sliding from the first place gives
--- (`slid_turn`, `slid_end` in Sliding.antt).
+-- (`slid_next`, `slid_end` in Sliding.antt).
 use native.Mathlib.Omega.{arith}
 use borrow.Author.Rules.{rules}
-use Rattle.leading.proofs.Sliding.{slid_turn, slid_end}
+use Rattle.leading.proofs.Sliding.{slid_next, slid_end}
 use Rattle.leading.proofs.slide.Goals as goal
 
 pub loop-j-preserved : goal.loop-j-preserved
-loop-j-preserved c =
+loop-j-preserved g c =
     let l = c.loop-j in
-    let t = c.loop-j-test.true in
-    (search rules, search rules, slid_turn _ _ _ _ _ t (omega arith) l.invariant.2, slid_turn _ _ _ _ _ t (omega arith) l.invariant.3)
+    record { long = search rules; rest = slid_next _ _ _ _ _ c.loop-j-test.true (omega arith) c.index-room-j.is l.invariant.rest }
 
 pub returns : goal.returns
-returns c =
-    let l = c.loop-j in
-    (slid_end _ _ _ _ c.loop-j-test.false l.invariant.2, slid_end _ _ _ _ c.loop-j-test.false l.invariant.3)
+returns g c = slid_end _ _ _ _ c.loop-j-test.false c.loop-j.invariant.rest

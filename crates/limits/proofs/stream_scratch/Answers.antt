@@ -1,15 +1,10 @@
--- A fetch's scratch is the larger of two products, each within a word by the ranges of dimensions, which are required.
+-- Each of the two products is within a word by the ranges of dimensions, which are required.
 use native.Mathlib.Omega.{arith}
 use Rattle.definition.proofs.Ranges.{dim_products}
-use Rattle.definition.specs.Stream.{stream_scratch}
 use Rattle.limits.proofs.stream_scratch.Goals as goal
 
 pub overflow_mul-d : goal.overflow_mul-d
-overflow_mul-d c = omega (arith, dim_products _ (c.requires))
+overflow_mul-d c = omega (arith, dim_products _ c.requires)
 
 pub overflow_mul-d-2 : goal.overflow_mul-d-2
-overflow_mul-d-2 c = omega (arith, dim_products _ (c.requires))
-
-pub returns : goal.returns
-unfolding stream_scratch
-returns c = c.larger.ensures
+overflow_mul-d-2 c = omega (arith, dim_products _ c.requires)

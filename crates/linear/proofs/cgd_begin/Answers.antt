@@ -1,14 +1,19 @@
--- `linear::cgd_begin` meets its contract: what the four steps leave is the definition's start (`begin_is` in Turns.antt), where the square is a's
--- (`square_product` in packed_matrix/proofs/Square.antt).
-use mathlib.Core.Path.{◌∙◌}
+-- `linear::cgd_begin` meets its contract: what the four steps leave is the definition's start (`begin_is` in Turns.antt).
+use mathlib.Core.Path.{ap, ◌∙◌}
+use Prim.Native.Nat.{ℕ}
+use lib.Ieee.{neg}
+use Rattle.loops.specs.Lists.{build}
 use Rattle.loops.proofs.Fill.{fill_whole}
-use Rattle.packed_matrix.proofs.Square.{square_product}
-use Rattle.linear.proofs.Turns.{begin_is, begun_k}
+use Rattle.floats.specs.Operators.{at}
+use Rattle.linear.proofs.Turns.{begin_is, begun_k, dot_whole}
 use Rattle.linear.proofs.cgd_begin.Goals as goal
 
 pub returns : goal.returns
 returns c =
-    let product = c.weighted_rows.ensures in (
-      λ a h. begin_is a _ _ _ (square_product _ a _ h product) (c.difference.ensures ∙ fill_whole _ _ _ c.requires.4) c.negated.ensures c.dot.ensures c.new.ensures,
-      begun_k c.new.ensures,
-    )
+    let p = c.difference.new.out in
+    let negatives = c.negated.ensures ∙ ap (λ (m : ℕ). build m (λ i. neg (at p i))) (c.difference.auto.out ∙ c.requires.p_long) in
+    let long = c.negated.auto.r ∙ c.requires.r_long in
+    record {
+      begun = λ a h. begin_is a _ _ _ (c.times.ensures a h) (c.difference.ensures ∙ fill_whole _ _ _ c.requires.p_long) negatives (dot_whole _ _ _ long long c.dot.ensures) c.new.ensures;
+      no_turn = begun_k c.new.ensures;
+    }

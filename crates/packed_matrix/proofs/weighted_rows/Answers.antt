@@ -4,6 +4,7 @@ use mathlib.Core.Path.{sym, ◌∙◌}
 use Prim.Native.Nat.{◌+◌}
 use native.Mathlib.Nat.{le_of_eq}
 use native.Mathlib.Omega.{arith}
+use lib.ListN.{length}
 use Rattle.loops.specs.Lists.{build}
 use Rattle.loops.proofs.Loop.{at_end}
 use Rattle.packed_matrix.proofs.Square.{sum_of, front_in, length_sums, one_turn, four_turn}
@@ -11,56 +12,53 @@ use Rattle.packed_matrix.proofs.weighted_rows.Goals as goal
 
 pub loop-k-init : goal.loop-k-init
 loop-k-init c =
+    let a = c.args in
     let e = c.begin_sums-k.ensures in
-    (e.0, length_sums c.args.s c.args.w c.args.rows.now c.args.x.now c.begin_sums-k.result e.1, e.1)
+    record { most = e.few; long = length_sums a.s (length a.out.now) a.rows.now a.x.now c.begin_sums-k.result e.sums; sums = e.sums }
 
 pub row_at-r0-requires : goal.row_at-r0-requires
-row_at-r0-requires c = front_in c.loop-k.k c.args.d c.args.s c.args.w _ c.requires.0 c.requires.1 (omega arith)
+row_at-r0-requires c = front_in (c.loop-k.k) (length c.args.x.now) c.args.s (length c.args.out.now) _ c.requires.apart c.requires.rows_in (omega arith)
 
 pub row_at-r1-requires : goal.row_at-r1-requires
-row_at-r1-requires c = front_in (c.loop-k.k + 1) c.args.d c.args.s c.args.w _ c.requires.0 c.requires.1 (omega arith)
+row_at-r1-requires c = front_in (c.loop-k.k + 1) (length c.args.x.now) c.args.s (length c.args.out.now) _ c.requires.apart c.requires.rows_in (omega arith)
 
 pub row_at-r2-requires : goal.row_at-r2-requires
-row_at-r2-requires c = front_in (c.loop-k.k + 2) c.args.d c.args.s c.args.w _ c.requires.0 c.requires.1 (omega arith)
+row_at-r2-requires c = front_in (c.loop-k.k + 2) (length c.args.x.now) c.args.s (length c.args.out.now) _ c.requires.apart c.requires.rows_in (omega arith)
 
 pub row_at-r3-requires : goal.row_at-r3-requires
-row_at-r3-requires c = front_in (c.loop-k.k + 3) c.args.d c.args.s c.args.w _ c.requires.0 c.requires.1 (omega arith)
+row_at-r3-requires c = front_in (c.loop-k.k + 3) (length c.args.x.now) c.args.s (length c.args.out.now) _ c.requires.apart c.requires.rows_in (omega arith)
 
 pub add_four-requires : goal.add_four-requires
 add_four-requires c =
-    let e = sym c.loop-k.invariant.1 in
+    let e = sym c.loop-k.invariant.long in
     (c.row_at-r0.ensures.1 ∙ e, c.row_at-r1.ensures.1 ∙ e, c.row_at-r2.ensures.1 ∙ e, c.row_at-r3.ensures.1 ∙ e)
-
-pub overflow_add-k-in-loop-k-6 : goal.overflow_add-k-in-loop-k-6
-overflow_add-k-in-loop-k-6 c = omega (arith, c.loop-k-test.true, c.loop-k.invariant.0, c.requires.2, c.ranges)
 
 pub loop-k-preserved : goal.loop-k-preserved
 loop-k-preserved c =
     let a = c.args in
-    let e = four_turn a.s a.w a.rows.now a.x.now c.loop-k.k c.loop-k.invariant.2 c.row_at-r0.ensures.0 c.row_at-r1.ensures.0
+    let w = length a.out.now in
+    let e = four_turn a.s w a.rows.now a.x.now c.loop-k.k c.loop-k.invariant.sums c.row_at-r0.ensures.0 c.row_at-r1.ensures.0
     c.row_at-r2.ensures.0 c.row_at-r3.ensures.0 c.add_four.ensures in
-    (omega (arith, c.loop-k-test.true, c.loop-k.invariant.0), length_sums a.s a.w a.rows.now a.x.now (c.loop-k.k + 4) e, e)
-
-pub loop-k-2-init : goal.loop-k-2-init
-loop-k-2-init c = c.loop-k.invariant
+    record { most = omega arith; long = length_sums a.s w a.rows.now a.x.now (c.loop-k.k + 4) e; sums = e }
 
 pub row_at-r-requires : goal.row_at-r-requires
-row_at-r-requires c = front_in c.loop-k-2.k c.args.d c.args.s c.args.w _ c.requires.0 c.requires.1 c.loop-k-2-test.true
+row_at-r-requires c = front_in c.loop-i.i (length c.args.x.now) c.args.s (length c.args.out.now) _ c.requires.apart c.requires.rows_in (omega arith)
 
 pub add_scaled-requires : goal.add_scaled-requires
-add_scaled-requires c = le_of_eq (c.loop-k-2.invariant.1 ∙ sym c.row_at-r.ensures.1)
+add_scaled-requires c = le_of_eq (c.loop-i.invariant.long ∙ sym c.row_at-r.ensures.1)
 
-pub loop-k-2-preserved : goal.loop-k-2-preserved
-loop-k-2-preserved c =
+pub loop-i-preserved : goal.loop-i-preserved
+loop-i-preserved c =
     let a = c.args in
-    let e = one_turn a.s a.w a.rows.now a.x.now c.loop-k-2.k c.loop-k-2.invariant.2 c.row_at-r.ensures.0 c.add_scaled.ensures in
-    (omega (arith, c.loop-k-2-test.true), length_sums a.s a.w a.rows.now a.x.now (c.loop-k-2.k + 1) e, e)
+    let w = length a.out.now in
+    let e = one_turn a.s w a.rows.now a.x.now c.loop-i.i c.loop-i.invariant.sums c.row_at-r.ensures.0 c.add_scaled.ensures in
+    record { most = omega arith; long = length_sums a.s w a.rows.now a.x.now (c.loop-i.i + 1) e; sums = e }
 
 pub shape_of-out : goal.shape_of-out
-shape_of-out c = c.loop-k-2.invariant.1 ∙ sym c.requires.3
+shape_of-out c = c.loop-i.invariant.long
 
 pub returns : goal.returns
 returns c =
     let a = c.args in
-    let h = c.loop-k-2.invariant in
-    at_end (λ k. build a.w (sum_of a.s a.rows.now a.x.now k)) _ _ h.0 c.loop-k-2-test.false h.2
+    let h = c.loop-i.invariant in
+    at_end (λ k. build (length a.out.now) (sum_of a.s a.rows.now a.x.now k)) _ _ h.most (omega arith) h.sums

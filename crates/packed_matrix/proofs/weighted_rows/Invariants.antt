@@ -8,13 +8,18 @@ use Rattle.packed_matrix.proofs.Square.{sum_of}
 use Rattle.packed_matrix.proofs.weighted_rows.Given as goal
 
 abbrev pub invariant-loop-k : goal.invariant-loop-k
-invariant-loop-k l = (l.k ≤ l.d) × (length l.out ≡ l.w) × (l.out ≡ build l.w (sum_of l.s l.rows l.x l.k))
+invariant-loop-k l = record {
+  most : l.k ≤ length l.x;
+  long : length l.out ≡ l.w;
+  sums : l.out ≡ build l.w (sum_of l.s l.rows l.x l.k);
+}
 
 abbrev pub decreases-loop-k : goal.decreases-loop-k
-decreases-loop-k l = l.d - l.k
+decreases-loop-k l = length l.x - l.k
 
-abbrev pub invariant-loop-k-2 : goal.invariant-loop-k-2
-invariant-loop-k-2 l = (l.k ≤ l.d) × (length l.out ≡ l.w) × (l.out ≡ build l.w (sum_of l.s l.rows l.x l.k))
-
-abbrev pub decreases-loop-k-2 : goal.decreases-loop-k-2
-decreases-loop-k-2 l = l.d - l.k
+abbrev pub invariant-loop-i : goal.invariant-loop-i
+invariant-loop-i l = record {
+  most : l.i ≤ length l.x;
+  long : length l.out ≡ l.w;
+  sums : l.out ≡ build l.w (sum_of l.s l.rows l.x l.i);
+}

@@ -2,27 +2,26 @@
 -- g are counted, so that the sum is in range (laws in Counting.antt).
 use mathlib.Core.Path.{refl}
 use native.Mathlib.Omega.{arith}
-use borrow.Author.Rules.{rules}
 use lib.Ieee.{ne}
 use Rattle.floats.specs.Operators.{at}
 use Rattle.posteriors.proofs.Counting.{byte-few, count_turn, count_end}
 use Rattle.posteriors.proofs.count_nans.Goals as goal
 
 pub loop-g-init : goal.loop-g-init
-loop-g-init c = (search rules, omega arith, omega arith)
+loop-g-init c = (omega arith, omega arith)
 
 pub overflow_add-nans : goal.overflow_add-nans
 overflow_add-nans c =
     let l = c.loop-g in
     let x = at c.args.loglikes.now l.g in
-    omega (arith, byte-few (ne x x), l.invariant.1)
+    omega (arith, byte-few (ne x x), l.invariant.0)
 
 pub loop-g-preserved : goal.loop-g-preserved
 loop-g-preserved c =
     let l = c.loop-g in
     let ls = c.args.loglikes.now in
     let x = at ls l.g in
-    (search rules, omega (arith, byte-few (ne x x), l.invariant.1), count_turn ls l.g l.nans (omega arith) refl l.invariant.2)
+    (omega (arith, byte-few (ne x x), l.invariant.0), count_turn ls l.g l.nans (omega arith) refl l.invariant.1)
 
 pub returns : goal.returns
-returns c = count_end c.args.loglikes.now c.loop-g.g c.loop-g.nans (omega arith) c.loop-g.invariant.2
+returns c = count_end c.args.loglikes.now c.loop-g.g c.loop-g.nans (omega arith) c.loop-g.invariant.1

@@ -1,20 +1,26 @@
--- `posteriors::gather` meets its contract. The loop's invariant: held are the first of those that pass in front of g; g passes and p is its likelihood; the next
--- that passes is `after` (`gather_none`, `gather_turn`, `gather_end` in Gathering.antt). What is held falls, as `insert` asks (`gathered_falls`).
+-- `posteriors::gather` meets its contract. The loop's invariant: held are the first of those that pass in front of g; g passes and p is its likelihood
+-- (`gather_none`, `gather_turn`, `gather_end` in Gathering.antt). What is held falls, as `insert` asks (`gathered_falls`).
 use mathlib.Core.Path.{◌≡◌}
-use mathlib.Core.Bool.{true, ◌||◌}
-use Prim.Native.Nat.{◌+◌, ◌-◌, ◌≤◌, ◌<◌}
+use mathlib.Core.Bool.{true}
+use Prim.Native.Nat.{◌-◌, ◌≤◌, ◌<◌}
 use lib.ListN.{length}
-use lib.Ieee.{lt}
 use Rattle.floats.specs.Operators.{◌-₃₂◌, at}
 use Rattle.floats.specs.Exp.{exp_of}
 use Rattle.leading.specs.Steps.{held}
-use Rattle.posteriors.specs.Steps.{Next}
+use Rattle.posteriors.specs.Steps.{passes}
 use Rattle.posteriors.proofs.Gathering.{passing, gathered}
 use Rattle.posteriors.proofs.gather.Given as goal
 
 abbrev pub invariant-loop-after : goal.invariant-loop-after
-invariant-loop-after l = (l.g < length l.loglikes) × (l.n ≤ l.num_gselect) × (length l.chosen ≡ length l.initial.chosen) × (length l.posts ≡ length l.initial.posts) × ((l.all || lt l.cutoff (at l.loglikes l.g)) ≡ true) × (l.p ≡ exp_of (at l.loglikes l.g -₃₂ l.max_like))
-    × Next (λ i. l.all || lt l.cutoff (at l.loglikes i)) (l.g + 1) (length l.loglikes) l.after × (held l.n l.chosen l.posts ≡ gathered l.num_gselect (passing l.all l.cutoff) l.max_like l.loglikes l.g)
+invariant-loop-after l = record {
+  in_list : l.g < length l.loglikes;
+  most : l.n ≤ l.num_gselect;
+  chosen_long : length l.chosen ≡ length l.initial.chosen;
+  posts_long : length l.posts ≡ length l.initial.posts;
+  passes_here : passes l.cutoff (at l.loglikes l.g) ≡ true;
+  likely : l.p ≡ exp_of (at l.loglikes l.g -₃₂ l.max_like);
+  are_held : held l.n l.chosen l.posts ≡ gathered l.num_gselect (passing l.cutoff) l.max_like l.loglikes l.g;
+}
 
 abbrev pub decreases-loop-after : goal.decreases-loop-after
 decreases-loop-after l = length l.loglikes - l.g

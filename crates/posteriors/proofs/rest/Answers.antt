@@ -1,19 +1,12 @@
--- `posteriors::rest` meets its contract. The loop's invariant: the largest so far, folded over what is left, is the fold over all.
-use borrow.Author.Rules.{rules}
-use mathlib.Core.Path.{refl}
-use native.Mathlib.Omega.{arith}
-use lib.Ieee.{nan}
-use Rattle.loops.proofs.Folds.{fold_turn, fold_end}
+-- `posteriors::rest` meets its contract: the library folds as the definition does (`fold_is` in Folds.antt).
+use Rattle.std.proofs.Common.{rules}
+use Rattle.std.proofs.lemmas.Iterator.{YieldsList-from_slice}
+use Rattle.std.proofs.lemmas.Iterator.Consumers.{fold_from_yields_List}
+use mathlib.Core.Path.{◌∙◌}
 use Rattle.posteriors.specs.Steps.{above, top}
+use Rattle.posteriors.proofs.Folds.{fold_is}
 use Rattle.posteriors.proofs.rest.Goals as goal
-
-pub loop-g-init : goal.loop-g-init
-loop-g-init c = (search rules, refl)
-
-pub loop-g-preserved : goal.loop-g-preserved
-unfolding top
-loop-g-preserved c = (search rules, fold_turn above nan c.args.loglikes.now c.loop-g.g (omega arith) c.above-max_like.ensures c.loop-g.invariant.1)
 
 pub returns : goal.returns
 unfolding top
-returns c = fold_end above c.args.loglikes.now c.loop-g.g (omega arith) c.loop-g.invariant.1
+returns c = fold_from_yields_List _ above _ _ c.fold.ensures.ran (YieldsList-from_slice c.args.loglikes.now (cc)) (λ a x b q k. search rules) ∙ fold_is above c.args.m c.args.loglikes.now

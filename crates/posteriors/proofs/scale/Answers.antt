@@ -12,27 +12,3 @@ returns c =
     let a = c.args in
     iter_end _ _ _ a.n c.loop-i.invariant.0 c.loop-i-test.false c.loop-i.invariant.2
     ∙ iter_fill nan (λ k (x : Float). x *₃₂ a.v) a.n a.posts.now (omega arith)
-
-pub loop-i-init : goal.loop-i-init
-loop-i-init c = search loops
-
-pub offset_bounds-posts-i : goal.offset_bounds-posts-i
-offset_bounds-posts-i c = search loops
-
-pub bounds-posts-i : goal.bounds-posts-i
-bounds-posts-i c = search loops
-
-pub bounds-posts-i-in-loop-i : goal.bounds-posts-i-in-loop-i
-bounds-posts-i-in-loop-i c = search loops
-
-pub overflow_step-i : goal.overflow_step-i
-overflow_step-i c = search loops
-
-pub loop-i-smaller : goal.loop-i-smaller
-loop-i-smaller c = search loops
-
-pub loop-i-preserved : goal.loop-i-preserved
-loop-i-preserved c = search loops
-
-pub shape_of-posts : goal.shape_of-posts
-shape_of-posts c = search loops

@@ -1,24 +1,10 @@
--- `posteriors::total` meets its contract. The loop's invariant: the sum of the first i, from -0.0 on.
-use Rattle.loops.proofs.Loop.{loops}
+-- `posteriors::total` meets its contract: the library adds in order, from -0.0 on (`fold_sum` in Folds.antt).
+use Rattle.std.proofs.lemmas.Iterator.{YieldsList-from_slice}
+use Rattle.std.proofs.lemmas.Iterator.Adapters.{total_from_yields_List}
+use mathlib.Core.Path.{◌∙◌}
+use Rattle.floats.specs.Operators.{◌+₃₂◌}
+use Rattle.posteriors.proofs.Folds.{fold_sum}
 use Rattle.posteriors.proofs.total.Goals as goal
 
-pub loop-i-init : goal.loop-i-init
-loop-i-init c = search loops
-
-pub offset_bounds-posts-i : goal.offset_bounds-posts-i
-offset_bounds-posts-i c = search loops
-
-pub bounds-posts-i : goal.bounds-posts-i
-bounds-posts-i c = search loops
-
-pub overflow_step-i : goal.overflow_step-i
-overflow_step-i c = search loops
-
-pub loop-i-smaller : goal.loop-i-smaller
-loop-i-smaller c = search loops
-
-pub loop-i-preserved : goal.loop-i-preserved
-loop-i-preserved c = search loops
-
 pub returns : goal.returns
-returns c = search loops
+returns c = total_from_yields_List ◌+₃₂◌ _ _ c.sum.ensures.ran (YieldsList-from_slice c.args.posts.now (cc)) ∙ fold_sum _ c.args.posts.now

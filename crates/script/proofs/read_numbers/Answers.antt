@@ -10,28 +10,13 @@ pub loop-i-init : goal.loop-i-init
 unfolding numbers_read
 loop-i-init c = (search rules, refl, place_none 10 _ _, room-none _ _)
 
-pub number-x-requires : goal.number-x-requires
-number-x-requires c = tt
-
-pub set_number-requires : goal.set_number-requires
-set_number-requires c = tt
-
-pub overflow_step-i : goal.overflow_step-i
-overflow_step-i c = search rules
-
-pub loop-i-smaller : goal.loop-i-smaller
-loop-i-smaller c = search rules
-
 pub loop-i-preserved : goal.loop-i-preserved
 unfolding numbers_read
 loop-i-preserved c =
     let inv = c.loop-i.invariant in
     let read = c.number-x.ensures in
     let item = item_is 10 _ _ _ inv.2 read in
-    (search rules, search rules, place_turn 10 _ _ _ inv.2 read, room-turn _ _ _ inv.3 c.set_number.ensures item)
-
-pub shape_of-items : goal.shape_of-items
-shape_of-items c = search rules
+    (search rules, search rules, place_turn 10 _ _ _ inv.2 read, room-turn _ _ _ inv.3 c.put.ensures item)
 
 pub returns : goal.returns
 returns c =

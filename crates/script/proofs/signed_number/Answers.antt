@@ -2,20 +2,8 @@
 use Rattle.script.proofs.Scanning.{signed_minus, signed_plain}
 use Rattle.script.proofs.signed_number.Goals as goal
 
-pub byte_at-requires : goal.byte_at-requires
-byte_at-requires c = tt
-
-pub step-requires : goal.step-requires
-step-requires c = tt
-
-pub number-n-requires : goal.number-n-requires
-number-n-requires c = tt
-
 pub returns-then-byte_at-eq45 : goal.returns-then-byte_at-eq45
 returns-then-byte_at-eq45 c = signed_minus _ _ c.byte_at.ensures c.if-byte_at-eq45.true c.step.ensures c.number-n.ensures
-
-pub number-n-requires-2 : goal.number-n-requires-2
-number-n-requires-2 c = tt
 
 pub returns : goal.returns
 returns c = signed_plain _ _ c.byte_at.ensures c.if-byte_at-eq45.false c.number-n-2.ensures

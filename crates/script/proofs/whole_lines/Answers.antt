@@ -6,8 +6,5 @@ use Rattle.script.proofs.whole_lines.Goals as goal
 pub returns-then-n-text : goal.returns-then-n-text
 returns-then-n-text c = (whole_all _ _ c.if-n-text.true, search rules)
 
-pub lines_end-requires : goal.lines_end-requires
-lines_end-requires c = tt
-
 pub returns : goal.returns
-returns c = (whole_full _ _ c.if-n-text.false c.lines_end.ensures.0, c.lines_end.ensures.1)
+returns c = (whole_full _ _ c.if-n-text.false c.lines_end.ensures.end, c.lines_end.ensures.bound)

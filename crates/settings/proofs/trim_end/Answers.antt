@@ -1,18 +1,17 @@
--- `trim_end` meets its contract. The loop's invariant: without its blanks at the end, the text up to n is the whole text without them.
-use mathlib.Core.Path.{◌∙◌}
-use native.Mathlib.Omega.{arith}
-use Rattle.settings.proofs.Lines.{trim_turn, trim_stop, trim-all, trim-none}
-use borrow.Author.Rules.{rules}
+-- `trim_end` meets its contract: what `take_while` counts from the back is std's `suffix_len` (`end_trimmed` in Lines.antt).
+use Rattle.std.proofs.Common.{ℕ, ◌-◌, List, length, take, reverse, ap, ◌∙◌, rules, tests}
+use Rattle.std.proofs.lemmas.Iterator.Adapters.{YieldsList-from_rev_slice}
+use Rattle.std.proofs.lemmas.Iterator.Consumers.{count_from_yields_List}
+use Rattle.std.proofs.lemmas.Iterator.Search.{YieldsList-from_take_while}
+use Rattle.std.proofs.lemmas.List.Folds.{length-prefix_len}
+use Rattle.definition.specs.Text.{space}
+use Rattle.settings.proofs.Lines.{end_trimmed}
 use Rattle.settings.proofs.trim_end.Goals as goal
 
-pub loop-n-init : goal.loop-n-init
-loop-n-init c = (search rules, trim-all _)
-
-pub loop-n-preserved : goal.loop-n-preserved
-loop-n-preserved c = (omega arith, trim_turn c.args.s.now c.loop-n.n (omega arith) (omega arith) c.is_space.ensures c.if-is_space.true ∙ c.loop-n.invariant.1)
-
-pub returns-else-is_space : goal.returns-else-is_space
-returns-else-is_space c = (omega arith, trim_stop c.args.s.now c.loop-n.n (omega arith) (omega arith) c.is_space.ensures c.if-is_space.false ∙ c.loop-n.invariant.1)
-
-pub returns : goal.returns
-returns c = (omega arith, trim-none _ _ c.loop-n-test.false ∙ c.loop-n.invariant.1)
+pub returns-clause-value : goal.returns-clause-value
+returns-clause-value c =
+    let s = c.args.s.now in
+    let n = count_from_yields_List c.take_while.result _ c.count.ensures.ran
+    (YieldsList-from_take_while _ space (YieldsList-from_rev_slice s cc) c.take_while.ensures.closure c.take_while.ensures.done (λ x b q k. search (rules, tests)))
+    ∙ length-prefix_len space (reverse s) in
+    ap (λ (k : ℕ). take (length s - k) s) n ∙ end_trimmed s

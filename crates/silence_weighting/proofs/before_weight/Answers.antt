@@ -6,4 +6,4 @@ pub returns-then-begin-eq0 : goal.returns-then-begin-eq0
 returns-then-begin-eq0 c = λ ks ss. before_first _ ks ss _ _ _ c.walk_begin-begin.ensures c.if-begin-eq0.true
 
 pub returns : goal.returns
-returns c = λ ks ss. before_later _ ks ss _ _ _ _ c.walk_begin-begin.ensures c.if-begin-eq0.false c.weight_at.ensures
+returns c = λ ks ss. before_later _ ks ss _ _ _ _ c.walk_begin-begin.ensures c.if-begin-eq0.false c.weight.ensures

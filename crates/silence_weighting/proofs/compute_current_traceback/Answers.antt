@@ -1,37 +1,41 @@
 -- The traceback's one equation: refused, all is left as it was; else the rooms have grown and are marked, as the laws of `Calls` put together.
-use mathlib.Core.Path.{sym, ◌∙◌}
+use mathlib.Core.Path.{sym}
 use native.Mathlib.Omega.{arith}
-use lib.ListN.{length}
-use Rattle.silence_weighting.proofs.Refusals.{TracebackTaken, traceback_taken}
-use Rattle.silence_weighting.proofs.Calls.{traceback_refused, traceback_done}
-use Rattle.silence_weighting.proofs.compute_current_traceback.Goals.{Else-refusal-ne0}
+use Rattle.std.proofs.lemmas.Result.{err_from_is_err_and}
+use Rattle.silence_weighting.proofs.Refusals.{traceback_taken}
+use Rattle.silence_weighting.proofs.Calls.{put_long, traceback_refused, traceback_done}
 use Rattle.silence_weighting.proofs.compute_current_traceback.Goals as goal
 
-past : (c : Else-refusal-ne0) →
-    let args = c.args in
-    TracebackTaken args.s (length args.known.now) (length args.is_silence.now) (length args.current_weight.now)
-    args.num_frames_decoded (length args.segment_phones.now) (length args.starts.now) (length args.ends.now)
-past c = traceback_taken _ _ _ _ _ _ _ _ _ (sym c.traceback_refusal-refusal.ensures ∙ c.if-refusal-ne0.false)
+pub returns-in_err-check_traceback-clause-call : goal.returns-in_err-check_traceback-clause-call
+returns-in_err-check_traceback-clause-call c =
+    let e = err_from_is_err_and c.from_residual.result c.from_residual.ensures.1 in
+    rw (e.1, e.2) (traceback_refused _ _ _ _ _ _ _ _ _ _ c.in_err-check_traceback.ensures)
 
-pub returns-then-refusal-ne0 : goal.returns-then-refusal-ne0
-returns-then-refusal-ne0 c = traceback_refused _ _ _ _ _ _ _ _ _ _ _ c.refused.ensures c.traceback_refusal-refusal.ensures c.if-refusal-ne0.true
+pub grow-requires : goal.grow-requires
+grow-requires c =
+    let t = traceback_taken _ _ _ _ _ _ _ _ _ (sym c.in_ok-check_traceback.ensures) in
+    let s = c.saturating_sub.ensures in
+    record { known = omega arith; is_silence = omega arith; current_weight = omega arith }
 
-pub fill-requires : goal.fill-requires
-fill-requires c = omega (arith, past (goal.at.fill-requires c).Else-refusal-ne0)
+pub mark_segments-requires-clause-known : goal.mark_segments-requires-clause-known
+mark_segments-requires-clause-known c =
+    let t = traceback_taken _ _ _ _ _ _ _ _ _ (sym c.in_ok-check_traceback.ensures) in
+    omega (arith, put_long _ _ _ c.args.rooms.now.known.now (omega arith) c.grow.ensures.known)
 
-pub fill-requires-2 : goal.fill-requires-2
-fill-requires-2 c = omega (arith, past (goal.at.fill-requires-2 c).Else-refusal-ne0)
+pub mark_segments-requires-clause-is_silence : goal.mark_segments-requires-clause-is_silence
+mark_segments-requires-clause-is_silence c =
+    let t = traceback_taken _ _ _ _ _ _ _ _ _ (sym c.in_ok-check_traceback.ensures) in
+    omega (arith, put_long _ _ _ c.args.rooms.now.is_silence.now (omega arith) c.grow.ensures.is_silence)
 
-pub fill_weights-requires : goal.fill_weights-requires
-fill_weights-requires c = omega (arith, past (goal.at.fill_weights-requires c).Else-refusal-ne0)
+pub mark_segments-requires-clause-starts : goal.mark_segments-requires-clause-starts
+mark_segments-requires-clause-starts c = (traceback_taken _ _ _ _ _ _ _ _ _ (sym c.in_ok-check_traceback.ensures)).starts_is
 
-pub mark_segments-requires : goal.mark_segments-requires
-mark_segments-requires c =
-    let t = past (goal.at.mark_segments-requires c).Else-refusal-ne0 in
-    (omega arith, omega arith, omega arith, omega arith)
+pub mark_segments-requires-clause-ends : goal.mark_segments-requires-clause-ends
+mark_segments-requires-clause-ends c = (traceback_taken _ _ _ _ _ _ _ _ _ (sym c.in_ok-check_traceback.ensures)).ends_is
 
-pub returns : goal.returns
-returns c =
-    traceback_done _ _ _ _ _ _ _ _ _ _ _ _ _ _ _ _ _ c.answered.ensures (sym c.if-refusal-ne0.false ∙ c.traceback_refusal-refusal.ensures) (past (goal.at.returns c).Else-refusal-ne0)
-    c.less-more.ensures c.longer.ensures
-    c.fill.ensures c.fill-2.ensures c.fill_weights.ensures c.mark_segments.ensures (omega arith) (omega arith)
+pub returns-clause-call : goal.returns-clause-call
+returns-clause-call c =
+    let t = traceback_taken _ _ _ _ _ _ _ _ _ (sym c.in_ok-check_traceback.ensures) in
+    let g = c.grow.ensures in
+    traceback_done _ _ _ _ _ _ _ _ _ _ _ _ _ _ _ _ c.in_ok-check_traceback.ensures t c.saturating_sub.ensures c.max.ensures g.known g.is_silence g.current_weight c.mark_segments.ensures
+    (put_long _ _ _ _ (omega arith) g.known) (put_long _ _ _ _ (omega arith) g.is_silence)

@@ -1,6 +1,6 @@
 -- The count of the walk's changes: after i frames it is the number of those that the first i give.
 use mathlib.Core.Path.{◌≡◌}
-use Prim.Native.Nat.{◌-◌, ◌*◌, ◌≤◌}
+use Prim.Native.Nat.{◌*◌, ◌≤◌}
 use lib.ListN.{length}
 use Rattle.definition.specs.declared.InputFrame.{InputFrame}
 use Rattle.silence_weighting.specs.Steps.{table_of, changes_to}
@@ -8,8 +8,11 @@ use Rattle.silence_weighting.proofs.Walk.{Walking}
 use Rattle.silence_weighting.proofs.count_changes.Given as goal
 
 abbrev pub invariant-loop-offset : goal.invariant-loop-offset
-invariant-loop-offset l = Walking l.s.length.0 l.known l.is_silence l.current_weight l.s.silence_weight l.n.0 l.begin.0 l.frames_out l.blind l.weight l.offset
-    × ((first : InputFrame) → l.count ≡ length (changes_to l.s.silence_weight l.s.subsampling first l.n.0 (table_of l.s.length.0 l.known l.is_silence l.current_weight) l.offset)) × (l.count ≤ 16 * l.offset)
-
-abbrev pub decreases-loop-offset : goal.decreases-loop-offset
-decreases-loop-offset l = l.frames_out - l.offset
+invariant-loop-offset l =
+    let z = l.rooms in
+    record {
+      walking : Walking l.s.length.0 z.known.now z.is_silence.now z.current_weight.now l.s.silence_weight l.n.0 l.begin.0 l.frames_out l.blind l.weight l.offset;
+      counted : (first : InputFrame)
+          → l.count ≡ length (changes_to l.s.silence_weight l.s.subsampling first l.n.0 (table_of l.s.length.0 z.known.now z.is_silence.now z.current_weight.now) l.offset);
+      few : l.count ≤ 16 * l.offset;
+    }

@@ -6,6 +6,7 @@ use native.Mathlib.Omega.{arith}
 use lib.ListN.{length}
 use Rattle.loops.proofs.Cells.{row_in_lem}
 use Rattle.table_sums.proofs.Passes.{one-row, two_rows, three_rows, four_rows, pass_is}
+use Rattle.table_sums.proofs.add_next.Given.{Over}
 use Rattle.table_sums.proofs.add_next.Goals.{Else-left-eq1, Else-left-eq2, Else-left-eq3}
 use Rattle.table_sums.proofs.add_next.Goals as goal
 
@@ -14,71 +15,86 @@ use Rattle.table_sums.proofs.add_next.Goals as goal
 more_left : (k d i j : ℕ) → j ≡ i + 1 → k + i < d → (d - k ≡ j → ⊥) → k + j < d
 more_left k d i j e h n = omega arith
 
-two-left : (c : Else-left-eq1) → let a = c.args in a.k + 1 < a.d
-two-left c = more_left c.args.k c.args.d 0 1 refl (omega (arith, c.requires.0)) c.if-left-eq1.false
+two-left : (g : Over) (c : Else-left-eq1 g) → let a = c.args in a.k + 1 < a.d
+two-left g c = more_left c.args.k c.args.d 0 1 refl (omega (arith, c.requires.row_left)) c.if-left-eq1.false
 
-three-left : (c : Else-left-eq2) → let a = c.args in a.k + 2 < a.d
-three-left c =
+three-left : (g : Over) (c : Else-left-eq2 g) → let a = c.args in a.k + 2 < a.d
+three-left g c =
     let a = c.args in
-    more_left a.k a.d 1 2 refl (two-left (goal.at.Else-left-eq2 c).Else-left-eq1) c.if-left-eq2.false
+    more_left a.k a.d 1 2 refl (two-left g (goal.at.Else-left-eq2 g c).Else-left-eq1) c.if-left-eq2.false
 
-four-left : (c : Else-left-eq3) → let a = c.args in a.k + 3 < a.d
-four-left c =
+four-left : (g : Over) (c : Else-left-eq3 g) → let a = c.args in a.k + 3 < a.d
+four-left g c =
     let a = c.args in
-    more_left a.k a.d 2 3 refl (three-left (goal.at.Else-left-eq3 c).Else-left-eq2) c.if-left-eq3.false
+    more_left a.k a.d 2 3 refl (three-left g (goal.at.Else-left-eq3 g c).Else-left-eq2) c.if-left-eq3.false
 
 -- ---- one row
 
 pub row_at-r0-requires : goal.row_at-r0-requires
-row_at-r0-requires c = row_in_lem c.args.k c.args.d (length c.args.sum.now) _ c.requires.1 (omega arith)
+row_at-r0-requires g c = row_in_lem c.args.k c.args.d (length c.args.sum.now) _ c.requires.in_table (omega arith)
 
 pub returns-then-left-eq1 : goal.returns-then-left-eq1
-returns-then-left-eq1 c =
+returns-then-left-eq1 g c =
     let a = c.args in
     let n = length a.sum.now in
-    let added = one-row n a.table.now a.x.now a.squared a.sum.now a.k c.row_at-r0.ensures.0 c.factor-v0.ensures in
-    (omega arith, omega arith, pass_is n a.table.now a.x.now a.squared a.sum.now a.k _ added c.add_one.ensures)
+    record {
+      onward = omega arith;
+      within = omega arith;
+      sums = λ f h.
+          pass_is n a.table.now a.x.now f a.sum.now a.k _
+          (one-row n a.table.now a.x.now f a.sum.now a.k c.row_at-r0.ensures.0 (h _ _ c.times-v0.ensures)) c.add_one.ensures;
+    }
 
 -- ---- two
 
 pub row_at-r1-requires : goal.row_at-r1-requires
-row_at-r1-requires c = row_in_lem (c.args.k + 1) c.args.d (length c.args.sum.now) _ c.requires.1 (two-left (goal.at.row_at-r1-requires c).Else-left-eq1)
+row_at-r1-requires g c = row_in_lem (c.args.k + 1) c.args.d (length c.args.sum.now) _ c.requires.in_table (two-left g (goal.at.row_at-r1-requires g c).Else-left-eq1)
 
 pub returns-then-left-eq2 : goal.returns-then-left-eq2
-returns-then-left-eq2 c =
+returns-then-left-eq2 g c =
     let a = c.args in
     let n = length a.sum.now in
-    let added = two_rows n a.table.now a.x.now a.squared a.sum.now a.k c.row_at-r0.ensures.0 c.factor-v0.ensures c.row_at-r1.ensures.0 c.factor-v1.ensures in
-    (omega arith, omega (arith, two-left (goal.at.returns-then-left-eq2 c).Else-left-eq1), pass_is n a.table.now a.x.now a.squared a.sum.now a.k _ added c.add_two.ensures)
+    record {
+      onward = omega arith;
+      within = omega (arith, two-left g (goal.at.returns-then-left-eq2 g c).Else-left-eq1);
+      sums = λ f h.
+          pass_is n a.table.now a.x.now f a.sum.now a.k _
+          (two_rows n a.table.now a.x.now f a.sum.now a.k c.row_at-r0.ensures.0 (h _ _ c.times-v0.ensures) c.row_at-r1.ensures.0 (h _ _ c.times-v1.ensures)) c.add_two.ensures;
+    }
 
 -- ---- three
 
 pub row_at-r2-requires : goal.row_at-r2-requires
-row_at-r2-requires c = row_in_lem (c.args.k + 2) c.args.d (length c.args.sum.now) _ c.requires.1 (three-left (goal.at.row_at-r2-requires c).Else-left-eq2)
+row_at-r2-requires g c = row_in_lem (c.args.k + 2) c.args.d (length c.args.sum.now) _ c.requires.in_table (three-left g (goal.at.row_at-r2-requires g c).Else-left-eq2)
 
 pub returns-then-left-eq3 : goal.returns-then-left-eq3
-returns-then-left-eq3 c =
+returns-then-left-eq3 g c =
     let a = c.args in
     let n = length a.sum.now in
-    let added = three_rows n a.table.now a.x.now a.squared a.sum.now a.k c.row_at-r0.ensures.0 c.factor-v0.ensures c.row_at-r1.ensures.0 c.factor-v1.ensures c.row_at-r2.ensures.0 c.factor-v2.ensures in
-    (omega arith, omega (arith, three-left (goal.at.returns-then-left-eq3 c).Else-left-eq2), pass_is n a.table.now a.x.now a.squared a.sum.now a.k _ added c.add_three.ensures)
+    record {
+      onward = omega arith;
+      within = omega (arith, three-left g (goal.at.returns-then-left-eq3 g c).Else-left-eq2);
+      sums = λ f h.
+          pass_is n a.table.now a.x.now f a.sum.now a.k _
+          (three_rows n a.table.now a.x.now f a.sum.now a.k c.row_at-r0.ensures.0 (h _ _ c.times-v0.ensures) c.row_at-r1.ensures.0 (h _ _ c.times-v1.ensures) c.row_at-r2.ensures.0 (h _ _ c.times-v2.ensures)) c.add_three.ensures;
+    }
 
 -- ---- four
 
 pub row_at-r3-requires : goal.row_at-r3-requires
-row_at-r3-requires c = row_in_lem (c.args.k + 3) c.args.d (length c.args.sum.now) _ c.requires.1 (four-left (goal.at.row_at-r3-requires c).Else-left-eq3)
+row_at-r3-requires g c = row_in_lem (c.args.k + 3) c.args.d (length c.args.sum.now) _ c.requires.in_table (four-left g (goal.at.row_at-r3-requires g c).Else-left-eq3)
 
 pub overflow_add-result-2 : goal.overflow_add-result-2
-overflow_add-result-2 c = omega (arith, c.requires.2, four-left (goal.at.overflow_add-result-2 c).Else-left-eq3, c.ranges)
+overflow_add-result-2 g c = omega (arith, c.requires.in_x, four-left g (goal.at.overflow_add-result-2 g c).Else-left-eq3, c.ranges)
 
 pub returns : goal.returns
-returns c =
+returns g c =
     let a = c.args in
     let n = length a.sum.now in
-    let added = four_rows n a.table.now a.x.now a.squared a.sum.now a.k c.row_at-r0.ensures.0 c.factor-v0.ensures
-    c.row_at-r1.ensures.0 c.factor-v1.ensures c.row_at-r2.ensures.0 c.factor-v2.ensures
-    c.row_at-r3.ensures.0 c.factor-v3.ensures in (
-      omega arith,
-      omega (arith, four-left (goal.at.returns c).Else-left-eq3),
-      pass_is n a.table.now a.x.now a.squared a.sum.now a.k _ added c.add_four.ensures,
-    )
+    record {
+      onward = omega arith;
+      within = omega (arith, four-left g (goal.at.returns g c).Else-left-eq3);
+      sums = λ f h.
+          pass_is n a.table.now a.x.now f a.sum.now a.k _
+          (four_rows n a.table.now a.x.now f a.sum.now a.k c.row_at-r0.ensures.0 (h _ _ c.times-v0.ensures) c.row_at-r1.ensures.0 (h _ _ c.times-v1.ensures) c.row_at-r2.ensures.0 (h _ _ c.times-v2.ensures) c.row_at-r3.ensures.0 (h _ _ c.times-v3.ensures)) c.add_four.ensures;
+    }

@@ -7,27 +7,25 @@ use lib.Ieee.{nan}
 use Rattle.loops.specs.Steps.{fill}
 use Rattle.loops.proofs.Loop.{at_end}
 use Rattle.floats.specs.Operators.{◌*₃₂◌, at, sum₃₂}
-use Rattle.table_sums.specs.Factor.{factor}
 use Rattle.table_sums.proofs.Passes.{pass_none, rows_turn}
 use Rattle.table_sums.proofs.add_rows.Goals as goal
 
 pub loop-k-init : goal.loop-k-init
-loop-k-init c = (search rules, search rules, pass_none nan _ _ _ (omega arith))
-
-pub add_next-k-requires : goal.add_next-k-requires
-add_next-k-requires c =
-    let e = c.loop-k.invariant.1 in
-    (search rules, rw e c.requires.0, search rules)
+loop-k-init g c = record { within = search rules; as_long = search rules; sums = λ f h. pass_none nan _ _ _ (omega arith) }
 
 pub loop-k-preserved : goal.loop-k-preserved
-loop-k-preserved c =
+loop-k-preserved g c =
     let a = c.args in
     let l = c.loop-k in
-    (search rules, search rules, rows_turn _ a.table.now a.x.now a.squared a.sum.now l.k _ (omega arith) l.invariant.1 l.invariant.2 c.add_next-k.ensures.2)
+    record {
+      within = search rules;
+      as_long = search rules;
+      sums = λ f h. rows_turn _ a.table.now a.x.now f a.sum.now l.k _ (omega arith) l.invariant.as_long (l.invariant.sums f h) (c.add_next-k.ensures.sums f h);
+    }
 
 pub returns : goal.returns
-returns c =
+returns g c = λ f h.
     let l = c.loop-k in
     let a = c.args in
     let s = a.sum.now in
-    at_end (λ k. fill (length s) (λ m. sum₃₂ (at s m) k (λ k. at a.table.now (k * length s + m) *₃₂ factor a.squared (at a.x.now k))) s) l.k a.d l.invariant.0 c.loop-k-test.false l.invariant.2
+    at_end (λ k. fill (length s) (λ m. sum₃₂ (at s m) k (λ k. at a.table.now (k * length s + m) *₃₂ f (at a.x.now k))) s) l.k a.d l.invariant.within c.loop-k-test.false (l.invariant.sums f h)

@@ -2,14 +2,19 @@
 use mathlib.Core.Path.{◌≡◌}
 use Prim.Native.Nat.{◌+◌, ◌*◌, ◌-◌, ◌≤◌}
 use lib.ListN.{length}
+use lib.Ieee.{Float}
 use Rattle.loops.specs.Steps.{fill}
 use Rattle.floats.specs.Operators.{◌*₃₂◌, at, sum₃₂}
-use Rattle.table_sums.specs.Factor.{factor}
+use Rattle.table_sums.specs.Factor.{Gives}
 use Rattle.table_sums.proofs.add_rows.Given as goal
 
 abbrev pub invariant-loop-k : goal.invariant-loop-k
-invariant-loop-k l = (l.k ≤ l.d) × (length l.sum ≡ length l.initial.sum)
-    × (l.sum ≡ fill (length l.initial.sum) (λ m. sum₃₂ (at l.initial.sum m) l.k (λ k. at l.table (k * length l.initial.sum + m) *₃₂ factor l.squared (at l.x k))) l.initial.sum)
+invariant-loop-k g l = record {
+  within : l.k ≤ l.d;
+  as_long : length l.sum ≡ length l.initial.sum;
+  sums : (f : Float → Float) → Gives (goal.F-post g l.times) f
+      → l.sum ≡ fill (length l.initial.sum) (λ m. sum₃₂ (at l.initial.sum m) l.k (λ k. at l.table (k * length l.initial.sum + m) *₃₂ f (at l.x k))) l.initial.sum;
+}
 
 abbrev pub decreases-loop-k : goal.decreases-loop-k
-decreases-loop-k l = l.d - l.k
+decreases-loop-k g l = l.d - l.k

@@ -27,19 +27,10 @@ enrolled c = record { count = c.args.voices; enrolled = c.args.enrolled.now; lim
 
 -- ---- no frame is ready
 
-pub num_frames_ready-ready-requires : goal.num_frames_ready-ready-requires
-num_frames_ready-ready-requires c = search rules
-
 pub returns-then-ready-eq0 : goal.returns-then-ready-eq0
 returns-then-ready-eq0 c = (no_vector (tables (goal.at.returns-then-ready-eq0 c).Start) (length c.args.scratch.now) (enrolled (goal.at.returns-then-ready-eq0 c).Start) c.args.s (held (goal.at.returns-then-ready-eq0 c).Start) c.args.out.now _ c.num_frames_ready-ready.ensures c.if-ready-eq0.true, λ _. refl)
 
 -- ---- the fetch
-
-pub overflow_sub-ready : goal.overflow_sub-ready
-overflow_sub-ready c = search rules
-
-pub get_frame-f-requires : goal.get_frame-f-requires
-get_frame-f-requires c = search rules
 
 pub shape_of-waiting_frames-then-a-ne0 : goal.shape_of-waiting_frames-then-a-ne0
 shape_of-waiting_frames-then-a-ne0 c = c.get_frame-f.auto.waiting_frames
@@ -74,15 +65,6 @@ returns-then-a-ne0 c =
     )
 
 -- ---- the nearest voice
-
-pub ivector_dim-dim-requires : goal.ivector_dim-dim-requires
-ivector_dim-dim-requires c = search rules
-
-pub nearest_voice-voice-requires : goal.nearest_voice-voice-requires
-nearest_voice-voice-requires c = search rules
-
-pub result_of-result-requires : goal.result_of-result-requires
-result_of-result-requires c = search rules
 
 pub shape_of-waiting_frames : goal.shape_of-waiting_frames
 shape_of-waiting_frames c = c.get_frame-f.auto.waiting_frames

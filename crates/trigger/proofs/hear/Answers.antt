@@ -5,9 +5,6 @@ use mathlib.Core.Path.{refl}
 use Rattle.trigger_steps.proofs.Steps.{not_forgotten, then_pushed}
 use Rattle.trigger.proofs.hear.Goals as goal
 
-pub forget_before-f-requires : goal.forget_before-f-requires
-forget_before-f-requires c = search rules
-
 pub shape_of-frames-then-a-ne0 : goal.shape_of-frames-then-a-ne0
 shape_of-frames-then-a-ne0 c = refl
 
@@ -16,9 +13,6 @@ shape_of-rows-then-a-ne0 c = refl
 
 pub returns-then-a-ne0 : goal.returns-then-a-ne0
 returns-then-a-ne0 c = λ b next. not_forgotten _ _ c.args.start c.args.numbers.now _ c.forget_before-f.ensures b next c.if-a-ne0.true
-
-pub push_all-p-requires : goal.push_all-p-requires
-push_all-p-requires c = search rules
 
 pub shape_of-frames : goal.shape_of-frames
 shape_of-frames c = c.push_all-p.auto.frames

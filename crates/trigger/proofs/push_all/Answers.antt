@@ -11,29 +11,8 @@ use Rattle.trigger.proofs.push_all.Goals as goal
 
 -- ---- the loop
 
-pub larger-n-requires : goal.larger-n-requires
-larger-n-requires c = search rules
-
 pub loop-first-init : goal.loop-first-init
 loop-first-init c = (omega (arith, c.larger-n.ensures), omega arith, refl, refl, refl)
-
-pub overflow_sub-numbers : goal.overflow_sub-numbers
-overflow_sub-numbers c = search rules
-
-pub smaller-requires : goal.smaller-requires
-smaller-requires c = search rules
-
-pub overflow_add-end : goal.overflow_add-end
-overflow_add-end c = search rules
-
-pub offset_bounds-numbers-first : goal.offset_bounds-numbers-first
-offset_bounds-numbers-first c = search rules
-
-pub slice_bounds-push_frame-count : goal.slice_bounds-push_frame-count
-slice_bounds-push_frame-count c = search rules
-
-pub slice_bounds-push_frame-start : goal.slice_bounds-push_frame-start
-slice_bounds-push_frame-start c = search rules
 
 pub slice_bounds-push_frame-end : goal.slice_bounds-push_frame-end
 slice_bounds-push_frame-end c = omega (arith, c.smaller.ensures, c.loop-first-test.true, c.loop-first.invariant.1)

@@ -4,8 +4,5 @@ use mathlib.Core.Path.{ap}
 use Rattle.trigger.specs.Answer.{round_answer_from}
 use Rattle.trigger.proofs.round_answer.Goals as goal
 
-pub round_outcome-outcome-requires : goal.round_outcome-outcome-requires
-round_outcome-outcome-requires c = search rules
-
 pub returns : goal.returns
 returns c = let a = c.args.a in ap (λ o. round_answer_from o a.changes a.stream a.silence) c.round_outcome-outcome.ensures

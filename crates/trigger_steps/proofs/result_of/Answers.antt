@@ -4,22 +4,13 @@ use mathlib.Core.Path.{sym, ap}
 use Rattle.trigger_steps.specs.Round.{result_of}
 use Rattle.trigger_steps.proofs.result_of.Goals as goal
 
-pub enum_known-v : goal.enum_known-v
-enum_known-v c = search rules
-
 pub returns-in-Voice : goal.returns-in-Voice
 unfolding result_of
 returns-in-Voice c = sym (ap result_of c.in-Voice.is)
 
-pub enum_told-1 : goal.enum_told-1
-enum_told-1 c = search rules
-
 pub returns-in-Nobody : goal.returns-in-Nobody
 unfolding result_of
 returns-in-Nobody c = sym (ap result_of c.in-Nobody.is)
-
-pub enum_known-v-in-Refused-1 : goal.enum_known-v-in-Refused-1
-enum_known-v-in-Refused-1 c = search rules
 
 pub returns-in-Refused : goal.returns-in-Refused
 unfolding result_of

@@ -1,5 +1,4 @@
 -- `fill_lists` meets its contract: after i turns the lists have the first i calls (`filled_next` in Places.antt), and none has changed its length.
-use borrow.Author.Rules.{rules}
 use mathlib.Core.Path.{refl, ◌∙◌}
 use native.Mathlib.Omega.{arith}
 use native.Mathlib.Nat.{mod-lt}
@@ -11,9 +10,6 @@ use Rattle.try_load.proofs.fill_lists.Goals as goal
 pub loop-i-init : goal.loop-i-init
 loop-i-init c = (omega arith, placed_none _ _, filled_none _ _ _ _ _ _, refl, refl, refl, refl)
 
-pub draw-s-requires : goal.draw-s-requires
-draw-s-requires c = search rules
-
 pub overflow_mul-p : goal.overflow_mul-p
 overflow_mul-p c = fits-mul _ _ (omega (arith, c.loop-i.invariant.1.few, c.loop-i-test.true, c.requires.1)) c.requires.0
 
@@ -23,8 +19,8 @@ put_numbers-requires c =
     let a = c.args in
     room_drawn a.dim a.seed l.i l.invariant.1 c.draw-s.ensures a.count (length l.frames) c.loop-i-test.true (rw l.invariant.3 c.requires.2)
 
-pub narrow-requires : goal.narrow-requires
-narrow-requires c = omega (arith, mod-lt c.draw-s.result {m = 5} (omega arith))
+pub overflow_cast-kinds : goal.overflow_cast-kinds
+overflow_cast-kinds c = omega (arith, mod-lt c.draw-s.result {m = 5} (omega arith))
 
 pub bounds-kinds-i : goal.bounds-kinds-i
 bounds-kinds-i c = omega (arith, c.loop-i-test.true, c.loop-i.invariant.4, c.requires.3)
@@ -32,17 +28,8 @@ bounds-kinds-i c = omega (arith, c.loop-i-test.true, c.loop-i.invariant.4, c.req
 pub frame_of-requires : goal.frame_of-requires
 frame_of-requires c = omega (arith, c.loop-i.invariant.1.few, c.loop-i-test.true, c.requires.1)
 
-pub offset_bounds-named-i : goal.offset_bounds-named-i
-offset_bounds-named-i c = search rules
-
 pub bounds-named-i : goal.bounds-named-i
 bounds-named-i c = omega (arith, c.loop-i-test.true, c.loop-i.invariant.5, c.requires.4)
-
-pub weight_of-requires : goal.weight_of-requires
-weight_of-requires c = search rules
-
-pub offset_bounds-weights-i : goal.offset_bounds-weights-i
-offset_bounds-weights-i c = search rules
 
 pub bounds-weights-i : goal.bounds-weights-i
 bounds-weights-i c = omega (arith, c.loop-i-test.true, c.loop-i.invariant.6, c.requires.5)
@@ -66,7 +53,7 @@ loop-i-preserved c =
       placed_next a.dim a.seed l.i l.p c.next_place-p.result h r.0 r.1,
       filled_next a.dim a.seed l.i h c.draw-s.ensures _ _ _ _ l.frames l.kinds l.named l.weights l.invariant.2
           (omega (arith, c.loop-i-test.true, c.requires.3)) (omega (arith, c.loop-i-test.true, c.requires.4)) (omega (arith, c.loop-i-test.true, c.requires.5))
-          c.put_numbers.ensures c.narrow.ensures c.frame_of.ensures c.weight_of.ensures,
+          c.put_numbers.ensures refl c.frame_of.ensures c.weight_of.ensures,
       c.put_numbers.auto.frames ∙ l.invariant.3,
       simp length-set l.invariant.4,
       simp length-set l.invariant.5,

@@ -1,26 +1,56 @@
--- `put_cmvn` meets its contract: its five parts, one after the other (`cmvn_put`).
-use borrow.Author.Rules.{rules}
+-- `put_cmvn` meets its contract: the two rows, piece after piece, from the front on (`together`, `whole`).
+use mathlib.Core.Path.{refl}
+use mathlib.Core.List.{[], ◌∷◌}
 use native.Mathlib.Omega.{arith}
-use Rattle.try_model.proofs.Written.{cmvn_put}
+use Rattle.byte_writer.proofs.Chain.{together, whole}
+use Rattle.try_model.specs.Files.{cmvn_file}
+use Rattle.try_model.proofs.Lengths.{long}
 use Rattle.try_model.proofs.put_cmvn.Goals as goal
 
-pub put_bytes-a-requires : goal.put_bytes-a-requires
-put_bytes-a-requires c = search rules
+pub repeated-requires : goal.repeated-requires
+repeated-requires c = record { fits = omega (arith, c.bytes.ensures.next_is, c.bytes.ensures.long, long c.args.dim (53 ∷ 48 ∷ 32 ∷ []), c.requires, c.told-out) }
 
-pub put_times-b-requires : goal.put_times-b-requires
-put_times-b-requires c = omega (arith, c.put_bytes-a.ensures.0, c.put_bytes-a.auto.out, c.requires, c.room-1.given)
+pub bytes-requires-2 : goal.bytes-requires-2
+bytes-requires-2 c = record { fits = omega (arith, c.bytes.ensures.next_is, c.bytes.ensures.long, c.repeated.ensures.next_is, c.repeated.ensures.long, long c.args.dim (53 ∷ 48 ∷ 32 ∷ []), c.requires, c.told-out) }
 
-pub put_bytes-c-requires : goal.put_bytes-c-requires
-put_bytes-c-requires c = omega (arith, c.put_times-b.ensures.0, c.put_times-b.auto.out, c.put_bytes-a.ensures.0, c.put_bytes-a.auto.out, c.requires, c.room-1.given)
+pub repeated-requires-2 : goal.repeated-requires-2
+repeated-requires-2 c = record {
+  fits = omega (
+    arith,
+    c.bytes.ensures.next_is,
+    c.bytes.ensures.long,
+    c.repeated.ensures.next_is,
+    c.repeated.ensures.long,
+    c.bytes-2.ensures.next_is,
+    c.bytes-2.ensures.long,
+    long c.args.dim (53 ∷ 48 ∷ 32 ∷ []),
+    c.requires,
+    c.told-out,
+  );
+}
 
-pub put_times-d-requires : goal.put_times-d-requires
-put_times-d-requires c = omega (arith, c.put_bytes-c.ensures.0, c.put_bytes-c.auto.out, c.put_times-b.ensures.0, c.put_times-b.auto.out, c.put_bytes-a.ensures.0, c.put_bytes-a.auto.out, c.requires, c.room-1.given)
+pub bytes-requires-3 : goal.bytes-requires-3
+bytes-requires-3 c = record {
+  fits = omega (
+    arith,
+    c.bytes.ensures.next_is,
+    c.bytes.ensures.long,
+    c.repeated.ensures.next_is,
+    c.repeated.ensures.long,
+    c.bytes-2.ensures.next_is,
+    c.bytes-2.ensures.long,
+    c.repeated-2.ensures.next_is,
+    c.repeated-2.ensures.long,
+    long c.args.dim (53 ∷ 48 ∷ 32 ∷ []),
+    c.requires,
+    c.told-out,
+  );
+}
 
-pub put_bytes-requires : goal.put_bytes-requires
-put_bytes-requires c = omega (arith, c.put_times-d.ensures.0, c.put_times-d.auto.out, c.put_bytes-c.ensures.0, c.put_bytes-c.auto.out, c.put_times-b.ensures.0, c.put_times-b.auto.out, c.put_bytes-a.ensures.0, c.put_bytes-a.auto.out, c.requires, c.room-1.given)
+pub returns-clause-length : goal.returns-clause-length
+unfolding cmvn_file
+returns-clause-length c = (whole refl (together c.bytes.ensures (together c.repeated.ensures (together c.bytes-2.ensures (together c.repeated-2.ensures c.bytes-3.ensures))))).0
 
-pub returns : goal.returns
-returns c =
-    let a = c.args in
-    cmvn_put a.dim a.out.now c.put_bytes-a.ensures.0 c.put_bytes-a.ensures.1 c.put_times-b.ensures.0 c.put_times-b.ensures.1
-    c.put_bytes-c.ensures.0 c.put_bytes-c.ensures.1 c.put_times-d.ensures.0 c.put_times-d.ensures.1 c.put_bytes.ensures.0 c.put_bytes.ensures.1
+pub returns-clause-bytes : goal.returns-clause-bytes
+unfolding cmvn_file
+returns-clause-bytes c = (whole refl (together c.bytes.ensures (together c.repeated.ensures (together c.bytes-2.ensures (together c.repeated-2.ensures c.bytes-3.ensures))))).1

@@ -1,20 +1,19 @@
--- `put_lda` meets its contract: its two parts, one after the other (`lda_put`).
-use borrow.Author.Rules.{rules}
+-- `put_lda` meets its contract: the head, and after it the ones, from the front on (`together`, `whole`).
+use mathlib.Core.Path.{refl}
+use mathlib.Core.List.{[], ◌∷◌}
 use native.Mathlib.Omega.{arith}
-use Rattle.try_model.proofs.Written.{lda_put}
+use Rattle.byte_writer.proofs.Chain.{together, whole}
+use Rattle.try_model.specs.Files.{lda_file}
+use Rattle.try_model.proofs.Lengths.{long}
 use Rattle.try_model.proofs.put_lda.Goals as goal
 
-pub low_byte-requires : goal.low_byte-requires
-low_byte-requires c = omega (arith, c.requires)
+pub repeated-requires : goal.repeated-requires
+repeated-requires c = record { fits = omega (arith, c.bytes.ensures.next_is, c.bytes.ensures.long, long c.args.dim (0 ∷ 0 ∷ 128 ∷ 63 ∷ []), c.requires, c.told-out) }
 
-pub slice_bounds-put_bytes-end : goal.slice_bounds-put_bytes-end
-slice_bounds-put_bytes-end c = search rules
+pub returns-clause-length : goal.returns-clause-length
+unfolding lda_file
+returns-clause-length c = (whole refl (together c.bytes.ensures c.repeated.ensures)).0
 
-pub put_bytes-at-requires : goal.put_bytes-at-requires
-put_bytes-at-requires c = search rules
-
-pub put_times-requires : goal.put_times-requires
-put_times-requires c = omega (arith, c.put_bytes-at.ensures.0, c.put_bytes-at.auto.out, c.requires, c.room-1.given)
-
-pub returns : goal.returns
-returns c = let a = c.args in lda_put a.dim a.out.now c.low_byte.ensures c.put_bytes-at.ensures.0 c.put_bytes-at.ensures.1 c.put_times.ensures.0 c.put_times.ensures.1
+pub returns-clause-bytes : goal.returns-clause-bytes
+unfolding lda_file
+returns-clause-bytes c = (whole refl (together c.bytes.ensures c.repeated.ensures)).1

@@ -1,5 +1,4 @@
 -- `play` meets its contract: by its three ways out (Played.antt): sizes, a stream that is not made, calls that are played.
-use borrow.Author.Rules.{rules}
 use mathlib.Core.Path.{refl, sym, ◌∙◌}
 use native.Mathlib.Omega.{arith}
 use lib.ListN.{length}
@@ -9,52 +8,19 @@ use Rattle.try_load.proofs.Steps.{size_taken, size_some}
 use Rattle.try_play.proofs.Played.{play_sized, play_refused, play_played, played_none}
 use Rattle.try_play.proofs.play.Goals as goal
 
-pub size_refusal-size-requires : goal.size_refusal-size-requires
-size_refusal-size-requires c = search rules
-
-pub no_totals-requires : goal.no_totals-requires
-no_totals-requires c = search rules
-
-pub returns-then-size-ne0 : goal.returns-then-size-ne0
-returns-then-size-ne0 c =
+pub returns-in-Err : goal.returns-in-Err
+returns-in-Err c =
     let a = c.args in
     let t : Tables = tables_from a.gconsts.now a.means_invvars_t.now a.inv_vars_t.now a.sigma_inv_m.now a.u.now a.lda_t.now a.lda_offset.now a.global_mean_stats.now in
     let z : Rooms = rooms_from (rings_from a.frames.now a.rows.now a.waiting_frames.now a.waiting_weights.now) (estimate_from a.cmvn_stats.now a.linear.now a.quadratic.now a.current.now) in
-    let h = play_sized a.info t z (length a.scratch.now) a.seed a.times c.size_refusal-size.ensures c.if-size-ne0.true c.no_totals.ensures in
+    let h = play_sized a.info t z (length a.scratch.now) a.seed a.times (c.number.ensures ∙ c.in-Err.ensures.value) (λ e. omega (arith, c.number.ensures, c.in-Err.ensures.one_number)) c.no_totals.ensures in
     (h.0, h.1, λ _. refl)
 
-pub new-made-requires : goal.new-made-requires
-new-made-requires c = search rules
-
-pub enum_known-made : goal.enum_known-made
-enum_known-made c = search rules
-
-pub no_totals-requires-in-Refused : goal.no_totals-requires-in-Refused
-no_totals-requires-in-Refused c = search rules
-
-pub enum_known-made-in-Stream-1 : goal.enum_known-made-in-Stream-1
-enum_known-made-in-Stream-1 c = search rules
-
-pub first_state-state-requires : goal.first_state-state-requires
-first_state-state-requires c = omega (arith, (size_taken _ _ _ (sym c.size_refusal-size.ensures ∙ c.if-size-ne0.false)).0)
-
-pub slice_bounds-play_calls-end : goal.slice_bounds-play_calls-end
-slice_bounds-play_calls-end c = search rules
-
-pub slice_bounds-play_calls-end-in-Stream : goal.slice_bounds-play_calls-end-in-Stream
-slice_bounds-play_calls-end-in-Stream c = search rules
-
-pub slice_bounds-play_calls-end-in-Stream-2 : goal.slice_bounds-play_calls-end-in-Stream-2
-slice_bounds-play_calls-end-in-Stream-2 c = search rules
-
-pub slice_bounds-play_calls-end-in-Stream-3 : goal.slice_bounds-play_calls-end-in-Stream-3
-slice_bounds-play_calls-end-in-Stream-3 c = search rules
-
-pub slice_bounds-play_calls-end-in-Stream-4 : goal.slice_bounds-play_calls-end-in-Stream-4
-slice_bounds-play_calls-end-in-Stream-4 c = search rules
+pub overflow_cast-state : goal.overflow_cast-state
+overflow_cast-state c = omega (arith, (size_taken _ _ _ (sym c.in-Ok.ensures.value)).0)
 
 pub play_calls-greatest-requires : goal.play_calls-greatest-requires
-play_calls-greatest-requires c = let none = sym c.size_refusal-size.ensures ∙ c.if-size-ne0.false in let h = size_taken _ _ _ none in (size_some _ _ _ none, h.1, h.2, refl, refl, refl, refl, refl)
+play_calls-greatest-requires c = let none = sym c.in-Ok.ensures.value in let h = size_taken _ _ _ none in (size_some _ _ _ none, h.1, h.2, refl, refl, refl, refl, refl)
 
 pub shape_of-frames-in-Refused : goal.shape_of-frames-in-Refused
 shape_of-frames-in-Refused c = refl
@@ -88,7 +54,7 @@ returns-in-Refused c =
     let a = c.args in
     let t : Tables = tables_from a.gconsts.now a.means_invvars_t.now a.inv_vars_t.now a.sigma_inv_m.now a.u.now a.lda_t.now a.lda_offset.now a.global_mean_stats.now in
     let z : Rooms = rooms_from (rings_from a.frames.now a.rows.now a.waiting_frames.now a.waiting_weights.now) (estimate_from a.cmvn_stats.now a.linear.now a.quadratic.now a.current.now) in
-    let h = play_refused a.info t z (length a.scratch.now) a.seed a.times _ _ c.size_refusal-size.ensures c.if-size-ne0.false c.new-made.ensures.0 c.new-made.ensures.1 c.in-Refused.is c.no_totals-in-Refused.ensures in
+    let h = play_refused a.info t z (length a.scratch.now) a.seed a.times _ _ c.in-Ok.ensures.value refl c.new-made.ensures.0 c.new-made.ensures.1 c.in-Refused.is c.no_totals-in-Refused.ensures in
     (h.0.0, h.0.1, λ _. refl)
 
 pub shape_of-frames-in-Stream : goal.shape_of-frames-in-Stream
@@ -123,5 +89,5 @@ returns-in-Stream c =
     let a = c.args in
     let t : Tables = tables_from a.gconsts.now a.means_invvars_t.now a.inv_vars_t.now a.sigma_inv_m.now a.u.now a.lda_t.now a.lda_offset.now a.global_mean_stats.now in
     let z : Rooms = rooms_from (rings_from a.frames.now a.rows.now a.waiting_frames.now a.waiting_weights.now) (estimate_from a.cmvn_stats.now a.linear.now a.quadratic.now a.current.now) in
-    let h = play_played a.info t z (length a.scratch.now) a.seed a.times _ _ c.size_refusal-size.ensures c.if-size-ne0.false c.new-made.ensures.0 c.new-made.ensures.1 _ c.in-Stream.is c.first_state-state.ensures c.play_calls-greatest.ensures in
-    (h.0, h.1, λ some. absurd (some (played_none a.info t z (length a.scratch.now) a.seed a.times _ _ c.size_refusal-size.ensures c.if-size-ne0.false c.new-made.ensures.0 c.new-made.ensures.1 _ c.in-Stream.is)))
+    let h = play_played a.info t z (length a.scratch.now) a.seed a.times _ _ c.in-Ok.ensures.value refl c.new-made.ensures.0 c.new-made.ensures.1 _ c.in-Stream.is refl c.play_calls-greatest.ensures in
+    (h.0, h.1, λ some. absurd (some (played_none a.info t z (length a.scratch.now) a.seed a.times _ _ c.in-Ok.ensures.value refl c.new-made.ensures.0 c.new-made.ensures.1 _ c.in-Stream.is)))

@@ -1,0 +1,2 @@
+-- What a call on a writer leaves.
+pub mod Wrote

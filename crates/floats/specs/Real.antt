@@ -1,0 +1,32 @@
+-- What the two widths of a float share, and how a table of one width keeps a number of another.
+use Rattle.std.specs.Prelude.{◌≡◌, refl, ℕ, Bool, true, false, Some, None, Float, if◌then◌else◌}
+use Rattle.std.specs.declared.cmp.Ordering.TheVariants.{Less, Equal, Greater}
+use Rattle.std.specs.Ordering.{is_lt, is_some_and, partial_lt, float_partial_cmp}
+use Rattle.std.specs.Float.{Format, binary32, binary64}
+use Rattle.std.specs.Float.Ieee.{lt, eq}
+use Rattle.floats.specs.Narrow.{narrowed}
+
+-- one thing for an f32, another for an f64
+abbrev pub by_width : {A : Type 0} → A → A → Format → A
+by_width a b binary32 = a
+by_width a b binary64 = b
+
+-- bytes of a float
+abbrev pub byte_width : Format → ℕ
+byte_width = by_width 4 8
+
+-- a number that is written at width w, as a table of width f keeps it: an f64 is narrowed for one of f32; an f32 is an f64 as it stands (request 5)
+abbrev pub kept_as : Format → Format → Float → Float
+kept_as binary32 binary32 x = x
+kept_as binary32 binary64 x = narrowed x
+kept_as binary64 w x = x
+
+-- the library's `<` of floats, by its three-way comparison, is the format's
+pub lt_by_cmp : (x y : Float) → partial_lt float_partial_cmp x y ≡ lt x y
+lt_by_cmp x y = go (lt x y) (eq x y) (lt y x)
+  where
+    go : (a b c : Bool) → is_some_and is_lt (if a then Some Less else if b then Some Equal else if c then Some Greater else None) ≡ a
+    go true b c = refl
+    go false true c = refl
+    go false false true = refl
+    go false false false = refl

@@ -1,0 +1,89 @@
+-- Numbers in bytes, from low to high.
+use Rattle.std.proofs.Common.{◌≡◌, ℕ, zero, suc, ◌+◌, ◌-◌, ◌*◌, ◌<◌, ◌≤◌, Bool, true, false, List, [], ◌∷◌, length, get_or, take, drop, sym, ap, refl, ◌∙◌, arith, add_assoc, length-drop, drop-drop, not-suc-le-zero, le_of_suc-le-suc, suc-mul, from_bits}
+use Rattle.std.proofs.lemmas.List.{length-take-le, same_lists, get_or_default}
+use Rattle.std.proofs.Math.Seq.{take-length}
+use Rattle.std.specs.Int.{Width, w32, w64, byte_len, from_le_bytes}
+use Rattle.std.specs.Float.{Format, binary32, binary64}
+use Rattle.loops.proofs.Parts.{drop_next}
+use lib.Ieee.{Float, nan}
+use Rattle.floats.specs.Operators.{at}
+use mathlib.Core.Bool.{false≢true}
+use Rattle.loops.specs.Lists.{all_of}
+use Rattle.loops.proofs.Choose.{by-test}
+use Rattle.loops.proofs.Tests.{each_at, at_each}
+use Rattle.definition.specs.Reader.{little_endian, byte_width, kept_as, numbers, kept}
+
+next-byte : (n : ℕ) (s : List ℕ) (at : ℕ) → at < length s → take (suc n) (drop at s) ≡ get_or s at 0 ∷ take n (drop (at + 1) s)
+next-byte n s at h = rw (drop_next 0 s at h)
+
+-- four bytes, and n bytes after them: at n = 0 a number of four, at n = 4 one of eight
+four_bytes : (n : ℕ) (s : List ℕ) (at : ℕ) → at + 4 ≤ length s
+    → little_endian (take (suc (suc (suc (suc n)))) (drop at s))
+    ≡ get_or s at 0 + get_or s (at + 1) 0 * 256 + get_or s (at + 2) 0 * 65536 + get_or s (at + 3) 0 * 16777216 + little_endian (take n (drop (at + 4) s)) * 4294967296
+unfolding little_endian
+four_bytes n s at h =
+    let a = ap little_endian (next-byte (suc (suc (suc n))) s at (omega arith)) in
+    let b = rw add_assoc at (ap little_endian (next-byte (suc (suc n)) s (at + 1) (omega arith))) in
+    let c = rw add_assoc at (ap little_endian (next-byte (suc n) s (at + 2) (omega arith))) in
+    let d = rw add_assoc at (ap little_endian (next-byte n s (at + 3) (omega arith))) in
+    omega arith
+
+-- std's reading of as many bytes as a width has is the definition's
+pub read_bytes : (w : Width) (f : Format) (s : List ℕ) → byte_len w ≡ byte_width f → length s ≡ byte_width f → from_le_bytes w s ≡ little_endian s
+unfolding little_endian
+read_bytes w binary32 s e h =
+    let whole : take 4 s ≡ s = ap (λ (n : ℕ). take n s) (sym h) ∙ take-length s in
+    let value = four_bytes 0 s 0 (omega arith) in
+    rw e (omega (arith, value, ap little_endian whole))
+read_bytes w binary64 s e h =
+    let whole : take 8 s ≡ s = ap (λ (n : ℕ). take n s) (sym h) ∙ take-length s in
+    let value = four_bytes 4 s 0 (omega arith) in
+    let high = four_bytes 0 s 4 (omega arith) in
+    rw e (omega (arith, value, high, ap little_endian whole))
+
+pub read_4 : (s : List ℕ) → length s ≡ 4 → from_le_bytes w32 s ≡ little_endian s
+read_4 s h = read_bytes w32 binary32 s refl h
+
+pub read_8 : (s : List ℕ) → length s ≡ 8 → from_le_bytes w64 s ≡ little_endian s
+read_8 s h = read_bytes w64 binary64 s refl h
+
+pub ruleset reads = (read_4, read_8)
+
+-- the bytes of number i: n of them, from a place on
+pub number_bytes : (w : Width) (f : Format) (s : List ℕ) (i n from : ℕ) → byte_len w ≡ byte_width f → n ≡ byte_width f → from ≡ i * byte_width f → from + n ≤ length s
+    → from_le_bytes w (take n (drop from s)) ≡ little_endian (take (byte_width f) (drop (i * byte_width f) s))
+number_bytes w f s i n from word size start inside =
+    let long : n ≤ length (drop from s) = omega (arith, length-drop from s) in
+    read_bytes w f (take n (drop from s)) word (length-take-le n (drop from s) long ∙ size)
+    ∙ rw (size, start) refl
+
+-- ---- the numbers of a list of bytes
+
+pub numbers_length : (f w : Format) (n : ℕ) (l : List ℕ) → length (numbers f w n l) ≡ n
+unfolding numbers
+numbers_length f w zero l = refl
+numbers_length f w (suc n) l = ap suc (numbers_length f w n (drop (byte_width w) l))
+
+-- number i stands i sizes further
+pub numbers_at : (f w : Format) (n : ℕ) (l : List ℕ) (i : ℕ) → i < n → at (numbers f w n l) i ≡ kept_as f w (from_bits w (little_endian (take (byte_width w) (drop (i * byte_width w) l))))
+unfolding numbers
+numbers_at f w zero l i h = absurd (not-suc-le-zero h)
+numbers_at f w (suc n) l zero h = let e : 0 ≡ 0 * byte_width w = omega arith in ap (λ (m : ℕ). kept_as f w (from_bits w (little_endian (take (byte_width w) (drop m l))))) e
+numbers_at f w (suc n) l (suc i) h =
+    let e : byte_width w + i * byte_width w ≡ suc i * byte_width w = omega (arith, suc-mul i (byte_width w)) in
+    numbers_at f w n (drop (byte_width w) l) i (le_of_suc-le-suc h)
+    ∙ ap (λ (m : List ℕ). kept_as f w (from_bits w (little_endian (take (byte_width w) m)))) (drop-drop (i * byte_width w) (byte_width w) l)
+    ∙ ap (λ (m : ℕ). kept_as f w (from_bits w (little_endian (take (byte_width w) (drop m l))))) e
+
+-- equal lists, place by place
+pub filled : (xs : List Float) (f w : Format) (n : ℕ) (l : List ℕ) → length xs ≡ n → ((k : ℕ) → k < n → at xs k ≡ at (numbers f w n l) k) → xs ≡ numbers f w n l
+filled xs f w n l long same =
+    same_lists xs (numbers f w n l) (long ∙ sym (numbers_length f w n l))
+    (λ k d h. get_or_default xs k d nan h ∙ same k (omega (arith, long)) ∙ sym (get_or_default (numbers f w n l) k d nan (omega (arith, long, numbers_length f w n l))))
+
+-- whether all are to keep: each is, or one is not
+pub all_kept : (positive : Bool) (xs : List Float) → ((k : ℕ) → k < length xs → kept positive (at xs k) ≡ true) → all_of (kept positive) xs ≡ true
+all_kept positive xs each = at_each (kept positive) nan xs each
+
+pub one_not_kept : (positive : Bool) (xs : List Float) (k : ℕ) → k < length xs → kept positive (at xs k) ≡ false → all_of (kept positive) xs ≡ false
+one_not_kept positive xs k h e = by-test (all_of (kept positive) xs) (λ t. absurd (false≢true (sym e ∙ each_at (kept positive) nan xs k t h))) (λ t. t)

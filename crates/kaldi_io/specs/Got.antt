@@ -1,0 +1,32 @@
+use Rattle.std.specs.Prelude.{ℕ, List, Result, Ok, Err, Float}
+use Rattle.std.specs.Borrow.{Bor}
+use Rattle.std.specs.Float.{Format, binary32, binary64}
+use Rattle.definition.specs.Reader.{Got, read, refused, numbers}
+use Rattle.definition.specs.Kaldi as K
+use Rattle.definition.specs.Number.{number_of}
+use Rattle.definition.specs.declared.refusal.Refusal.{Refusal}
+use Rattle.kaldi_io.specs.declared.blocks.Numbers.{Numbers}
+use Rattle.kaldi_io.specs.declared.blocks.Matrix.{Matrix}
+use Rattle.kaldi_io.specs.declared.blocks.Packed.{Packed}
+use Rattle.kaldi_io.specs.Widths.{format_of}
+
+abbrev pub got : {A B : Type 0} → (A → B) → Result A Refusal → ℕ → Got B
+got f (Ok a) at = read (f a) at
+got f (Err e) at = refused (number_of e)
+
+abbrev pub itself : {A : Type 0} → A → A
+itself a = a
+
+-- the bytes behind a reference
+abbrev pub list_of : Bor (List ℕ) → List ℕ
+list_of b = b.now
+
+-- as a table of a format keeps them
+abbrev pub numbers_in : Format → Numbers → List Float
+numbers_in f s = numbers f (format_of s.width) s.count s.bytes.now
+
+abbrev pub matrix_in : Format → Matrix → K.Matrix
+matrix_in f m = record { rows = m.rows; cols = m.cols; nums = numbers_in f m.numbers }
+
+abbrev pub packed_in : Packed → K.Packed
+packed_in m = record { rows = m.dim; nums = numbers_in binary64 m.numbers }
