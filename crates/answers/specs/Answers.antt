@@ -1,20 +1,14 @@
 -- An exported answer is a record with the refusal's number, 0 where the call was taken. The record beside a refusal is one that no
 -- call made and that every call refuses with 10.
-use Rattle.std.specs.Prelude.{[]}
+use Rattle.std.specs.Prelude.{[], ℕ, Result, Ok, Err}
 use Rattle.floats.specs.Operators.{zero₃₂, zero₆₄}
 use Rattle.definition.specs.declared.IvectorOptions.{IvectorOptions}
 use Rattle.definition.specs.declared.Dimensions.{Dimensions}
 use Rattle.definition.specs.declared.IvectorInfo.{IvectorInfo}
 use Rattle.definition.specs.declared.IvectorStream.{IvectorStream}
-use Rattle.definition.specs.declared.Loaded.{Loaded}
-use Rattle.definition.specs.declared.Loaded.TheVariants as L
-use Rattle.definition.specs.declared.NewStream.{NewStream}
-use Rattle.definition.specs.declared.NewStream.TheVariants as N
 use Rattle.definition.specs.declared.StreamAnswer.{StreamAnswer}
 use Rattle.definition.specs.declared.StreamCall.{StreamCall}
 use Rattle.definition.specs.declared.SilenceWeighting.{SilenceWeighting}
-use Rattle.definition.specs.declared.NewTable.{NewTable}
-use Rattle.definition.specs.declared.NewTable.TheVariants as T
 use Rattle.definition.specs.Model.{lengths_from}
 use Rattle.definition.specs.Silence.{decoder}
 use Rattle.program.specs.Rooms.{rings_from, estimate_from, rooms_from, room_lengths_of}
@@ -29,9 +23,9 @@ no_info o =
     record { opts = o; dims = d; prior_offset = zero₆₄; tables = lengths_from 0 0 0 0 0 0 0 0 }
 
 -- with options o
-unfoldable pub load_answer : IvectorOptions → Loaded → LoadAnswer
-load_answer o (L.Model i) = record { refusal = 0; info = i }
-load_answer o (L.Refused n) = record { refusal = n; info = no_info o }
+unfoldable pub load_answer : IvectorOptions → Result IvectorInfo ℕ → LoadAnswer
+load_answer o (Ok i) = record { refusal = 0; info = i }
+load_answer o (Err n) = record { refusal = n; info = no_info o }
 
 -- no window is 0
 abbrev pub no_options : IvectorOptions
@@ -57,14 +51,14 @@ no_stream i = fresh_stream i (room_lengths_of (rooms_from (rings_from [] [] [] [
 abbrev pub answered : StreamAnswer → IvectorStream → StreamCall
 answered a s = record { answer = a; stream = s }
 
-unfoldable pub new_stream_answer : IvectorInfo → NewStream → StreamCall
-new_stream_answer i (N.Stream c) = c
-new_stream_answer i (N.Refused n) = answered (answer_from n 0 0 0 0) (no_stream i)
+unfoldable pub new_stream_answer : IvectorInfo → Result StreamCall ℕ → StreamCall
+new_stream_answer i (Ok c) = c
+new_stream_answer i (Err n) = answered (answer_from n 0 0 0 0) (no_stream i)
 
 -- no subsampling is 0
 abbrev pub no_table : SilenceWeighting
 no_table = record { silence_weight = zero₃₂; subsampling = 0; phones = 0; table = 0; length = decoder 0 }
 
-unfoldable pub new_table_answer : NewTable → NewTableAnswer
-new_table_answer (T.Table s) = record { refusal = 0; silence = s }
-new_table_answer (T.Refused n) = record { refusal = n; silence = no_table }
+unfoldable pub new_table_answer : Result SilenceWeighting ℕ → NewTableAnswer
+new_table_answer (Ok s) = record { refusal = 0; silence = s }
+new_table_answer (Err n) = record { refusal = n; silence = no_table }

@@ -1,14 +1,13 @@
-// The answers of the exported calls as records: what an inner call answers by an enum, with the refusal's number and a record beside it. In a crate
-// of their own, so that a check of them stays short.
+// The answers of the exported calls as the records that C gets, each of these with what stands beside a refusal: what an inner call answers by a `Result`,
+// with the refusal's number and a record beside it. In a crate of their own, so that a check of them stays short.
 #![tactic(auto)]
 
 ghost use Rattle.std.specs.Prelude.{◌≡◌};
-ghost use Rattle.silence_weighting.specs.Rooms.{made};
+ghost use Rattle.definition.specs.Number.{numbered};
 ghost use Rattle.answers.specs.Answers.{no_info, load_answer, no_options, no_stream, new_stream_answer, no_table, new_table_answer};
 
 use definition::{
-    IvectorInfo, IvectorOptions, IvectorStream, Loaded, NewStream, Refusal, SilenceWeighting,
-    StreamAnswer, StreamCall,
+    IvectorInfo, IvectorOptions, IvectorStream, Refusal, SilenceWeighting, StreamAnswer, StreamCall,
 };
 
 // The answer of a load: the record where the refusal is 0, else one that no fresh stream takes.
@@ -40,12 +39,12 @@ fn no_info(opts: IvectorOptions) -> IvectorInfo
 }
 
 #[tactic(auto, unfolding(crate::specs::Answers::load_answer))]
-pub fn load_answer(opts: IvectorOptions, a: Loaded) -> LoadAnswer
+pub fn load_answer(opts: IvectorOptions, a: Result<IvectorInfo, usize>) -> LoadAnswer
     ensures { result ≡ load_answer opts a }
 {
     match a {
-        Loaded::Model(info) => LoadAnswer { refusal: 0, info },
-        Loaded::Refused(refusal) => {
+        Ok(info) => LoadAnswer { refusal: 0, info },
+        Err(refusal) => {
             let info = no_info(opts);
             LoadAnswer { refusal, info }
         }
@@ -77,12 +76,12 @@ fn no_stream(info: IvectorInfo) -> IvectorStream
 }
 
 #[tactic(auto, unfolding(crate::specs::Answers::new_stream_answer))]
-pub fn stream_answer(info: IvectorInfo, a: NewStream) -> StreamCall
+pub fn stream_answer(info: IvectorInfo, a: Result<StreamCall, usize>) -> StreamCall
     ensures { result ≡ new_stream_answer info a }
 {
     match a {
-        NewStream::Stream(call) => call,
-        NewStream::Refused(refusal) => StreamCall {
+        Ok(call) => call,
+        Err(refusal) => StreamCall {
             answer: StreamAnswer {
                 refusal,
                 ..StreamAnswer::default()
@@ -94,21 +93,27 @@ pub fn stream_answer(info: IvectorInfo, a: NewStream) -> StreamCall
 
 // ---- the silence table
 
+// Beside a refusal a record with no subsampling.
 #[tactic(auto, unfolding(crate::specs::Answers::new_table_answer))]
-impl From<Result<SilenceWeighting, Refusal>> for NewTableAnswer {
-    ghost from_gives = { λ a r. r ≡ new_table_answer (made a) };
+pub fn table_answer(a: Result<SilenceWeighting, usize>) -> NewTableAnswer
+    ensures { result ≡ new_table_answer a }
+{
+    match a {
+        Ok(silence) => NewTableAnswer {
+            refusal: 0,
+            silence,
+        },
+        Err(number) => NewTableAnswer {
+            refusal: number,
+            silence: SilenceWeighting::default(),
+        },
+    }
+}
 
-    // Beside a refusal a record with no subsampling.
+impl From<Result<SilenceWeighting, Refusal>> for NewTableAnswer {
+    ghost from_gives = { λ a r. r ≡ new_table_answer (numbered a) };
+
     fn from(a: Result<SilenceWeighting, Refusal>) -> NewTableAnswer {
-        match a {
-            Ok(silence) => NewTableAnswer {
-                refusal: 0,
-                silence,
-            },
-            Err(e) => NewTableAnswer {
-                refusal: e.number(),
-                silence: SilenceWeighting::default(),
-            },
-        }
+        table_answer(definition::numbered(a))
     }
 }

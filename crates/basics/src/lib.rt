@@ -7,23 +7,27 @@ ghost use Rattle.loops.specs.Ring.{rows_in, place};
 ghost use Rattle.loops.specs.Steps.{fill};
 ghost use Rattle.floats.specs.Operators.{◌+₆₄◌, ◌-₆₄◌, ◌*₆₄◌, zero₆₄, at};
 
-// a less b, not below 0.
+// These three are the library's methods, each under the definition's word for it.
+
+// a less b, not below 0: the definition's `-`.
 pub fn less(a: usize, b: usize) -> usize
     ensures { result ≡ a - b }
 {
-    if b <= a { a - b } else { 0 }
+    a.saturating_sub(b)
 }
 
+// The smaller of two: the definition's `min`.
 pub fn smaller(a: usize, b: usize) -> usize
     ensures { result ≡ min a b }
 {
-    if a <= b { a } else { b }
+    a.min(b)
 }
 
+// The larger of two: the definition's `max`.
 pub fn larger(a: usize, b: usize) -> usize
     ensures { result ≡ max a b }
 {
-    if a <= b { b } else { a }
+    a.max(b)
 }
 
 // Where row t of a ring of so many numbers begins.
@@ -58,7 +62,7 @@ pub fn row_after(numbers: usize, dim: usize, here: usize) -> usize
     }
 }
 
-// Zeros in all n places.
+// Zeros in all n places. The length is a number of its own, by which the definition says the room: a slice alone would be no plainer in a clause.
 pub fn clear(x: &mut [f64], n: usize)
     requires { length x.old ≡ n }
     ensures { x.new ≡ replicate n zero₆₄ }
@@ -66,7 +70,7 @@ pub fn clear(x: &mut [f64], n: usize)
     x.fill(0.0);
 }
 
-// Zeros in the first n places.
+// Zeros in the first n places: what stands behind them is kept, so a part that the caller cuts would be no plainer.
 pub fn clear_front(x: &mut [f64], n: usize)
     requires { n ≤ length x.old }
     ensures { x.new ≡ over (replicate n zero₆₄) x.old }
@@ -84,7 +88,7 @@ pub fn add_scaled(v: f64, row: &[f64], out: &mut [f64])
     }
 }
 
-// One row less another, n places of each.
+// One row less another, n places of each: the rows are cut from tables and rings that go on behind them. By index, as above.
 pub fn difference(high: &[f64], low: &[f64], n: usize, out: &mut [f64])
     requires { (n ≤ length high.now) × (n ≤ length low.now) × (n ≤ length out.old) }
     ensures { out.new ≡ fill n (λ i. at high.now i -₆₄ at low.now i) out.old }

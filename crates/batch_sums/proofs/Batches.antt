@@ -45,21 +45,18 @@ module _ (chosen : List ℕ) (posts : List Float) where
       ∙ ap (λ (l : List Post). l ++ (f i ∷ [])) (sym (held_build i chosen posts (omega arith) (omega arith)))
 
   module _ (es : List Entry) (f : Post → Entry) where
-    pub batch : ℕ → List Entry
+    abbrev pub batch : ℕ → List Entry
     batch i = es ++ map f (held i chosen posts)
 
     pub batch_none : es ≡ batch 0
-    unfolding batch
     batch_none = sym (ap (λ (l : List Post). es ++ map f l) (held_none chosen posts) ∙ append-nil es)
 
     pub batch_next : (i : ℕ) → i < length chosen → i < length posts → batch i ++ (f (get_or chosen i 0, at posts i) ∷ []) ≡ batch (i + 1)
-    unfolding batch
     batch_next i p q =
         append_assoc es (map f (held i chosen posts)) _
         ∙ ap (λ (l : List Entry). es ++ l) (sym (ap (map f) (held_next i p q) ∙ map-append f (held i chosen posts) ((get_or chosen i 0, at posts i) ∷ [])))
 
     pub batch_all : (i n : ℕ) → i ≤ n → n ≤ i → batch i ≡ es ++ map f (held n chosen posts)
-    unfolding batch
     batch_all i n p q = at_end batch i n p q refl
 
 -- ---- a frame by its weight

@@ -1,5 +1,5 @@
 -- Each Gaussian has one slot, so there is a place for a new one.
-use Rattle.std.proofs.Common.{◌≡◌, ℕ, zero, suc, ◌+◌, ◌*◌, ◌<◌, ◌≤◌, eqb, ltb, List, length, get_or, take, set, length-take-le, get_or-take, sym, ap, ◌∙◌, not-suc-le-zero, arith, get_or-set_other, get_or-set_same, ltb-false, ltb-true, le-ltb, lt-ltb, eqb-true, if◌then◌else◌}
+use Rattle.std.proofs.Common.{◌≡◌, ℕ, zero, suc, ◌+◌, ◌*◌, ◌<◌, ◌≤◌, eqb, ltb, List, length, get_or, set, sym, ap, ◌∙◌, not-suc-le-zero, arith, get_or-set_other, get_or-set_same, ltb-false, ltb-true, le-ltb, lt-ltb, eqb-true, if◌then◌else◌}
 use lib.Ieee.{Float}
 use borrow.Author.Tests.{eqb-false}
 use Rattle.loops.proofs.Choose.{by-test}
@@ -75,10 +75,3 @@ module _ (n d m : ℕ) (gs : List ℕ) (tot sum : List Float) (z : Slots n d m g
       → Slots n d r gs' tot' sum'
   slots_kept r e f g l fair =
       record { seen_long = omega (arith, z.seen_long); tot_long = omega (arith, z.tot_long); sum_long = omega (arith, z.sum_long); room = l; fair = fair }
-
--- where a Gaussian stands among the first m, as the code looks it up in their part
-pub seen_front : (g m : ℕ) (seen : List ℕ) {k : ℕ} → m ≤ length seen → k ≤ length (take m seen) → ((j : ℕ) → j < k → get_or (take m seen) j 0 ≡ g → ⊥)
-    → (k < length (take m seen) → get_or (take m seen) k 0 ≡ g) → (k ≤ m) × ((j : ℕ) → j < k → get_or seen j 0 ≡ g → ⊥) × (k < m → get_or seen k 0 ≡ g)
-seen_front g m seen {k} h most none here =
-    let l : length (take m seen) ≡ m = length-take-le m seen h in
-    (omega arith, λ j s e. none j s (get_or-take m seen j 0 (omega arith) ∙ e), λ s. sym (get_or-take m seen k 0 s) ∙ here (omega arith))

@@ -23,7 +23,7 @@ impl Writer<'_> {
         self.at = to;
     }
 
-    // The same bytes n times.
+    // The same bytes n times: of n turns alone, `for` over a range is what says it; a chain would be no plainer.
     pub fn repeated(&mut self, n: usize, src: &[u8])
         requires { HasRoom (flat n (λ i. src.now)) self.old }
         ensures { Wrote (flat n (λ i. src.now)) self.old self.new }

@@ -1,4 +1,5 @@
 -- P1 to P12 of the scope's "Examples": what the definitions say of them, computed. `P1-to-P12` gathers them. Then examples of requests 4, 5, 8 and 12.
+use Rattle.std.specs.Prelude.{Ok}
 use mathlib.Core.Path.{◌≡◌, refl}
 use Prim.Native.Nat.{ℕ, ◌*◌}
 use mathlib.Core.Bool.{true, false}
@@ -15,7 +16,6 @@ use Rattle.definition.specs.declared.TableLengths.{TableLengths}
 use Rattle.definition.specs.declared.RoomLengths.{RoomLengths}
 use Rattle.definition.specs.declared.StreamAnswer.{StreamAnswer}
 use Rattle.definition.specs.declared.SilenceWeighting.{SilenceWeighting}
-use Rattle.definition.specs.declared.NewTable.TheVariants as N
 use Rattle.definition.specs.declared.SilenceAnswer.{SilenceAnswer}
 use Rattle.definition.specs.Reader.{read, refused, text, by_width, byte_width, floats}
 use Rattle.definition.specs.Kaldi.{vector_tag, matrix_tag, packed_tag, block_width, skipped}
@@ -231,7 +231,7 @@ pub record Examples : Type 0 where
   -- both changes are below the frame named (request 8)
   pub P11 : answers_from late-model lengths.rings twelve (forget 10 ∷ changes-at 6 ∷ changes-at 7 ∷ [])
       ≡ said 0 8 13 [] 0 ∷ said 30 8 13 [] 0 ∷ said 30 8 13 [] 0 ∷ []
-  pub P12-new : new_table 1 quarter 3 100 ≡ N.Table (silence 0)
+  pub P12-new : new_table 1 quarter 3 100 ≡ Ok (silence 0)
   pub P12 : first.answer ≡ changes 6
   pub P12-frames : first.frames ≡ 0 ∷ 1 ∷ 2 ∷ 3 ∷ 4 ∷ 5 ∷ []
   pub P12-weights : first.weights ≡ replicate 6 quarter

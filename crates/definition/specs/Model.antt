@@ -1,5 +1,5 @@
 -- A model: its tables, how they come from the files' numbers, and the load with refusals 1 to 8.
-use Rattle.std.specs.Prelude.{ℕ, ◌+◌, ◌-◌, ◌*◌, ◌/◌, Bool, ◌&&◌, List, [], ◌∷◌, length, get_or, take, leb, ltb, eqb, Float, if◌then◌else◌}
+use Rattle.std.specs.Prelude.{ℕ, ◌+◌, ◌-◌, ◌*◌, ◌/◌, Bool, ◌&&◌, List, [], ◌∷◌, length, get_or, take, leb, ltb, eqb, Float, if◌then◌else◌, Result, Ok, Err}
 use Rattle.std.specs.Float.Ieee.{neg}
 use Rattle.loops.specs.Lists.{build, flat, all_true, pairwise, over}
 use Rattle.floats.specs.Operators.{◌+₆₄◌, ◌-₆₄◌, ◌*₆₄◌, ◌/₆₄◌, f64, zero₃₂, zero₆₄, half₆₄, as_f64, at, sum₆₄}
@@ -9,8 +9,6 @@ use Rattle.definition.specs.declared.IvectorOptions.{IvectorOptions}
 use Rattle.definition.specs.declared.Dimensions.{Dimensions}
 use Rattle.definition.specs.declared.TableLengths.{TableLengths}
 use Rattle.definition.specs.declared.IvectorInfo.{IvectorInfo}
-use Rattle.definition.specs.declared.Loaded.{Loaded}
-use Rattle.definition.specs.declared.Loaded.TheVariants as L
 use Rattle.definition.specs.Options.{options_in_range, spliced, dims_agree}
 use Rattle.definition.specs.Reader.{Got, read, refused, Parser, after, ◌>>=◌, ◌>>◌, give, need}
 use Rattle.definition.specs.Kaldi.{Matrix, matrix_at, triangle, Gmm, gmm, Extractor, extractor, lda}
@@ -252,9 +250,9 @@ unfoldable pub load : IvectorOptions → Files → TableLengths → ℕ → Got 
 load o f z scratch = loading o f z scratch [] 0
 
 -- what a load answers, and what it leaves in the tables
-abbrev pub loaded_of : Got Model → Loaded
-loaded_of (refused n) = L.Refused n
-loaded_of (read M at) = L.Model M.info
+abbrev pub loaded_of : Got Model → Result IvectorInfo ℕ
+loaded_of (refused n) = Err n
+loaded_of (read M at) = Ok M.info
 
 abbrev pub loaded_tables : Got Model → Tables → Tables
 loaded_tables (refused n) t = t

@@ -43,3 +43,8 @@ number_of R.ListTooShort = 99
 abbrev pub refused_by : {A : Type 0} → Result A Refusal → ℕ
 refused_by (Ok a) = 0
 refused_by (Err e) = number_of e
+
+-- what a call gives where it can be refused, a refusal by its number
+abbrev pub numbered : {A : Type 0} → Result A Refusal → Result A ℕ
+numbered (Ok a) = Ok a
+numbered (Err e) = Err (number_of e)

@@ -1,5 +1,5 @@
 -- "Silence table": `SilenceWeighting`, and refusals 9, 10, 23 and 24. Place k of a table is decoder frame k.
-use Rattle.std.specs.Prelude.{ℕ, suc, ◌+◌, ◌-◌, ◌*◌, ◌/◌, min, max, Bool, true, false, not, ◌&&◌, ◌||◌, length, get_or, eqb, leb, ltb, ℤ, pos, negsuc, Float, if◌then◌else◌}
+use Rattle.std.specs.Prelude.{ℕ, suc, ◌+◌, ◌-◌, ◌*◌, ◌/◌, min, max, Bool, true, false, not, ◌&&◌, ◌||◌, length, get_or, eqb, leb, ltb, ℤ, pos, negsuc, Float, if◌then◌else◌, Result, Ok, Err}
 use mathlib.Core.List.{List, [], ◌∷◌, map, foldl}
 use Rattle.std.specs.Float.{nan}
 use Rattle.std.specs.Float.Ieee.{ne}
@@ -11,8 +11,6 @@ use Rattle.floats.specs.Operators.{◌-₃₂◌, zero₃₂, one₃₂}
 use Rattle.definition.specs.declared.InputFrame.{InputFrame}
 use Rattle.definition.specs.declared.DecoderFrame.{DecoderFrame}
 use Rattle.definition.specs.declared.SilenceWeighting.{SilenceWeighting}
-use Rattle.definition.specs.declared.NewTable.{NewTable}
-use Rattle.definition.specs.declared.NewTable.TheVariants as N
 use Rattle.definition.specs.declared.SilenceAnswer.{SilenceAnswer}
 use Rattle.definition.specs.Options.{within}
 use Rattle.definition.specs.Changes.{Change}
@@ -126,10 +124,10 @@ unfoldable pub settings_refusal : ℕ → Float → ℕ → ℕ
 settings_refusal phones w subsampling = first_of ((ltb 64 phones, 9) ∷ (not (within 1 16 subsampling), 9) ∷ (not (finite w), 9) ∷ [])
 
 -- `SilenceWeighting::new`, for rooms of n places
-unfoldable pub new_table : ℕ → Float → ℕ → ℕ → NewTable
+unfoldable pub new_table : ℕ → Float → ℕ → ℕ → Result SilenceWeighting ℕ
 new_table phones w subsampling n =
     let r = settings_refusal phones w subsampling in
-    taken r (N.Table (record { silence_weight = w; subsampling = subsampling; phones = phones; table = n; length = decoder 0 })) (N.Refused r)
+    taken r (Ok (record { silence_weight = w; subsampling = subsampling; phones = phones; table = n; length = decoder 0 })) (Err r)
 
 unfoldable pub active : SilenceWeighting → Bool
 active s = not (eqb s.phones 0) && ne s.silence_weight one₃₂

@@ -4,8 +4,8 @@
 mod lent;
 mod refusal;
 
-pub use lent::{LentFrames, LentTables, LentWaiting};
-pub use refusal::{Refusal, need, number_or_0};
+pub use lent::{FrameRooms, LentEstimate, LentFrames, LentTables, LentWaiting, WaitingRooms};
+pub use refusal::{Refusal, need, number_or_0, numbered};
 
 // The options. Their limits: specs/Options.antt.
 #[repr(C)]
@@ -59,14 +59,8 @@ pub struct IvectorInfo {
     pub tables: TableLengths,
 }
 
-// The answer of a load.
-#[derive(Clone, Copy)]
-pub enum Loaded {
-    Model(IvectorInfo),
-    Refused(usize),
-}
-
-// How a frame enters the statistics: not at all, or with a prune floor and a scale.
+// How a frame enters the statistics: not at all, or with a prune floor and a scale. An `Option` of a pair would be no plainer: the clauses have the two cases
+// by their names.
 #[derive(Clone, Copy, Debug, PartialEq)]
 pub enum FrameWeight {
     Skipped,
@@ -122,7 +116,7 @@ pub struct IvectorStream {
 }
 
 // The answer of a call on a stream. A fetch's vector is in the output that it is lent; how many of its numbers are not finite, and how many
-// likelihoods of the frames that it brought in were NaN.
+// likelihoods of the frames that it brought in were NaN. C gets this record, so a refusal is a number in it.
 #[repr(C)]
 #[derive(Clone, Copy, Debug, Default, PartialEq)]
 pub struct StreamAnswer {
@@ -139,13 +133,6 @@ pub struct StreamAnswer {
 pub struct StreamCall {
     pub answer: StreamAnswer,
     pub stream: IvectorStream,
-}
-
-// The answer of a fresh stream: what a call on it would return, or a refusal's number.
-#[derive(Clone, Copy)]
-pub enum NewStream {
-    Stream(StreamCall),
-    Refused(usize),
 }
 
 // A number of input frames, or the number of one.
@@ -169,14 +156,7 @@ pub struct SilenceWeighting {
     pub length: DecoderFrame,
 }
 
-// The answer where a silence table is made.
-#[derive(Clone, Copy)]
-pub enum NewTable {
-    Table(SilenceWeighting),
-    Refused(usize),
-}
-
-// The answer of a call on a silence table: how many changes it gives, and the record for the next call.
+// The answer of a call on a silence table, for C, a refusal by its number: how many changes it gives, and the record for the next call.
 #[repr(C)]
 #[derive(Clone, Copy, Debug, Default, PartialEq)]
 pub struct SilenceAnswer {

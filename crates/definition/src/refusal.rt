@@ -2,7 +2,7 @@
 
 ghost use Rattle.std.specs.Prelude.{◌≡◌, [], ◌∷◌, not};
 ghost use Rattle.loops.specs.Refusal.{first_of};
-ghost use Rattle.definition.specs.Number.{number_of, refused_by};
+ghost use Rattle.definition.specs.Number.{number_of, refused_by, numbered};
 
 /// Why a call was not taken. A refused call has changed nothing.
 #[derive(Clone, Copy, Debug, PartialEq, Eq, Hash)]
@@ -78,7 +78,7 @@ pub enum Refusal {
 }
 
 impl Refusal {
-    /// The number that the C interface gives.
+    /// The number that the C interface gives. A method, as the definition has a word for it: `usize::from` would not say which number.
     pub fn number(self) -> usize
         ensures { result ≡ number_of self }
     {
@@ -86,7 +86,7 @@ impl Refusal {
     }
 }
 
-/// `Err(e)` unless the test holds.
+/// `Err(e)` unless the test holds. A flag is what a test gives: an `if` at each place would be no plainer.
 #[tactic(auto, unfolding(loops::specs::Refusal::first_of))]
 pub fn need(holds: bool, e: Refusal) -> Result<(), Refusal>
     ensures { refused_by result ≡ first_of ((not holds, number_of e) ∷ []) }
@@ -101,5 +101,15 @@ pub fn number_or_0(r: Result<(), Refusal>) -> usize
     match r {
         Ok(()) => 0,
         Err(e) => e.number(),
+    }
+}
+
+/// The same, a refusal by its number.
+pub fn numbered<T>(r: Result<T, Refusal>) -> Result<T, usize>
+    ensures { result ≡ numbered r }
+{
+    match r {
+        Ok(x) => Ok(x),
+        Err(e) => Err(e.number()),
     }
 }

@@ -14,7 +14,7 @@ use Rattle.loops.specs.Lists.{build, those, over}
 use Rattle.loops.specs.Steps.{fill}
 use Rattle.loops.specs.Ring.{put}
 use Rattle.loops.proofs.Build.{length_build, build_part, build_snoc, take_build, drop_build, map-build}
-use Rattle.loops.proofs.Fill.{fill_over, over_put, over_self, over_again, over_take, take_over}
+use Rattle.loops.proofs.Fill.{fill_over, length_over, over_put, over_self, over_again, over_take, take_over}
 use Rattle.loops.proofs.Parts.{take_next, length_part}
 use Rattle.floats.specs.Operators.{at}
 use Rattle.definition.specs.Changes.{Change, insert_change}
@@ -107,6 +107,9 @@ module _ (nf : List ℕ) (nw : List Float) (n : ℕ) (fs₀ : List ℕ) (ws₀ :
   long : (i : ℕ) → length (Now i) ≡ n + i
   unfolding inserted_to
   long i = length_inserts (waiting_in n fs₀ ws₀) (waiting_in i nf nw) ∙ omega (arith, length_waiting n fs₀ ws₀, length_waiting i nf nw)
+
+  pub call_length : {A : Type 0} (h : Change → A) (room₀ : List A) (i : ℕ) {room : List A} → room ≡ over (map h (Now i)) room₀ → n + i ≤ length room₀ → length room ≡ length room₀
+  call_length h room₀ i e l = ap length e ∙ length_over (map h (Now i)) room₀ (simp length-map (omega (arith, l, long i)))
 
   module _ (i : ℕ) {fs : List ℕ} {ws : List Float} (f : fs ≡ over (frames_of (Now i)) fs₀) (w : ws ≡ over (weights_of (Now i)) ws₀) where
     pub call_rising : n ≤ length fs₀ → rising 0 (take n fs₀) ≡ true → rising 0 (take (n + i) fs) ≡ true

@@ -8,11 +8,10 @@ use lib.Ieee.{Float}
 use Rattle.loops.proofs.Choose.{by-test}
 use Rattle.definition.specs.declared.IvectorOptions.{IvectorOptions}
 use Rattle.definition.specs.declared.TableLengths.{TableLengths}
-use Rattle.definition.specs.Reader.{Got, read, refused}
+use Rattle.definition.specs.Reader.{Got, refused}
 use Rattle.definition.specs.Model.{Files, Model, load}
 use Rattle.ivector_info.specs.Load.{scratch_kept}
 use Rattle.settings.specs.Settings.{plain, settings_of, load_with}
-use Rattle.answers.specs.Answers.{no_options}
 use Rattle.exports.specs.declared.SettingsAnswer.{SettingsAnswer}
 use Rattle.exports.specs.Answers.{settings_answer}
 

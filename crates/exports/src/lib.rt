@@ -1,6 +1,8 @@
 // The library that Rust and C link: each call of the product under a plain name, every slice as a pointer and a length. A call's contract
 // is the plain call's. A record stays where the host keeps it: a call on it takes it behind a reference and stores the numbers that can
-// change, and its contract says the whole record at exit. Enums stay inside: an answer is a record with the refusal's number.
+// change, and its contract says the whole record at exit. Enums stay inside: an answer is a record with the refusal's number. C lends each slice on its own:
+// so they are arguments of each of these calls, however many, with counts beside them where C gives one, and its clause puts them together as the plain call's
+// struct does. C knows no type parameters: a call for f32 and one for f64 are two.
 // The C side is include/shofrakin.h.
 #![tactic(auto)]
 
@@ -26,14 +28,15 @@ ghost use Rattle.exports.specs.Answers.{settings_answer, counted};
 
 use answers::{LoadAnswer, NewTableAnswer};
 use definition::{
-    DecoderFrame, Dimensions, InputFrame, IvectorInfo, IvectorOptions, IvectorStream, LentTables,
-    Loaded, SilenceWeighting, StreamAnswer, StreamCall, number_or_0,
+    DecoderFrame, Dimensions, FrameRooms, InputFrame, IvectorInfo, IvectorOptions, IvectorStream,
+    LentEstimate, LentFrames, LentTables, LentWaiting, SilenceWeighting, StreamAnswer, StreamCall,
+    WaitingRooms, number_or_0, numbered,
 };
 use memory::{DimensionsAnswer, RoomsAnswer, TablesAnswer};
 use model_bytes::{LentParams, ModelSizes, WrittenAnswer};
 use nearest_voice::VoiceAnswer;
 use silence_weighting::{LentPath, SilenceRooms};
-use trigger::RoundAnswer;
+use trigger::{LentUtterance, LentVoices, RoundAnswer};
 
 // The answer of a call on a silence table: the refusal, and how many changes it gives.
 #[repr(C)]
@@ -79,7 +82,7 @@ pub extern "C" fn shofrakin_load(
         u.new lda_t.new lda_offset.new global_mean_stats.new ≡ loaded_tables got t)
         × scratch_kept got scratch.old scratch.new) }
 {
-    let a = ivector_info::load(
+    let loaded = ivector_info::load(
         opts,
         gmm,
         extractor,
@@ -95,7 +98,7 @@ pub extern "C" fn shofrakin_load(
         global_mean_stats,
         scratch,
     );
-    answers::load_answer(opts, a)
+    answers::load_answer(opts, numbered(loaded))
 }
 
 // ---- the maker's settings
@@ -153,10 +156,11 @@ pub extern "C" fn shofrakin_load_with_settings(
         u.new lda_t.new lda_offset.new global_mean_stats.new ≡ loaded_tables got t)
         × scratch_kept got scratch.old scratch.new) }
 {
+    // by number, as C gets it: this call is the two exported ones, one after the other
     let a = shofrakin_settings(splice, online_cmvn);
     let opts = a.opts;
     if a.refusal != 0 {
-        return answers::load_answer(opts, Loaded::Refused(a.refusal));
+        return answers::load_answer(opts, Err(a.refusal));
     }
     shofrakin_load(
         opts,
@@ -247,8 +251,7 @@ pub extern "C" fn shofrakin_new_stream(
         × (rooms_from (rings_from frames.now rows.new waiting_frames.now waiting_weights.now)
         (estimate_from cmvn_stats.new linear.new quadratic.new current.new) ≡ taken (new_refusal info (table_lengths_of t) (room_lengths_of z n)) (fresh_rooms info z) z)) }
 {
-    let a = ivector_stream::new(
-        info,
+    let tables = LentTables {
         gconsts,
         means_invvars_t,
         inv_vars_t,
@@ -257,17 +260,19 @@ pub extern "C" fn shofrakin_new_stream(
         lda_t,
         lda_offset,
         global_mean_stats,
-        frames,
-        rows,
-        waiting_frames,
-        waiting_weights,
+    };
+    let waiting = LentWaiting {
+        frames: waiting_frames,
+        weights: waiting_weights,
+    };
+    let mut estimate = LentEstimate {
         cmvn_stats,
         linear,
         quadratic,
         current,
-        scratch,
-    );
-    answers::stream_answer(info, a)
+    };
+    let fresh = ivector_stream::new(info, tables, frames, rows, waiting, &mut estimate, scratch);
+    answers::stream_answer(info, numbered(fresh))
 }
 
 // ---- calls on a stream
@@ -288,7 +293,12 @@ pub extern "C" fn shofrakin_push_frame(
         ring_call (answered result s.new) (rings_from frames.new rows.new waiting_frames.now waiting_weights.now)
         ≡ done_on s₀ z (push_frame s₀ z frame.now)) }
 {
-    let c = ivector_stream::push_frame(*s, frame, frames, rows, waiting_frames, waiting_weights);
+    let mut held = FrameRooms { frames, rows };
+    let waiting = LentWaiting {
+        frames: waiting_frames,
+        weights: waiting_weights,
+    };
+    let c = ivector_stream::push_frame(*s, frame, &mut held, waiting);
     s.accepted = c.stream.accepted;
     c.answer
 }
@@ -308,7 +318,12 @@ pub extern "C" fn shofrakin_set_input_finished(
         ring_call (answered result s.new) (rings_from frames.now rows.now waiting_frames.now waiting_weights.now)
         ≡ done_on s₀ z (set_input_finished s₀ z)) }
 {
-    let c = ivector_stream::set_input_finished(*s, frames, rows, waiting_frames, waiting_weights);
+    let held = LentFrames { frames, rows };
+    let waiting = LentWaiting {
+        frames: waiting_frames,
+        weights: waiting_weights,
+    };
+    let c = ivector_stream::set_input_finished(*s, held, waiting);
     s.input_finished = c.stream.input_finished;
     c.answer
 }
@@ -330,14 +345,17 @@ pub extern "C" fn shofrakin_update_frame_weights(
         ring_call (answered result s.new) (rings_from frames.now rows.now waiting_frames.new waiting_weights.new)
         ≡ done_on s₀ z (update_frame_weights s₀ z delta_frames.now delta_weights.now)) }
 {
+    let held = LentFrames { frames, rows };
+    let mut waiting = WaitingRooms {
+        frames: waiting_frames,
+        weights: waiting_weights,
+    };
     let c = ivector_stream::update_frame_weights(
         *s,
         delta_frames,
         delta_weights,
-        frames,
-        rows,
-        waiting_frames,
-        waiting_weights,
+        held,
+        &mut waiting,
     );
     s.waiting = c.stream.waiting;
     s.past_highest = c.stream.past_highest;
@@ -361,7 +379,12 @@ pub extern "C" fn shofrakin_forget_before(
         ring_call (answered result s.new) (rings_from frames.now rows.now waiting_frames.now waiting_weights.now)
         ≡ done_on s₀ z (forget_before s₀ z frame)) }
 {
-    let c = ivector_stream::forget_before(*s, frame, frames, rows, waiting_frames, waiting_weights);
+    let held = LentFrames { frames, rows };
+    let waiting = LentWaiting {
+        frames: waiting_frames,
+        weights: waiting_weights,
+    };
+    let c = ivector_stream::forget_before(*s, frame, held, waiting);
     s.mark = c.stream.mark;
     s.floor = c.stream.floor;
     s.longest = c.stream.longest;
@@ -384,14 +407,12 @@ pub extern "C" fn shofrakin_set_cmn_window(
         ring_call (answered result s.new) (rings_from frames.now rows.now waiting_frames.now waiting_weights.now)
         ≡ done_on s₀ z (set_cmn_window s₀ z window)) }
 {
-    let c = ivector_stream::set_cmn_window(
-        *s,
-        window,
-        frames,
-        rows,
-        waiting_frames,
-        waiting_weights,
-    );
+    let held = LentFrames { frames, rows };
+    let waiting = LentWaiting {
+        frames: waiting_frames,
+        weights: waiting_weights,
+    };
+    let c = ivector_stream::set_cmn_window(*s, window, held, waiting);
     s.window = c.stream.window;
     s.longest = c.stream.longest;
     c.answer
@@ -433,9 +454,7 @@ pub extern "C" fn shofrakin_get_frame(
         ≡ fetched_on s₀ z out.old x)
         × ((x.refusal ≡ 0 → ⊥) → scratch.new ≡ scratch.old)) }
 {
-    let c = ivector_fetch::get_frame(
-        *s,
-        frame,
+    let tables = LentTables {
         gconsts,
         means_invvars_t,
         inv_vars_t,
@@ -444,14 +463,25 @@ pub extern "C" fn shofrakin_get_frame(
         lda_t,
         lda_offset,
         global_mean_stats,
-        frames,
-        rows,
-        waiting_frames,
-        waiting_weights,
+    };
+    let held = LentFrames { frames, rows };
+    let mut waiting = WaitingRooms {
+        frames: waiting_frames,
+        weights: waiting_weights,
+    };
+    let mut estimate = LentEstimate {
         cmvn_stats,
         linear,
         quadratic,
         current,
+    };
+    let c = ivector_fetch::get_frame(
+        *s,
+        frame,
+        tables,
+        held,
+        &mut waiting,
+        &mut estimate,
         scratch,
         out,
     );
@@ -606,8 +636,7 @@ pub extern "C" fn shofrakin_nearest_voice(
 ) -> VoiceAnswer
     ensures { result ≡ voice_answer (nearest_voice dim vector.now count enrolled.now limit) }
 {
-    let a = nearest_voice::nearest_voice(dim, vector, count, enrolled, limit);
-    nearest_voice::voice_answer(a)
+    VoiceAnswer::from(nearest_voice::nearest_voice(dim, vector, count, enrolled, limit))
 }
 
 // ---- a board with registers
@@ -660,24 +689,30 @@ pub extern "C" fn shofrakin_registers_step(
         lda_offset,
         global_mean_stats,
     };
+    let mut held = FrameRooms { frames, rows };
+    let mut waiting = WaitingRooms {
+        frames: waiting_frames,
+        weights: waiting_weights,
+    };
+    let mut estimate = LentEstimate {
+        cmvn_stats,
+        linear,
+        quadratic,
+        current,
+    };
     let done = registers::step(
         s,
         block,
         frame,
         tables,
-        frames,
-        rows,
-        waiting_frames,
-        waiting_weights,
-        cmvn_stats,
-        linear,
-        quadratic,
-        current,
+        &mut held,
+        &mut waiting,
+        &mut estimate,
         scratch,
         out,
     );
     StepAnswer {
-        refusal: definition::number_or_0(done),
+        refusal: number_or_0(done),
     }
 }
 
@@ -738,22 +773,16 @@ pub extern "C" fn shofrakin_round(
         delta_frames.new delta_weights.new result.changes out.new ≡ x.bench)
         × (worked x.result ≡ false → scratch.new ≡ scratch.old)) }
 {
-    let path = LentPath {
-        phones,
-        starts,
-        ends,
-    };
-    let mut rooms = SilenceRooms {
-        known,
-        is_silence,
-        current_weight,
-    };
-    let c = trigger::round(
-        s,
-        silence,
+    let utterance = LentUtterance {
         start,
         numbers,
-        path,
+        path: LentPath {
+            phones,
+            starts,
+            ends,
+        },
+    };
+    let tables = LentTables {
         gconsts,
         means_invvars_t,
         inv_vars_t,
@@ -762,25 +791,45 @@ pub extern "C" fn shofrakin_round(
         lda_t,
         lda_offset,
         global_mean_stats,
-        frames,
-        rows,
-        waiting_frames,
-        waiting_weights,
+    };
+    let mut held = FrameRooms { frames, rows };
+    let mut waiting = WaitingRooms {
+        frames: waiting_frames,
+        weights: waiting_weights,
+    };
+    let mut estimate = LentEstimate {
         cmvn_stats,
         linear,
         quadratic,
         current,
+    };
+    let mut rooms = SilenceRooms {
+        known,
+        is_silence,
+        current_weight,
+    };
+    let enrolled = LentVoices {
+        count: voices,
+        enrolled,
+        limit,
+    };
+    let done = trigger::round(
+        s,
+        silence,
+        utterance,
+        tables,
+        &mut held,
+        &mut waiting,
+        &mut estimate,
         scratch,
         silence_phones,
         &mut rooms,
         delta_frames,
         delta_weights,
         out,
-        voices,
         enrolled,
-        limit,
     );
-    trigger::round_answer(c)
+    trigger::round_answer(done)
 }
 
 // ---- a model written back

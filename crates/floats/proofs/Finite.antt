@@ -1,8 +1,9 @@
 -- Which patterns are finite, in both formats: those whose exponent's bits are not all ones (`finite-field`); and such a pattern may become a float
--- (`finite-pattern`).
-use Rattle.std.proofs.Common.{◌≡◌, ℕ, zero, suc, ◌+◌, ◌/◌, ◌%◌, Bool, true, false, cond, not, T, eqb, leb, sym, refl, ap, ◌∙◌, subst}
-use mathlib.Core.Bool.{false≢true}
-use lib.Ieee.{Float, nan, inf, fin, Format, binary32, binary64, of_bits, of_fields, odd, nan_bits, is_nan, hid, ones, top, prec, low}
+-- (`finite-pattern`). A number is finite where it less itself is no NaN (`less_itself`).
+use Rattle.std.proofs.Common.{◌≡◌, ℕ, zero, suc, ◌+◌, ◌-◌, ◌*◌, ◌/◌, ◌%◌, Bool, true, false, cond, not, ◌&&◌, T, eqb, leb, ltb, ℤ, sym, refl, ap, ◌∙◌, subst, true≢false, eq-eqb}
+use mathlib.Core.Bool.{beq, false≢true}
+use lib.Ieee.{Float, nan, inf, fin, Format, binary32, binary64, of_bits, of_fields, odd, nan_bits, is_nan, hid, ones, top, prec, low, up, down, sum, sub, round, eq}
+use Rattle.floats.proofs.Rounding.{round-no_nan}
 use lib.Ieee.Scale.{finite}
 use Rattle.std.specs.Float.{float_is_finite}
 use lib.Ieee.Bits.{nan_bits_is}
@@ -46,3 +47,44 @@ unfolding float_is_finite
 std_finite nan = refl
 std_finite (inf s) = refl
 std_finite (fin s m e) = refl
+
+-- x - x is a NaN where x is one or an infinity, and no NaN where x is finite
+eq_self : (x : Float) → is_nan x ≡ false → eq x x ≡ true
+unfolding eq is_nan
+eq_self nan h = absurd (true≢false h)
+eq_self (inf true) h = refl
+eq_self (inf false) h = refl
+eq_self (fin true m e) h = ap (λ (t : Bool). t && true) (eq-eqb (m * up e * down e) (m * up e * down e) refl)
+eq_self (fin false m e) h = ap (λ (t : Bool). t && true) (eq-eqb (m * up e * down e) (m * up e * down e) refl)
+
+eq-nan : eq nan nan ≡ false
+unfolding eq
+eq-nan = refl
+
+cond-no_nan : (b : Bool) (x y : Float) → is_nan x ≡ false → is_nan y ≡ false → is_nan (cond b x y) ≡ false
+cond-no_nan true x y h k = h
+cond-no_nan false x y h k = k
+
+sum-no_nan : (f : Format) (s : Bool) (a : ℕ) (t : Bool) (b c : ℕ) → is_nan (sum f s a t b c) ≡ false
+unfolding sum
+sum-no_nan f s a t b c =
+    cond-no_nan (beq s t) (round f s (a + b) c) (cond (ltb a b) (round f t (b - a) c) (round f (s && ltb b a) (a - b) c)) (round-no_nan f s (a + b) c)
+    (cond-no_nan (ltb a b) (round f t (b - a) c) (round f (s && ltb b a) (a - b) c) (round-no_nan f t (b - a) c) (round-no_nan f (s && ltb b a) (a - b) c))
+
+sub-nan : (f : Format) → sub f nan nan ≡ nan
+unfolding sub
+sub-nan f = refl
+
+sub-inf : (f : Format) (s : Bool) → sub f (inf s) (inf s) ≡ nan
+unfolding sub
+sub-inf f true = refl
+sub-inf f false = refl
+
+sub-fin : (f : Format) (s : Bool) (m : ℕ) (e : ℤ) → sub f (fin s m e) (fin s m e) ≡ sum f s (m * up e * down e) (not s) (m * up e * down e) (down e * down e)
+unfolding sub
+sub-fin f s m e = refl
+
+pub less_itself : (f : Format) (x : Float) → eq (sub f x x) (sub f x x) ≡ finite x
+less_itself f nan = ap (λ (d : Float). eq d d) (sub-nan f) ∙ eq-nan
+less_itself f (inf s) = ap (λ (d : Float). eq d d) (sub-inf f s) ∙ eq-nan
+less_itself f (fin s m e) = eq_self (sub f (fin s m e) (fin s m e)) (ap is_nan (sub-fin f s m e) ∙ sum-no_nan f s (m * up e * down e) (not s) (m * up e * down e) (down e * down e))

@@ -110,6 +110,7 @@ fn chain(q: f64) -> f64
     ensures { result ≡ chained 17 1 q }
 {
     let mut h = 1.0 / 35.0;
+    // over whole numbers, which are what is added up: a list of the terms would be no plainer
     for n in (0u32..17).rev() {
         h = 1.0 / f64::from(n * 2 + 1) + q * h;
     }
@@ -159,7 +160,8 @@ pub fn ln(v: f64) -> f64
     ln_bits(b)
 }
 
-// The logarithm of x as an f64, rounded to an f32.
+// The logarithm of x as an f64, rounded to an f32: a function of its own for the width, as the definition has one. A trait's method with two impls
+// would be no plainer.
 pub fn ln_f32(x: f32) -> f32
     ensures { result ≡ ln_narrow x }
 {
@@ -171,6 +173,7 @@ fn powers(y: f64) -> f64
     ensures { result ≡ series 16 1 y }
 {
     let mut h = 1.0;
+    // over whole numbers, as in `chain`: no list is plainer
     for k in (0u32..16).rev() {
         h = 1.0 + y / f64::from(k + 1) * h;
     }
@@ -245,7 +248,8 @@ pub fn is_finite<W: Real>(x: W) -> bool
 }
 
 // The float nearest to ±m * 10^(up - down), a tie to the even one: by one product or quotient of two
-// numbers that the format holds.
+// numbers that the format holds. The sign and the three numbers are the definition's: a struct for one call would be no plainer, and the text's own,
+// `Decimal`, has the bounds of a text.
 pub fn decimal<W: Arithmetic>(minus: bool, m: u64, up: u64, down: u64) -> W
     requires m_bound { m < 2 ^ prec W.format }
     requires up_bound { (up ≤ down + tens W.format) × (down ≤ up + tens W.format) }

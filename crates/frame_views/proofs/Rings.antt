@@ -5,11 +5,10 @@ use lib.Ieee.{Float, nan}
 use Rattle.loops.specs.Lists.{build}
 use Rattle.loops.specs.Ring.{rows_in, place}
 use Rattle.loops.proofs.Build.{build_part, length_build}
-use Rattle.loops.proofs.Parts.{lent_is, length_lent}
+use Rattle.loops.proofs.Parts.{lent_is}
 use Rattle.loops.proofs.Ring.{place_in}
 use Rattle.basics.proofs.Places.{place-turned}
 use Rattle.program.specs.Rooms.{ring_at}
-use Rattle.frame_views.specs.Steps.{RowAt}
 
 module _ (w t : ℕ) (room : List Float) {a : ℕ} (e : a ≡ place (length room) w t) (p : 0 < rows_in (length room) w) where
   -- the row ends in the room
@@ -22,10 +21,6 @@ module _ (w t : ℕ) (room : List Float) {a : ℕ} (e : a ≡ place (length room
   row_lent =
       let h : take (a + w - a) (drop a room) ≡ build w (ring_at w room t) = lent_is _ w _ room refl ∙ rw e (sym (build_part nan _ w room (place_in (length room) w t p))) in
       (h, ap length h ∙ length_build w _)
-
--- what is lent from `a` on is a row, whichever begins there
-pub row_at : (w a : ℕ) (room : List Float) → a + w ≤ length room → RowAt w a room (take (a + w - a) (drop a room))
-row_at w a room h = record { long = length_lent a w (a + w) room refl h; is = λ t p e. (row_lent w t room e p).0 }
 
 -- row v is row t or the one after it
 module _ (n w t v : ℕ) {a : ℕ} (some : 0 < w) (p : 0 < rows_in n w) (low : t ≤ v) (high : v ≤ t + 1) (e : a ≡ place n w t) where

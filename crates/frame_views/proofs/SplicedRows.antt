@@ -1,19 +1,21 @@
 -- Laws of the spliced row: what a fetch leaves and adds, the loop over its places with the LDA's sums so far (`lda_on` in LdaSums.antt), and the whole row.
-use Rattle.std.proofs.Common.{◌≡◌, ℕ, zero, suc, ◌+◌, ◌-◌, ◌*◌, ◌<◌, ◌≤◌, min, Bool, true, false, List, length, take, drop, sym, refl, ap, ◌∙◌, suc-mul, zero-mul, arith, length-append, if◌then◌else◌}
+use Rattle.std.proofs.Common.{◌≡◌, ℕ, zero, suc, ◌+◌, ◌-◌, ◌*◌, ◌<◌, ◌≤◌, min, Bool, true, false, List, length, take, drop, sym, refl, ap, ◌∙◌, suc-mul, zero-mul, arith, length-append}
 use lib.Ieee.{Float}
 use Rattle.loops.specs.Loop.{iter}
 use Rattle.loops.specs.Lists.{build, flat}
 use Rattle.loops.specs.Steps.{fill}
 use Rattle.loops.proofs.Loop.{at_end, iter_more}
 use Rattle.loops.proofs.Choose.{choose_true, choose_false}
-use Rattle.loops.proofs.Build.{length_build, take_build}
+use Rattle.loops.proofs.Build.{length_build}
 use Rattle.loops.proofs.Flat.{flat_none, flat_snoc}
 use Rattle.floats.specs.Operators.{◌*₃₂◌, at, sum₃₂}
 use Rattle.definition.specs.declared.IvectorOptions.{IvectorOptions}
 use Rattle.definition.specs.Options.{width}
 use Rattle.definition.specs.Views.{Frames, cmvn_state, cmvn_frame, splice_at, raw_row, normalised_row, lda_frame}
-use Rattle.program.specs.Rooms.{ring_at, ring_frames}
-use Rattle.frame_views.specs.Rows.{spliced_row}
+use Rattle.frame_views.specs.declared.view.StreamView.{StreamView}
+use Rattle.frame_views.specs.declared.view.Features.{Features}
+use Rattle.frame_views.specs.declared.view.Features.TheVariants.{Raw, Normalized}
+use Rattle.frame_views.specs.Rows.{is_normalized, frames_of, spliced_row}
 use Rattle.frame_views.specs.Steps.{fetched, viewed, spliced_to}
 use Rattle.frame_views.proofs.LdaSums.{lda_none, lda_on}
 
@@ -24,11 +26,14 @@ unfolding viewed cmvn_frame
 length-viewed dim F true t state = length_build dim _
 length-viewed dim F false t state = length_build dim _
 
-pub viewed_on : (dim accepted t : ℕ) (fs rs state view : List Float) (normalized : Bool) {row : List Float} → (normalized ≡ true → view ≡ cmvn_frame dim (ring_frames dim accepted fs rs) t state)
-    → row ≡ (if normalized then take dim view else build dim (ring_at dim fs t)) → row ≡ viewed dim (ring_frames dim accepted fs rs) normalized t state
-unfolding viewed cmvn_frame
-viewed_on dim accepted t fs rs state view true f e = e ∙ ap (take dim) (f refl) ∙ take_build dim dim _ (omega arith)
-viewed_on dim accepted t fs rs state view false f e = e
+module _ (dim : ℕ) (F : Frames) (t : ℕ) (state : List Float) {normalized : Bool} where
+  pub viewed_true : {row : List Float} → normalized ≡ true → row ≡ cmvn_frame dim F t state → row ≡ viewed dim F normalized t state
+  unfolding viewed
+  viewed_true e h = choose_true _ e h
+
+  pub viewed_false : {row : List Float} → normalized ≡ false → row ≡ build dim (F.frame t) → row ≡ viewed dim F normalized t state
+  unfolding viewed
+  viewed_false e h = choose_false _ e h
 
 module _ (o : IvectorOptions) (dim : ℕ) (global : List Float) (F : Frames) (t : ℕ) (s : List Float) {normalized : Bool} where
   pub fetched_true : {s' : List Float} → normalized ≡ true → s' ≡ cmvn_state o dim global F t s → s' ≡ fetched o dim global F normalized t s
@@ -98,19 +103,21 @@ unfolding spliced_to fetched viewed iter
 raw_to o dim global F t zero state = ap (λ (r : List Float). (state, r)) (sym (flat_none _))
 raw_to o dim global F t (suc n) state = rw (raw_to o dim global F t n state) (ap (λ (r : List Float). (state, r)) (sym (flat_snoc n _)))
 
-module _ (o : IvectorOptions) (dim : ℕ) (global : List Float) (F : Frames) (t : ℕ) (state : List Float) where
-  row_on : (normalized : Bool) → spliced_to o dim global F normalized t (width o) state ≡ spliced_row o dim global F normalized t state
+module _ (v : StreamView) (t : ℕ) (state : List Float) where
+  abbrev to : Features → ℕ → List Float × List Float
+  to f n = spliced_to v.options v.dim v.global.now (frames_of v) (is_normalized f) t n state
+
+  row_on : (f : Features) → to f (width v.options) ≡ spliced_row v f t state
   unfolding spliced_to fetched viewed normalised_row raw_row
-  row_on true = refl
-  row_on false = raw_to o dim global F t (width o) state
+  row_on Normalized = refl
+  row_on Raw = raw_to v.options v.dim v.global.now (frames_of v) t (width v.options) state
 
   -- the loop's end: all places of the row
-  module _ (normalized : Bool) (n : ℕ) (p : n ≤ width o) (q : width o ≤ n) where
-    pub spliced_end : {s : List Float} → s ≡ (spliced_to o dim global F normalized t n state).0 → s ≡ (spliced_row o dim global F normalized t state).0
-    spliced_end e = at_end (λ k. (spliced_to o dim global F normalized t k state).0) n (width o) p q e ∙ ap (λ (r : List Float × List Float). r.0) (row_on normalized)
+  module _ (f : Features) (n : ℕ) (p : n ≤ width v.options) (q : width v.options ≤ n) where
+    pub spliced_end : {s : List Float} → s ≡ (to f n).0 → s ≡ (spliced_row v f t state).0
+    spliced_end e = at_end (λ k. (to f k).0) n (width v.options) p q e ∙ ap (λ (r : List Float × List Float). r.0) (row_on f)
 
-    pub lda_end : (d : ℕ) (table offset : List Float) {y : List Float} → y ≡ lda_frame d table offset (spliced_to o dim global F normalized t n state).1
-        → y ≡ lda_frame d table offset (spliced_row o dim global F normalized t state).1
+    pub lda_end : (d : ℕ) (table offset : List Float) {y : List Float} → y ≡ lda_frame d table offset (to f n).1 → y ≡ lda_frame d table offset (spliced_row v f t state).1
     lda_end d table offset e =
-        at_end (λ k. lda_frame d table offset (spliced_to o dim global F normalized t k state).1) n (width o) p q e
-        ∙ ap (λ (r : List Float × List Float). lda_frame d table offset r.1) (row_on normalized)
+        at_end (λ k. lda_frame d table offset (to f k).1) n (width v.options) p q e
+        ∙ ap (λ (r : List Float × List Float). lda_frame d table offset r.1) (row_on f)

@@ -1,18 +1,19 @@
--- The views of a frame: what they ask of the lent rooms, and the row that an LDA takes.
-use Rattle.std.specs.Prelude.{◌≡◌, ℕ, ◌+◌, ◌<◌, ◌≤◌, Bool, List, length, Float, if◌then◌else◌}
-use Rattle.loops.specs.Ring.{rows_in}
-use Rattle.definition.specs.declared.IvectorOptions.{IvectorOptions}
+-- The views of a frame: the frames of a stream, and the row that an LDA takes.
+use Rattle.std.specs.Prelude.{ℕ, Bool, true, false, List, Float}
 use Rattle.definition.specs.Views.{Frames, raw_row, normalised_row}
+use Rattle.program.specs.Rooms.{ring_frames}
+use Rattle.frame_views.specs.declared.view.StreamView.{StreamView}
+use Rattle.frame_views.specs.declared.view.Features.{Features}
+use Rattle.frame_views.specs.declared.view.Features.TheVariants.{Raw, Normalized}
 
--- a frame and a prefix row at least, a whole global row, a CMVN state and no more
-pub record Lent (dim accepted : ℕ) (global frames rows cmvn : List Float) : Type 0 where
-  pub some : 0 < dim
-  pub frame_room_is : 0 < rows_in (length frames) dim
-  pub row_room_is : 0 < rows_in (length rows) dim
-  pub global_long : dim + 1 ≤ length global
-  pub state_long : length cmvn ≡ dim + 1
-  pub few : accepted ≤ 1000000000
+abbrev pub frames_of : StreamView → Frames
+frames_of v = ring_frames v.dim v.accepted v.frames.now v.rows.now
+
+abbrev pub is_normalized : Features → Bool
+is_normalized Raw = false
+is_normalized Normalized = true
 
 -- the spliced row, normalised or raw, behind the CMVN state that its fetches leave: a raw row leaves it as it was
-abbrev pub spliced_row : IvectorOptions → ℕ → List Float → Frames → Bool → ℕ → List Float → List Float × List Float
-spliced_row o dim global F normalized t state = if normalized then normalised_row o dim global F t state else (state, raw_row o dim F t)
+abbrev pub spliced_row : StreamView → Features → ℕ → List Float → List Float × List Float
+spliced_row v Raw t state = (state, raw_row v.options v.dim (frames_of v) t)
+spliced_row v Normalized t state = normalised_row v.options v.dim v.global.now (frames_of v) t state

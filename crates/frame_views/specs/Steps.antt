@@ -1,16 +1,12 @@
 -- What inner functions ask and leave. Not for readers.
-use Rattle.std.specs.Prelude.{◌≡◌, ℕ, ◌+◌, ◌-◌, ◌<◌, Bool, true, List, [], ◌++◌, length, Float, if◌then◌else◌}
+use Rattle.std.specs.Prelude.{◌≡◌, ℕ, ◌+◌, ◌-◌, Bool, true, List, [], ◌++◌, length, Float, if◌then◌else◌}
 use Rattle.loops.specs.Loop.{iter}
-use Rattle.loops.specs.Ring.{rows_in, place}
+use Rattle.loops.specs.Ring.{place}
 use Rattle.loops.specs.Lists.{build}
 use Rattle.definition.specs.declared.IvectorOptions.{IvectorOptions}
-use Rattle.program.specs.Rooms.{ring_at}
+use Rattle.frame_views.specs.declared.view.StreamView.{StreamView}
+use Rattle.frame_views.specs.declared.view.Places.{Places}
 use Rattle.definition.specs.Views.{Frames, cmvn_state, cmvn_frame, splice_at}
-
--- what is taken of a ring from `start` on: row t, if that is where it begins
-pub record RowAt (dim start : ℕ) (room row : List Float) : Type 0 where
-  pub long : length row ≡ dim
-  pub is : (t : ℕ) → 0 < rows_in (length room) dim → start ≡ place (length room) dim t → row ≡ build dim (ring_at dim room t)
 
 -- where frame t begins in a ring of so many numbers, and where the prefix rows at the ends of its window do in another, if it is to be normalised
 pub record Begins (window dim : ℕ) (normalized : Bool) (t here high low frames rows : ℕ) : Type 0 where
@@ -18,8 +14,8 @@ pub record Begins (window dim : ℕ) (normalized : Bool) (t here high low frames
   pub last : normalized ≡ true → high ≡ place rows dim (t + 1)
   pub first : normalized ≡ true → low ≡ place rows dim (t + 1 - window)
 
-abbrev pub Placed : IvectorOptions → ℕ → Bool → ℕ → ℕ → ℕ → ℕ → List Float → List Float → Type 0
-Placed o dim normalized t here high low frames rows = Begins o.cmn_window dim normalized t here high low (length frames) (length rows)
+abbrev pub Placed : StreamView → Bool → Places → Type 0
+Placed v normalized p = Begins v.options.cmn_window v.dim normalized p.frame p.here p.high p.low (length v.frames.now) (length v.rows.now)
 
 -- a fetch of frame t for a spliced row: the CMVN state that it leaves, and what it adds to the row
 unfoldable pub fetched : IvectorOptions → ℕ → List Float → Frames → Bool → ℕ → List Float → List Float

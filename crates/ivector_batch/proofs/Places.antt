@@ -1,12 +1,12 @@
 -- A batch place by place: what is left of it when the frame at a place is taken, until none is (`left_less`, `left_none`); what stands at a place,
--- by its kind (`change_at`, `frame_there`); and a batch of all its places (`whole_batch`).
+-- without weights (`frame_there`); and a batch of all its places (`whole_batch`).
 use mathlib.Core.Path.{◌≡◌, refl, sym, ap, ap₂, ◌∙◌}
-use mathlib.Core.Bool.{Bool, true, false}
+use mathlib.Core.Bool.{Bool, false}
 use Prim.Native.Nat.{ℕ, suc, ◌+◌, ◌-◌, ◌≤◌, ◌<◌}
 use native.Mathlib.Nat.{add-zero}
 use native.Mathlib.Omega.{arith}
-use mathlib.Core.List.{List, [], ◌∷◌, ◌++◌, map, append-nil, append_assoc}
-use lib.ListN.{length, get_or, drop, drop_of_length-le}
+use mathlib.Core.List.{List, [], ◌∷◌, ◌++◌, append-nil, append_assoc}
+use lib.ListN.{drop_of_length-le}
 use lib.Ieee.{Float}
 use Rattle.loops.specs.Lists.{build}
 use Rattle.loops.proofs.Build.{build_ext}
@@ -18,15 +18,17 @@ use Rattle.definition.specs.declared.FrameWeight.TheVariants.{Skipped, Weighed}
 use Rattle.definition.specs.Model.{Model}
 use Rattle.definition.specs.Views.{Frames}
 use Rattle.definition.specs.Statistics.{Entry}
-use Rattle.definition.specs.Posteriors.{weighed, unweighted}
+use Rattle.definition.specs.Posteriors.{unweighted}
 use Rattle.definition.specs.Changes.{merged, Batch}
 use Rattle.definition.specs.Estimate.{entries, nans_over}
 use Rattle.program.specs.Rooms.{waiting_in}
 use Rattle.program.proofs.WaitingRooms.{length_waiting}
-use Rattle.batch_sums.specs.Batch.{Sums, Logged}
+use Rattle.batch_sums.specs.declared.RunningSums.{RunningSums}
+use Rattle.batch_sums.specs.Batch.{Logged}
+use Rattle.batch_sums.specs.Rooms.{SumsIn}
 use Rattle.batch_sums.proofs.Batches.{sums_on, sums_none}
-use Rattle.ivector_batch.specs.Steps.{run, changes_batch, batch_of, batch_length, frame_at, batch_from, Lined, frame_state, frame_entries, frame_nans, Partway}
-use Rattle.frame_views.specs.Rows.{Lent}
+use Rattle.ivector_batch.specs.declared.intake.Intake.{Intake}
+use Rattle.ivector_batch.specs.Steps.{run, changes_batch, batch_in, places_of, frame_in, batch_from, left_of, Lined, Held, frame_state, frame_entries, frame_nans, Partway}
 
 -- ---- what is left of a batch
 
@@ -40,21 +42,21 @@ module _ (M : Model) (F : Frames) (whole : Batch) (c₀ : List Float) where
   abbrev d : ℕ
   d = M.info.dims.feat_dim
 
-  pub left_all : (gs : List ℕ) (tot sum : List Float) → Partway M F whole c₀ whole c₀ 0 gs tot sum
-  left_all gs tot sum = record { so_far = []; sums_are = sums_none d gs tot sum; state_on = refl; gained_on = refl }
+  pub left_all : (z : RunningSums) → z.count ≡ 0 → Partway M F whole c₀ whole c₀ z
+  left_all z e = record { so_far = []; sums_are = rw e (sums_none d z.seen.now z.tot.now z.sum.now); state_on = refl; gained_on = refl }
 
-  module _ {rest : Batch} {c : List Float} {m : ℕ} {gs : List ℕ} {tot sum : List Float} (p : Partway M F whole c₀ rest c m gs tot sum) where
-    pub left_none : rest ≡ [] → (c ≡ state whole c₀) × Sums d (gained whole c₀) m gs tot sum
+  module _ {rest : Batch} {c : List Float} {z : RunningSums} (p : Partway M F whole c₀ rest c z) where
+    pub left_none : rest ≡ [] → (c ≡ state whole c₀) × SumsIn d (gained whole c₀) z
     unfolding entries
     left_none e = (
       ap (λ (b : Batch). state b c) (sym e) ∙ p.state_on,
       sums_on (sym (append-nil p.so_far) ∙ ap (λ (b : Batch). p.so_far ++ gained b c) (sym e) ∙ p.gained_on) p.sums_are,
     )
 
-    pub left_less : {t : ℕ} {w : FrameWeight} {rest' : Batch} {c' : List Float} {m' : ℕ} {gs' : List ℕ} {tot' sum' : List Float}
+    pub left_less : {t : ℕ} {w : FrameWeight} {rest' : Batch} {c' : List Float} {z' : RunningSums}
         → rest ≡ (t, w) ∷ rest' → c' ≡ frame_state M F t c
-        → ((es : List Entry) → Sums d es m gs tot sum → Sums d (es ++ frame_entries M F t w c) m' gs' tot' sum')
-        → Partway M F whole c₀ rest' c' m' gs' tot' sum'
+        → ((es : List Entry) → SumsIn d es z → SumsIn d (es ++ frame_entries M F t w c) z')
+        → Partway M F whole c₀ rest' c' z'
     unfolding entries
     left_less {t} {w} {rest'} {c'} e h f =
         record {
@@ -98,20 +100,7 @@ module _ (o : IvectorOptions) (called : Bool) (next n : ℕ) (fs : List ℕ) (ws
   abbrev from : ℕ → Batch
   from j = batch_from o called next n fs ws j
 
-  -- a change
-  pub frame_is_change : (j : ℕ) {t : ℕ} → called ≡ true → t ≡ get_or fs j 0 → t ≡ frame_at called next fs j
-  frame_is_change j h e = rw h e
-
-  pub change_at : (j k : ℕ) (w : Float) {t : ℕ} {v : FrameWeight} → called ≡ true
-      → merged (drop j (waiting_in n fs ws)) ≡ (get_or fs j 0, w) ∷ merged (drop k (waiting_in n fs ws)) → v ≡ weighed o w → t ≡ get_or fs j 0
-      → from j ≡ (t, v) ∷ from k
-  change_at j k w {t} {v} h e g u =
-      rw h (ap (map (λ d. (d.0, weighed o d.1))) e ∙ ap₂ (λ (t : ℕ) (v : FrameWeight). (t, v) ∷ changes_batch o (drop k (waiting_in n fs ws))) (sym u) (sym g))
-
   -- a frame of those from `next` on
-  pub frame_is_next : (j : ℕ) → called ≡ false → next + j ≡ frame_at called next fs j
-  frame_is_next j h = rw h
-
   pub frame_there : (j : ℕ) {v : FrameWeight} → called ≡ false → j < n → v ≡ unweighted o → from j ≡ (next + j, v) ∷ from (j + 1)
   frame_there j h p g = rw (h, g) (run-from next j n (unweighted o) p)
 
@@ -125,24 +114,25 @@ module _ (o : IvectorOptions) (called : Bool) (next n : ℕ) (fs : List ℕ) (ws
 
 -- ---- a batch of k places, k being how many it has
 
-module _ (called : Bool) (next f n : ℕ) (fs : List ℕ) (ws : List Float) {k : ℕ} (e : k ≡ batch_length called next f n) where
+module _ (o : IvectorOptions) (x : Intake) {k : ℕ} (e : k ≡ places_of x) where
   -- from its first place on it is the whole batch
-  pub whole_batch : (o : IvectorOptions) → batch_from o called next k fs ws 0 ≡ batch_of o called next f (waiting_in n fs ws)
-  whole_batch o =
-      ap (λ (k : ℕ). batch_from o called next k fs ws 0) e
-      ∙ by-test called (λ h. rw h) (λ h. rw h (ap₂ (λ (i k : ℕ). run i (unweighted o) k) (add-zero next) (omega arith)))
+  pub whole_batch : left_of o x k 0 ≡ batch_in o x
+  whole_batch =
+      ap (λ (k : ℕ). left_of o x k 0) e
+      ∙ by-test x.called (λ h. rw h) (λ h. rw h (ap₂ (λ (i k : ℕ). run i (unweighted o) k) (add-zero x.next) (omega arith)))
 
-  pub no_batch : (o : IvectorOptions) → k ≡ 0 → batch_of o called next f (waiting_in n fs ws) ≡ []
-  no_batch o h = sym (whole_batch o) ∙ none_left o called next k fs ws 0 (omega arith)
+  pub no_batch : k ≡ 0 → batch_in o x ≡ []
+  no_batch h = sym whole_batch ∙ none_left o x.called x.next k x.waiting.frames.now x.waiting.weights.now 0 (omega arith)
 
-  pub lined : n ≤ length fs → n ≤ length ws → Lined called k fs ws
-  lined p q h = let u : k ≡ n = rw h at e in (omega arith, omega arith)
+  module _ (held : Held o x) where
+    pub lined : Lined k x
+    lined h = let u : k ≡ x.changes = rw h at e in (omega (arith, u, held.frames_wait h), omega (arith, u, held.weights_wait h))
 
-  pub in_reach : (accepted : ℕ) → next ≤ f → f < accepted → ((j : ℕ) → j < n → get_or fs j 0 < accepted) → (j : ℕ) → j < k → frame_at called next fs j < accepted
-  in_reach accepted up below reach j p =
-      by-test called
-      (λ h. let u : k ≡ n = rw h at e in rw h (reach j (omega arith)))
-      (λ h. let u : k ≡ f + 1 - next = rw h at e in rw h (omega arith))
+    pub in_reach : (j : ℕ) → j < k → frame_in x j < x.accepted
+    in_reach j p =
+        by-test x.called
+        (λ h. let u : k ≡ x.changes = rw h at e in rw h (held.in_reach h j (omega (arith, u, p))))
+        (λ h. let u : k ≡ x.end - x.next = rw h at e in rw h (omega (arith, u, p, held.there, held.in_order)))
 
 -- ---- the logarithm of a frame's floor, by its kind
 skips : {w : FrameWeight} {floor scale : Float} → w ≡ Skipped → w ≡ Weighed floor scale → ⊥
@@ -158,10 +148,3 @@ weighed_log {own = own} e h floor scale f = let same : own ≡ floor = cc in h �
 pub plain_log : (o : IvectorOptions) {w : FrameWeight} {ln : Float} → w ≡ unweighted o → ln ≡ ln_narrow o.min_post → Logged w ln
 unfolding unweighted
 plain_log o e h = weighed_log e h
-
--- ---- the lent rooms
-
--- the CMVN state comes back as long as it was
-pub lent_on : {dim accepted : ℕ} {global frames rows cmvn cmvn' : List Float} → Lent dim accepted global frames rows cmvn → length cmvn' ≡ length cmvn → Lent dim accepted global frames rows cmvn'
-lent_on r e =
-    record { some = r.some; frame_room_is = r.frame_room_is; row_room_is = r.row_room_is; global_long = r.global_long; state_long = e ∙ r.state_long; few = r.few }

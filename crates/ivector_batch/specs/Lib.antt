@@ -1,2 +1,3 @@
 -- What a batch of frames adds.
 pub mod Steps
+pub mod Fetched

@@ -1,245 +1,114 @@
-// The frames of a fetch's batch: each is fetched, weighed and added to the batch's sums.
+// The frames of a fetch's batch: each is fetched, weighed and added to the batch's sums. That the rooms stay those that were lent is a clause of each function that
+// writes them: a ghost field cannot say it of a `&mut`, so that no struct is plainer, and without it a caller knows nothing of its rooms.
 #![tactic(auto)]
 
-ghost use Rattle.std.specs.Prelude.{◌≡◌, true, List, ◌∷◌, ◌++◌, ℕ, ◌+◌, ◌≤◌, ◌<◌, length};
-ghost use Rattle.floats.specs.Ln.{ln_narrow};
-ghost use Rattle.definition.specs.Model.{Model, model};
-ghost use Rattle.definition.specs.Views.{Frames};
-ghost use Rattle.definition.specs.Statistics.{Entry};
-ghost use Rattle.definition.specs.Changes.{Batch};
+mod batch;
+mod intake;
+
+ghost use Rattle.std.specs.Prelude.{◌≡◌, ◌+◌, ◌<◌, length};
 ghost use Rattle.definition.specs.Estimate.{entries, nans_over};
-ghost use Rattle.program.specs.Rooms.{ring_frames};
-ghost use Rattle.frame_views.specs.Rows.{Lent};
-ghost use Rattle.batch_sums.specs.Batch.{Slots, Sums, Logged};
-ghost use Rattle.ivector_batch.specs.Steps.{batch_length, frame_at, batch_from, Lined, view_tables, frame_state, frame_entries, frame_nans, Ready};
+ghost use Rattle.diag_gmm.specs.Rooms.{SameLikes};
+ghost use Rattle.batch_sums.specs.Batch.{Logged};
+ghost use Rattle.batch_sums.specs.Rooms.{SlotsIn, SumsIn, Grown, SameSums};
+ghost use Rattle.ivector_batch.specs.Steps.{frame_state, frame_entries, frame_nans};
+ghost use Rattle.ivector_batch.specs.Fetched.{model_of, frames_of, whole_of};
 
-use batch_sums::Counts;
-use definition::{FrameWeight, IvectorInfo, IvectorOptions};
+pub use batch::FetchBatch;
+use batch_sums::{LentFeatures, RunningSums};
+use diag_gmm::{DiagGmm, LikeRooms};
+use frame_views::{Features, Lda, StreamView};
+pub use intake::{BatchFrame, Intake};
 
-// Frame t of a batch goes into the batch's sums, by way of rooms for its normalised and its raw features and, `ll` and `lb`, for its likelihoods;
-// m: how many Gaussians were seen; ln: the logarithm of its floor. A skipped one is fetched all the same.
-fn take_frame(
-    info: IvectorInfo,
-    accepted: usize,
-    t: usize,
-    weight: FrameWeight,
-    ln: f32,
-    gconsts: &[f32],
-    means_invvars_t: &[f32],
-    inv_vars_t: &[f32],
-    lda_t: &[f32],
-    lda_offset: &[f32],
-    global: &[f64],
-    frames: &[f32],
-    rows: &[f64],
-    cmvn: &mut [f64],
-    normalized: &mut [f32],
-    raw: &mut [f32],
-    ll: &mut [f32],
-    lb: &mut [f32],
-    m: usize,
-    seen: &mut [usize],
-    tot: &mut [f64],
-    sum: &mut [f64],
-) -> Counts
-    requires lent { Lent info.dims.base_dim accepted global.now frames.now rows.now cmvn.old }
-    requires ready { Ready info (view_tables gconsts.now means_invvars_t.now inv_vars_t.now lda_t.now lda_offset.now global.now) }
-    requires t_lt_accepted { (t < accepted) × (length normalized.old ≡ info.dims.feat_dim) × (length raw.old ≡ info.dims.feat_dim)
-        × (length ll.old ≡ info.dims.num_gauss) × (length lb.old ≡ info.dims.num_gauss)
-        × Slots info.dims.num_gauss info.dims.feat_dim m seen.old tot.old sum.old × Logged weight ln }
-    ensures { (
-        let M : Model = model info (view_tables gconsts.now means_invvars_t.now inv_vars_t.now lda_t.now lda_offset.now global.now) in
-        let F : Frames = ring_frames info.dims.base_dim accepted frames.now rows.now in
-        let d = info.dims.feat_dim in
-        (cmvn.new ≡ frame_state M F t cmvn.old)
-        × Slots info.dims.num_gauss d result.seen seen.new tot.new sum.new
-        × ((es : List Entry) → Sums d es m seen.old tot.old sum.old
-        → Sums d (es ++ frame_entries M F t weight cmvn.old) result.seen seen.new tot.new sum.new)
-        × (result.nans ≡ frame_nans M F t weight cmvn.old)) }
-{
-    let o = info.opts;
-    let dims = info.dims;
-    let dim = dims.base_dim;
-    let d = dims.feat_dim;
-    frame_views::lda_frame(
-        o, dim, d, accepted, t, true, global, frames, rows, lda_t, lda_offset, cmvn, normalized,
-    );
-    frame_views::lda_frame(
-        o, dim, d, accepted, t, false, global, frames, rows, lda_t, lda_offset, cmvn, raw,
-    );
-    batch_sums::acc_frame(
-        o,
-        weight,
-        ln,
-        dims.num_gauss,
-        d,
-        gconsts,
-        means_invvars_t,
-        inv_vars_t,
-        normalized,
-        raw,
-        ll,
-        lb,
-        m,
-        seen,
-        tot,
-        sum,
-    )
-}
-
-// A frame of a batch, its weight, the logarithm of its prune floor, and the place behind it.
-#[derive(Clone, Copy)]
-pub struct BatchFrame {
-    pub frame: usize,
-    pub weight: FrameWeight,
-    pub ln: f32,
-    pub end: usize,
-}
-
-// How many places a batch has that a fetch of f brings in: one for each frame from `next` to f, or, once a change call was taken, one for
-// each of the n waiting changes.
-pub fn batch_length(called: bool, next: usize, f: usize, n: usize) -> usize
-    requires { (next ≤ f) × (f < 1000000000) }
-    ensures { result ≡ batch_length called next f n }
-{
-    if called {
-        return n;
-    }
-    f + 1 - next
-}
-
-// The logarithm of a frame's prune floor.
-fn floor_log(weight: FrameWeight) -> f32
-    ensures { Logged weight result }
-{
-    match weight {
-        FrameWeight::Skipped => 0.0,
-        FrameWeight::Weighed(floor, _) => floats::ln_f32(floor),
-    }
-}
-
-// The frame at place j of a batch of n places: frame next + j, unweighted, or that of waiting change j, weighed by the sum of its own; ln: the
-// logarithm of the floor of frames without weights, which is the same for all.
-fn batch_frame(
-    o: IvectorOptions,
-    called: bool,
-    ln: f32,
-    next: usize,
-    n: usize,
-    waiting_frames: &[usize],
-    waiting_weights: &[f32],
-    j: usize,
-) -> BatchFrame
-    requires { (j < n) × Lined called n waiting_frames.now waiting_weights.now × (frame_at called next waiting_frames.now j < 1000000000) × (ln ≡ ln_narrow o.min_post) }
-    ensures { (
-        let left : ℕ → Batch = batch_from o called next n waiting_frames.now waiting_weights.now in
-        (result.frame ≡ frame_at called next waiting_frames.now j) × (j < result.end) × (result.end ≤ n)
-        × (left j ≡ (result.frame, result.weight) ∷ left result.end) × Logged result.weight result.ln) }
-{
-    if called {
-        let group = delta_weights::sum_group(waiting_frames, waiting_weights, n, j);
-        let weight = diag_gmm::weighed(o, group.weight);
-        let frame = waiting_frames[j];
-        let end = group.end;
-        let own = floor_log(weight);
-        return BatchFrame {
-            frame,
-            weight,
-            ln: own,
-            end,
+impl FetchBatch<'_> {
+    // A frame of the batch goes into the batch's sums, by way of rooms for its normalised and its raw features and for its likelihoods. A skipped
+    // one is fetched all the same. The answer: how many of its likelihoods were NaN.
+    fn take_frame(
+        &self,
+        b: BatchFrame,
+        cmvn: &mut [f64],
+        normalized: &mut [f32],
+        raw: &mut [f32],
+        rooms: &mut LikeRooms<'_>,
+        sums: &mut RunningSums<'_>,
+    ) -> usize
+        requires there { b.frame < self.now.intake.accepted }
+        requires log { Logged b.weight b.ln }
+        requires state { length cmvn.old ≡ self.now.info.dims.base_dim + 1 }
+        requires features { (length normalized.old ≡ self.now.info.dims.feat_dim) × (length raw.old ≡ self.now.info.dims.feat_dim) }
+        requires likes { (length rooms.old.likes.now ≡ self.now.info.dims.num_gauss) × (length rooms.old.squares.now ≡ self.now.info.dims.num_gauss) }
+        requires slots { SlotsIn self.now.info.dims.num_gauss self.now.info.dims.feat_dim sums.old }
+        ensures state { cmvn.new ≡ frame_state (model_of self.now) (frames_of self.now) b.frame cmvn.old }
+        ensures grown { Grown self.now.info.dims.num_gauss self.now.info.dims.feat_dim
+            (frame_entries (model_of self.now) (frames_of self.now) b.frame b.weight cmvn.old) sums.old sums.new }
+        ensures nans { result ≡ frame_nans (model_of self.now) (frames_of self.now) b.frame b.weight cmvn.old }
+        ensures loans { SameSums sums.old sums.new }
+        ensures like_loans { SameLikes rooms.old rooms.new }
+    {
+        let dims = self.info.dims;
+        let t = self.tables;
+        let view = StreamView {
+            options: self.info.opts,
+            dim: dims.base_dim,
+            accepted: self.intake.accepted,
+            global: t.global_mean_stats,
+            frames: self.held.frames,
+            rows: self.held.rows,
         };
+        let lda = Lda {
+            table: t.lda_t,
+            offset: t.lda_offset,
+        };
+        view.lda_frame(Features::Normalized, lda, b.frame, cmvn, normalized);
+        view.lda_frame(Features::Raw, lda, b.frame, cmvn, raw);
+        let gmm = DiagGmm {
+            num_gauss: dims.num_gauss,
+            dim: dims.feat_dim,
+            gconsts: t.gconsts,
+            means_invvars_t: t.means_invvars_t,
+            inv_vars_t: t.inv_vars_t,
+        };
+        let features = LentFeatures { normalized, raw };
+        let select = self.info.opts.num_gselect;
+        batch_sums::acc_frame(gmm, select, b.weight, b.ln, features, rooms, sums)
     }
-    let weight = diag_gmm::unweighted(o);
-    let frame = next + j;
-    let end = j + 1;
-    BatchFrame {
-        frame,
-        weight,
-        ln,
-        end,
-    }
-}
 
-// The frames of a batch of n places go into the sums of a batch that has none yet. The NaN likelihoods of all of them are added up: of at most
-// 10^9 frames, so that the sum is in range.
-pub fn take_batch(
-    info: IvectorInfo,
-    accepted: usize,
-    called: bool,
-    next: usize,
-    n: usize,
-    waiting_frames: &[usize],
-    waiting_weights: &[f32],
-    gconsts: &[f32],
-    means_invvars_t: &[f32],
-    inv_vars_t: &[f32],
-    lda_t: &[f32],
-    lda_offset: &[f32],
-    global: &[f64],
-    frames: &[f32],
-    rows: &[f64],
-    cmvn: &mut [f64],
-    normalized: &mut [f32],
-    raw: &mut [f32],
-    ll: &mut [f32],
-    lb: &mut [f32],
-    seen: &mut [usize],
-    tot: &mut [f64],
-    sum: &mut [f64],
-) -> Counts
-    requires lent { Lent info.dims.base_dim accepted global.now frames.now rows.now cmvn.old }
-    requires ready { Ready info (view_tables gconsts.now means_invvars_t.now inv_vars_t.now lda_t.now lda_offset.now global.now) }
-    requires lined { Lined called n waiting_frames.now waiting_weights.now × ((j : ℕ) → j < n → frame_at called next waiting_frames.now j < accepted)
-        × (length normalized.old ≡ info.dims.feat_dim) × (length raw.old ≡ info.dims.feat_dim)
-        × (length ll.old ≡ info.dims.num_gauss) × (length lb.old ≡ info.dims.num_gauss)
-        × Slots info.dims.num_gauss info.dims.feat_dim 0 seen.old tot.old sum.old
-        × (length (batch_from info.opts called next n waiting_frames.now waiting_weights.now 0) ≤ 1000000000) }
-    ensures { (
-        let M : Model = model info (view_tables gconsts.now means_invvars_t.now inv_vars_t.now lda_t.now lda_offset.now global.now) in
-        let F : Frames = ring_frames info.dims.base_dim accepted frames.now rows.now in
-        let d = info.dims.feat_dim in
-        let bs : Batch = batch_from info.opts called next n waiting_frames.now waiting_weights.now 0 in
-        let x = entries M F bs cmvn.old in
-        (cmvn.new ≡ x.0)
-        × Slots info.dims.num_gauss d result.seen seen.new tot.new sum.new
-        × Sums d x.1 result.seen seen.new tot.new sum.new
-        × (result.nans ≡ nans_over M F bs cmvn.old)) }
-{
-    let o = info.opts;
-    let ln = floats::ln_f32(o.min_post);
-    let mut m = 0;
-    let mut nans = 0;
-    let mut j = 0;
-    while j < n {
-        let b = batch_frame(o, called, ln, next, n, waiting_frames, waiting_weights, j);
-        let weight = b.weight;
-        let taken = take_frame(
-            info,
-            accepted,
-            b.frame,
-            weight,
-            b.ln,
-            gconsts,
-            means_invvars_t,
-            inv_vars_t,
-            lda_t,
-            lda_offset,
-            global,
-            frames,
-            rows,
-            cmvn,
-            normalized,
-            raw,
-            ll,
-            lb,
-            m,
-            seen,
-            tot,
-            sum,
-        );
-        m = taken.seen;
-        nans += taken.nans;
-        j = b.end;
+    /// The frames of the batch go into the sums of a batch that has none yet. The answer: the NaN likelihoods of all of them, added up; of at most
+    /// 10^9 frames, so that the sum is in range.
+    pub fn take_batch(
+        &self,
+        cmvn: &mut [f64],
+        rooms: &mut LikeRooms<'_>,
+        sums: &mut RunningSums<'_>,
+    ) -> usize
+        requires state { length cmvn.old ≡ self.now.info.dims.base_dim + 1 }
+        requires likes { (length rooms.old.likes.now ≡ self.now.info.dims.num_gauss) × (length rooms.old.squares.now ≡ self.now.info.dims.num_gauss) }
+        requires none { sums.old.count ≡ 0 }
+        requires slots { SlotsIn self.now.info.dims.num_gauss self.now.info.dims.feat_dim sums.old }
+        ensures state { cmvn.new ≡ (entries (model_of self.now) (frames_of self.now) (whole_of self.now) cmvn.old).0 }
+        ensures slots { SlotsIn self.now.info.dims.num_gauss self.now.info.dims.feat_dim sums.new }
+        ensures sums { SumsIn self.now.info.dims.feat_dim (entries (model_of self.now) (frames_of self.now) (whole_of self.now) cmvn.old).1 sums.new }
+        ensures nans { result ≡ nans_over (model_of self.now) (frames_of self.now) (whole_of self.now) cmvn.old }
+        ensures loans { SameSums sums.old sums.new }
+        ensures like_loans { SameLikes rooms.old rooms.new }
+    {
+        let o = self.info.opts;
+        let d = self.info.dims.feat_dim;
+        let ln = floats::ln_f32(o.min_post);
+        let places = self.intake.places();
+        // A copy: behind the reference each frame loads the record's numbers again (21,000 instructions more of a small fetch, counted).
+        let batch = *self;
+        let mut normalized = [0.0f32; 64];
+        let mut raw = [0.0f32; 64];
+        let mut nans = 0;
+        let mut j = 0;
+        // By `while`: a group of changes takes several places, so that where the next one begins is a turn's answer, and an iterator is no plainer.
+        while j < places {
+            let b = batch.intake.frame_at(o, ln, places, j);
+            // the rooms for features are arrays for the longest, as there is no heap, and are cut to the dimension
+            let heard = batch.take_frame(b, cmvn, &mut normalized[..d], &mut raw[..d], rooms, sums);
+            nans += heard;
+            j = b.end;
+        }
+        nans
     }
-    Counts { seen: m, nans }
 }

@@ -13,18 +13,21 @@ use borrow.Author.Tests.{le-leb, lt-leb, leb-true}
 use Rattle.loops.specs.Lists.{build, those, over}
 use Rattle.loops.proofs.Build.{at_build, build_ext}
 use Rattle.loops.proofs.Choose.{by-test, choose_true, choose_false}
-use Rattle.loops.proofs.Fill.{over_at, over_take}
+use Rattle.loops.proofs.Fill.{length_over, over_at, over_take}
 use Rattle.loops.proofs.Refusal.{taken_new, taken_old}
 use Rattle.floats.specs.Operators.{at}
+use Rattle.definition.specs.declared.Dimensions.{Dimensions}
 use Rattle.definition.specs.declared.IvectorInfo.{IvectorInfo}
 use Rattle.definition.specs.declared.IvectorStream.{IvectorStream}
+use Rattle.definition.specs.declared.RoomLengths.{RoomLengths}
 use Rattle.definition.specs.declared.StreamCall.{StreamCall}
+use Rattle.definition.specs.declared.TableLengths.{TableLengths}
 use Rattle.definition.specs.Model.{Tables, in_force, table_lengths_of, model_in}
 use Rattle.definition.specs.Posteriors.{unweighted}
 use Rattle.definition.specs.Changes.{Change, Changes, Batch, reached, batch}
 use Rattle.definition.specs.Estimate.{Estimate, updated, nans_over}
 use Rattle.definition.specs.Machine.{bits_of, not_finite}
-use Rattle.definition.specs.Stream.{rising}
+use Rattle.definition.specs.Stream.{rising, rooms_fit}
 use Rattle.definition.proofs.Lengths.{Long, updated_long}
 use Rattle.definition.proofs.Ranges.{Fitting, fitting}
 use Rattle.program.specs.Rooms.{rings_from, EstimateRooms, estimate_from, Rooms, rooms_from, room_lengths_of, waiting_in, frames_of, weights_of, ring_frames, frames_in, changes_in, estimate_at, estimate_in}
@@ -48,6 +51,21 @@ unfolding those
 those_pass p d [] k l = absurd (omega arith)
 those_pass p d (x ∷ xs) k l =
     by-test (p x) (λ t. rw t (first_pass p d x (those p xs) t (λ j m. those_pass p d xs j m) k (rw t at l))) (λ t. rw t (those_pass p d xs k (rw t at l)))
+
+-- a refusal by lengths and frames that code has for others
+pub refused_as : (s : IvectorStream) (z : RoomLengths) (f n : ℕ) {t t' : TableLengths} {fs fs' : List ℕ} {r : ℕ} → t' ≡ t → fs' ≡ fs → r ≡ fetch_refusal s t' z fs' f n → r ≡ fetch_refusal s t z fs f n
+refused_as s z f n p q e = e ∙ ap₂ (λ (t : TableLengths) (fs : List ℕ). fetch_refusal s t z fs f n) p q
+
+-- how many are up to f, from a list that code was lent for another
+pub counted : (f w : ℕ) {fs fs' : List ℕ} {n : ℕ} → fs' ≡ fs → w ≤ length fs → (n ≡ length (those (λ g. leb g f) (take w fs'))) × (n ≤ length (take w fs'))
+    → (n ≡ length (those (λ g. leb g f) (take w fs))) × (n ≤ w)
+counted f w {fs} e l (c, m) = (rw (← e) c, omega (arith, m, length-take-le w fs l, ap (λ (x : List ℕ). length (take w x)) e))
+
+-- whatever the waiting changes are, the rooms are as they were
+pub rooms_fit_by : (d : Dimensions) (z : Rooms) (n : ℕ) (fs : List ℕ) (ws : List Float) → rooms_fit d (room_lengths_of z n) ≡ true
+    → rooms_fit d (room_lengths_of (rooms_from (rings_from z.rings.frames z.rings.rows fs ws) z.estimate) n) ≡ true
+unfolding rooms_fit
+rooms_fit_by d z n fs ws h = h
 
 module _ (s : IvectorStream) (z : Rooms) (f : ℕ) where
   -- the model's record with the window in force
@@ -215,6 +233,13 @@ module _ (s : IvectorStream) (t : Tables) (z : Rooms) (f : ℕ) {scratch n : ℕ
   vector_long : length (fetch_estimate s t z f).current ≡ s.info.dims.ivector_dim
   unfolding fetch_estimate
   vector_long = by-test (catches_up s f) (λ e. rw e (updated_long (model_in (in_force s.info s.window) t) (frames_in s z.rings) _ (estimate_in s z.estimate) long).current_is) (λ e. rw e long.current_is)
+
+  -- the current vector's room is as long as it was
+  pub current_long : {y : Rooms} → y ≡ fetch_rooms s t z f → length y.estimate.current ≡ length z.estimate.current
+  unfolding fetch_rooms
+  current_long e =
+      ap (λ (y : Rooms). length y.estimate.current) e
+      ∙ length_over (fetch_estimate s t z f).current z.estimate.current (omega (arith, vector_long, fit.current_fits))
 
   vector_is : (m : ℕ) {cur : List Float} → m ≡ s.info.dims.ivector_dim → cur ≡ (fetch_rooms s t z f).estimate.current
       → build m (λ i. fetched_at s.info.prior_offset i (at cur i)) ≡ fetch_vector s t z f

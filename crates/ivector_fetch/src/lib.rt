@@ -1,4 +1,7 @@
 // `IvectorStream::get_frame`: the fetch, in a crate of its own so that a check of the other calls stays short.
+//
+// Of the structs of lent rooms that it writes, the clause `loans` says that each one's slices stay the ones that were lent: a caller knows it by that clause
+// alone, and in the struct's type it would be no plainer, since a ghost field beside a `&mut` is not covered.
 #![tactic(auto)]
 
 ghost use Rattle.std.specs.Prelude.{◌≡◌, ◌&&◌, ℕ, ◌+◌, ◌<◌, ◌≤◌, length, take, leb, if◌then◌else◌};
@@ -7,19 +10,23 @@ ghost use Rattle.std.specs.Float.Ieee.{to_bits};
 ghost use Rattle.std.specs.Float.Ieee.Scale.{finite};
 ghost use Rattle.loops.specs.Lists.{build, over};
 ghost use Rattle.floats.specs.Operators.{at};
-ghost use Rattle.definition.specs.Model.{Tables, tables_from, in_force};
+ghost use Rattle.definition.specs.Model.{in_force};
+ghost use Rattle.definition.specs.Lent.{tables_in, SameWaiting, SameEstimate};
 ghost use Rattle.definition.specs.Machine.{bits_of, not_finite};
 ghost use Rattle.definition.specs.Number.{refused_by};
-ghost use Rattle.program.specs.Rooms.{rings_from, estimate_from, Rooms, rooms_from};
-ghost use Rattle.program.specs.Calls.{Step, fetch_call, fetched_on, fetch_refusal, get_frame};
+ghost use Rattle.program.specs.Rooms.{Rooms};
+ghost use Rattle.program.specs.Lent.{rooms_fetched};
+ghost use Rattle.program.specs.Calls.{fetch_call, fetched_on, fetch_refusal, get_frame};
 ghost use Rattle.ivector_fetch.specs.Steps.{fetched_at};
 
 use definition::{
-    EstimateLengths, IvectorInfo, IvectorStream, Refusal, RingLengths, RoomLengths, StreamCall,
-    TableLengths, need,
+    EstimateLengths, IvectorInfo, IvectorStream, LentEstimate, LentFrames, LentTables, Refusal,
+    RingLengths, RoomLengths, StreamCall, TableLengths, WaitingRooms, need,
 };
+use ivector_batch::Intake;
 
-// Whether a fetch of f would bring in frames whose weights are not known yet: f is not in the statistics, and no change reached it.
+// Whether a fetch of f would bring in frames whose weights are not known yet: f is not in the statistics, and no change reached it. `called` is the flag of the
+// stream's record, as the definition has it: an enum in its place would have to be translated back in each clause.
 fn unreached(next: usize, called: bool, past_highest: usize, f: usize) -> bool
     ensures { result ≡ (leb next f && called && leb past_highest f) }
 {
@@ -98,15 +105,16 @@ fn bits(x: f32) -> u32
     f32::to_bits(x)
 }
 
-// The bits of the vector that a fetch answers, from the first n elements of the current vector; how many are not finite.
-fn write_vector(prior_offset: f64, current: &[f64], n: usize, out: &mut [u32]) -> usize
-    requires { (n ≤ length current.now) × (n ≤ length out.old) × (n ≤ 128) }
-    ensures { (out.new ≡ over (bits_of (build n (λ i. fetched_at prior_offset i (at current.now i)))) out.old)
-        × (result ≡ not_finite (build n (λ i. fetched_at prior_offset i (at current.now i)))) }
+// The bits of the vector that a fetch answers, from the first elements of the current vector; how many are not finite.
+fn write_vector(prior_offset: f64, estimate: &LentEstimate<'_>, out: &mut [u32]) -> usize
+    requires { (length out.old ≤ length estimate.now.current.now) × (length out.old ≤ 128) }
+    ensures { (out.new ≡ over (bits_of (build (length out.old) (λ i. fetched_at prior_offset i (at estimate.now.current.now i)))) out.old)
+        × (result ≡ not_finite (build (length out.old) (λ i. fetched_at prior_offset i (at estimate.now.current.now i)))) }
 {
+    let current: &[f64] = estimate.current;
     let mut bad = 0;
-    // By index: of what a loop over `iter_mut().zip` writes, an invariant names no element (tried in small).
-    for i in 0..n {
+    // By index: of what a loop over `iter_mut().zip` writes, an invariant names no element (tried).
+    for i in 0..out.len() {
         let v = fetched_at(prior_offset, i, current[i]);
         out[i] = bits(v);
         bad = count_bad(bad, v);
@@ -117,105 +125,76 @@ fn write_vector(prior_offset: f64, current: &[f64], n: usize, out: &mut [u32]) -
 // The i-vector for `frame`: where that frame is not in the statistics yet, they are brought up to it by the window in force, the estimate is refreshed and the
 // changes that were used wait no longer; the prior is taken off element 0. `out` takes the bits of its numbers. The answer has the count of
 // those not finite, and of the NaN likelihoods of the frames that were brought in: 0 where there are none. A refusal leaves every room as it
-// was; scratch is free once a fetch is taken.
+// was; scratch is free once a fetch is taken. What is lent comes parted by what a fetch reads and what it writes: a struct around these parameters would be
+// taken apart here again, and is no plainer.
 pub fn get_frame(
     s: IvectorStream,
     frame: usize,
-    gconsts: &[f32],
-    means_invvars_t: &[f32],
-    inv_vars_t: &[f32],
-    sigma_inv_m: &[f64],
-    u: &[f64],
-    lda_t: &[f32],
-    lda_offset: &[f32],
-    global_mean_stats: &[f64],
-    frames: &[f32],
-    rows: &[f64],
-    waiting_frames: &mut [usize],
-    waiting_weights: &mut [f32],
-    cmvn_stats: &mut [f64],
-    linear: &mut [f64],
-    quadratic: &mut [f64],
-    current: &mut [f64],
+    tables: LentTables<'_>,
+    held: LentFrames<'_>,
+    waiting: &mut WaitingRooms<'_>,
+    estimate: &mut LentEstimate<'_>,
     scratch: &mut [f64],
     out: &mut [u32],
 ) -> StreamCall
-    ensures { (
-        let t : Tables = tables_from gconsts.now means_invvars_t.now inv_vars_t.now sigma_inv_m.now
-        u.now lda_t.now lda_offset.now global_mean_stats.now in
-        let z : Rooms = rooms_from (rings_from frames.now rows.now waiting_frames.old waiting_weights.old)
-        (estimate_from cmvn_stats.old linear.old quadratic.old current.old) in
-        let x : Step = get_frame s t z (length scratch.old) frame (length out.old) in
-        (fetch_call result (rooms_from (rings_from frames.now rows.now waiting_frames.new waiting_weights.new)
-        (estimate_from cmvn_stats.new linear.new quadratic.new current.new)) out.new
-        ≡ fetched_on s z out.old x)
-        × ((x.refusal ≡ 0 → ⊥) → scratch.new ≡ scratch.old)) }
+    ensures fetched { (
+        let z : Rooms = rooms_fetched held.entry waiting.old estimate.old in
+        fetch_call result (rooms_fetched held.entry waiting.new estimate.new) out.new
+        ≡ fetched_on s z out.old (get_frame s (tables_in tables.entry) z (length scratch.old) frame (length out.old))) }
+    ensures scratch { (
+        let z : Rooms = rooms_fetched held.entry waiting.old estimate.old in
+        ((get_frame s (tables_in tables.entry) z (length scratch.old) frame (length out.old)).refusal ≡ 0 → ⊥) → scratch.new ≡ scratch.old) }
+    ensures loans { SameWaiting waiting.old waiting.new × SameEstimate estimate.old estimate.new }
 {
-    let tables = TableLengths {
-        gconsts: gconsts.len(),
-        means_invvars_t: means_invvars_t.len(),
-        inv_vars_t: inv_vars_t.len(),
-        sigma_inv_m: sigma_inv_m.len(),
-        u: u.len(),
-        lda_t: lda_t.len(),
-        lda_offset: lda_offset.len(),
-        global_mean_stats: global_mean_stats.len(),
+    let lengths = RoomLengths {
+        rings: RingLengths {
+            frames: held.frames.len(),
+            rows: held.rows.len(),
+            waiting_frames: waiting.frames.len(),
+            waiting_weights: waiting.weights.len(),
+        },
+        estimate: EstimateLengths {
+            cmvn_stats: estimate.cmvn_stats.len(),
+            linear: estimate.linear.len(),
+            quadratic: estimate.quadratic.len(),
+            current: estimate.current.len(),
+            scratch: scratch.len(),
+        },
     };
-    let rings = RingLengths {
-        frames: frames.len(),
-        rows: rows.len(),
-        waiting_frames: waiting_frames.len(),
-        waiting_weights: waiting_weights.len(),
-    };
-    let estimate = EstimateLengths {
-        cmvn_stats: cmvn_stats.len(),
-        linear: linear.len(),
-        quadratic: quadratic.len(),
-        current: current.len(),
-        scratch: scratch.len(),
-    };
-    let lengths = RoomLengths { rings, estimate };
-    if let Err(e) = fetch_refusal(&s, tables, lengths, waiting_frames, frame, out.len()) {
-        return ivector_stream::reply(e.number(), s, 0, 0);
+    let list = waiting.lent();
+    let asked = fetch_refusal(&s, tables.lengths(), lengths, list.frames, frame, out.len());
+    if let Err(e) = asked {
+        return ivector_stream::answered(Err(e), s);
     }
     let i = s.info;
     if frame < s.num_frames_stats {
-        let bad = write_vector(i.prior_offset, current, out.len(), out);
+        let bad = write_vector(i.prior_offset, estimate, out);
         return ivector_stream::reply(0, s, bad, 0);
     }
     let now = in_force(i, s.window);
-    let n = delta_weights::up_to(waiting_frames, s.waiting, frame);
+    let n = delta_weights::up_to(&list.frames[..s.waiting], frame);
+    let intake = Intake {
+        accepted: s.accepted,
+        called: s.delta_weights_provided,
+        next: s.num_frames_stats,
+        end: frame + 1,
+        changes: n,
+        waiting: list,
+    };
     let update = ivector_update::update_rooms(
         now,
-        s.accepted,
-        s.delta_weights_provided,
-        s.num_frames_stats,
-        frame,
-        n,
-        waiting_frames,
-        waiting_weights,
-        gconsts,
-        means_invvars_t,
-        inv_vars_t,
-        sigma_inv_m,
-        u,
-        lda_t,
-        lda_offset,
-        global_mean_stats,
-        frames,
-        rows,
-        cmvn_stats,
+        intake,
+        tables,
+        held,
         s.num_frames,
-        linear,
-        quadratic,
-        current,
+        estimate,
         scratch,
     );
-    delta_weights::remove_first(waiting_frames, waiting_weights, s.waiting, n);
+    delta_weights::remove_first(waiting, s.waiting, n);
     let mut t = s;
     t.num_frames_stats = frame + 1;
     t.waiting = s.waiting - n;
     t.num_frames = update.num_frames;
-    let bad = write_vector(i.prior_offset, current, out.len(), out);
+    let bad = write_vector(i.prior_offset, estimate, out);
     ivector_stream::reply(0, t, bad, update.nans)
 }

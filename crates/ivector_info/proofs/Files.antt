@@ -1,93 +1,67 @@
--- The four files, one after the other: a file that is refused ends the load, and what one that is read holds goes on. Then what the
--- checks of all four say of the dimensions.
-use mathlib.Core.Path.{◌≡◌, refl, sym, ap, ◌∙◌, subst}
-use mathlib.Core.Bool.{true}
-use mathlib.Core.List.{List, []}
-use Prim.Native.Nat.{ℕ, ◌+◌, ◌-◌}
+-- What the checks of the four files say of the dimensions.
+use mathlib.Core.Path.{◌≡◌, refl, ap, ◌∙◌}
+use mathlib.Core.Bool.{true, ◌&&◌}
+use mathlib.Core.List.{List}
+use Prim.Native.Nat.{ℕ, ◌-◌}
 use native.Mathlib.Omega.{arith}
-use lib.Ieee.{Float}
 use lib.ListN.{length}
+use lib.Dec.{leb}
 use Rattle.loops.proofs.Tests.{of_each}
+use Rattle.definition.specs.declared.IvectorOptions.{IvectorOptions}
 use Rattle.definition.specs.declared.Dimensions.{Dimensions}
+use Rattle.definition.specs.declared.TableLengths.{TableLengths}
 use Rattle.definition.specs.Options.{dims_in_range}
-use Rattle.definition.specs.Reader.{Got, read, refused, Parser, after}
-use Rattle.definition.specs.Kaldi.{Gmm, Extractor, Matrix, gmm, extractor, lda}
-use Rattle.definition.specs.Text.{cmvn, line}
-use Rattle.definition.specs.Model.{Files, file, dims_of}
+use Rattle.definition.specs.Text.{line}
+use Rattle.definition.specs.Model.{dims_of, contents_agree, tables_fit, load_scratch}
 use Rattle.kaldi_io.proofs.Bytes.{in_range}
-use Rattle.kaldi_text.specs.Answers.{cells, RowIn}
-use Rattle.ivector_info.specs.declared.Places.{Places}
-use Rattle.ivector_info.specs.Steps.{contents, contents_at, CheckedIn}
+use Rattle.kaldi_text.specs.Answers.{cells}
+use Rattle.ivector_info.specs.declared.Contents.{Contents}
+use Rattle.ivector_info.specs.Steps.{contents_in, ContentsIn, dims_in, agreeing}
 
-module _ {A B : Type 0} (p : Parser A) (bytes : List ℕ) (k : A → Parser B) {x : Got B} where
-  file_goes : {a : A} {q : ℕ} → p bytes 0 ≡ read a q → x ≡ k a [] 0 → x ≡ after (file p bytes [] 0) k []
-  file_goes e t = t ∙ sym (ap (λ (g : Got A). after (after g (λ a _ _. read a 0) bytes) k []) e)
-
-  file_stops : {n : ℕ} → p bytes 0 ≡ refused n → x ≡ refused n → x ≡ after (file p bytes [] 0) k []
-  file_stops e t = t ∙ sym (ap (λ (g : Got A). after (after g (λ a _ _. read a 0) bytes) k []) e)
-
--- each way out of the four checks
-module _ (f : Files) where
-  pub no_gmm : {n : ℕ} → gmm f.gmm 0 ≡ refused n → refused n ≡ contents f
-  unfolding contents
-  no_gmm e = file_stops gmm f.gmm _ e refl
-
-  module _ {g : Gmm} {p : ℕ} (a : gmm f.gmm 0 ≡ read g p) where
-    pub no_extractor : {n : ℕ} → extractor f.extractor 0 ≡ refused n → refused n ≡ contents f
-    unfolding contents
-    no_extractor e = file_goes gmm f.gmm _ a (file_stops extractor f.extractor _ e refl)
-
-    module _ {x : Extractor} {q : ℕ} (b : extractor f.extractor 0 ≡ read x q) where
-      pub no_lda : {n : ℕ} → lda f.lda 0 ≡ refused n → refused n ≡ contents f
-      unfolding contents
-      no_lda e = file_goes gmm f.gmm _ a (file_goes extractor f.extractor _ b (file_stops lda f.lda _ e refl))
-
-      module _ {l : Matrix} {r : ℕ} (d : lda f.lda 0 ≡ read l r) where
-        pub no_cmvn : {n : ℕ} → cmvn f.cmvn 0 ≡ refused n → refused n ≡ contents f
-        unfolding contents
-        no_cmvn e = file_goes gmm f.gmm _ a (file_goes extractor f.extractor _ b (file_goes lda f.lda _ d (file_stops cmvn f.cmvn _ e refl)))
-
-        pub all_read : {row : List Float} {z : ℕ} → cmvn f.cmvn 0 ≡ read row z → read (record { gmm = g; extractor = x; lda = l; global_row = row }) 0 ≡ contents f
-        unfolding contents
-        all_read e = file_goes gmm f.gmm _ a (file_goes extractor f.extractor _ b (file_goes lda f.lda _ d (file_goes cmvn f.cmvn _ e refl)))
-
--- a row of n numbers as the base dimension and the count
-pub row-counted : (s : List ℕ) (n at : ℕ) → RowIn s n at → RowIn s (n - 1 + 1) at
-row-counted s n at o = let e : n ≡ n - 1 + 1 = omega (arith, o.low) in subst (λ (k : ℕ). RowIn s k at) e o
-
--- ---- what was checked
-
-module _ {f : Files} {d : Dimensions} {dim rows : ℕ} {at : Places} (x : CheckedIn f d dim rows at) where
-  pub dims_are : (prior : Float) → dims_of (contents_at f d dim rows prior at) ≡ d
-  dims_are prior =
-      let e : length (cells (line f.cmvn at.row)) - 1 ≡ d.base_dim = omega (arith, x.row_in_is.many) in
+module _ {text : List ℕ} {c : Contents} (x : ContentsIn text c) where
+  pub dims_are : dims_in c ≡ dims_of (contents_in text c)
+  dims_are =
+      let e : c.row.len - 1 ≡ length (cells (line text c.row.from)) - 1 = omega (arith, x.row_in.many) in
       ap
       (λ (b : ℕ).
       record {
-        num_gauss = d.num_gauss;
-        ext_gauss = d.ext_gauss;
-        feat_dim = d.feat_dim;
-        ivector_dim = d.ivector_dim;
+        num_gauss = c.gmm.inv_vars.rows;
+        ext_gauss = c.extractor.num_gauss;
+        feat_dim = c.extractor.feat_dim;
+        ivector_dim = c.extractor.ivector_dim;
         base_dim = b;
-        lda_cols = d.lda_cols;
+        lda_cols = c.lda.cols;
       })
       e
 
-  pub dims_in : dims_in_range d ≡ true
+  pub dims_range : dims_in_range (dims_in c) ≡ true
   unfolding dims_in_range
-  dims_in =
-      let g = x.gmm_in_is in
-      let e = x.extractor_in_is in
+  dims_range =
+      let g = c.gmm in
+      let e = x.extractor_stands in
+      let row = x.row_in in
       of_each (λ t. t) _ (
-        in_range 1 1024 _ g.gauss_low g.gauss_high,
+        in_range 1 1024 g.inv_vars.rows (omega (arith, g.gauss_low, g.rows_agree)) (omega (arith, g.gauss_high, g.rows_agree)),
         (
           in_range 1 1024 _ e.gauss_low e.gauss_high,
           (
             in_range 1 64 _ e.feat_low e.feat_high,
             (
               in_range 1 128 _ e.ivec_low e.ivec_high,
-              (in_range 1 64 d.base_dim (omega (arith, x.row_in_is.low)) (omega (arith, x.row_in_is.high)), (in_range 1 1089 _ x.lda_in.cols_low x.lda_in.cols_high, tt)),
+              (in_range 1 64 (c.row.len - 1) (omega (arith, row.low)) (omega (arith, row.high)), (in_range 1 1089 _ x.lda_low x.lda_high, tt)),
             ),
           ),
         ),
       )
+
+  module _ {d : Dimensions} (e : d ≡ dims_in c) where
+    pub agree_same : (o : IvectorOptions) → agreeing o d c ≡ contents_agree o (contents_in text c)
+    unfolding contents_agree
+    agree_same o = rw (e, dims_are) refl
+
+    pub room_same : (o : IvectorOptions) (z : TableLengths) (n : ℕ)
+        → (tables_fit o d z && leb (load_scratch d) n) ≡ (tables_fit o (dims_of (contents_in text c)) z && leb (load_scratch (dims_of (contents_in text c))) n)
+    room_same o z n = rw (e, dims_are) refl
+
+    pub range_is : dims_in_range d ≡ true
+    range_is = ap dims_in_range e ∙ dims_range

@@ -1,39 +1,42 @@
 -- The tables of a load: a refusal leaves them as they were, and what the eight fills say of one table each is one equation of all eight.
 -- The lengths that the judgement passed are room for each fill.
+use Rattle.std.specs.Prelude.{Ok, Err}
 use mathlib.Core.Path.{◌≡◌, refl, sym, ap, ◌∙◌}
 use mathlib.Core.List.{List}
-use Prim.Native.Nat.{ℕ, ◌*◌, ◌≤◌}
+use Prim.Native.Nat.{ℕ, ◌+◌, ◌*◌, ◌≤◌}
 use native.Mathlib.Nat.{mul_comm, mul_assoc}
-use lib.Ieee.{Float}
+use native.Mathlib.Omega.{arith}
+use lib.Ieee.{Float, binary32}
 use Rattle.loops.specs.Lists.{build, over}
 use Rattle.definition.specs.declared.IvectorOptions.{IvectorOptions}
 use Rattle.definition.specs.declared.Dimensions.{Dimensions}
 use Rattle.definition.specs.declared.TableLengths.{TableLengths}
-use Rattle.definition.specs.declared.Loaded.TheVariants as L
 use Rattle.definition.specs.Options.{spliced}
 use Rattle.definition.specs.Reader.{Got, read, refused}
-use Rattle.definition.specs.Kaldi.{Matrix, Gmm}
+use Rattle.definition.specs.Kaldi.{triangle}
 use Rattle.definition.specs.Text.{line}
-use Rattle.definition.specs.Model.{Files, Contents, Tables, tables_from, tables_of, filled_tables, Model, model_of, gconst, transposed, loaded_of, loaded_tables, lda_offset_of}
+use Rattle.definition.specs.Model.{Tables, tables_from, tables_of, filled_tables, Model, gconst, transposed, loaded_of, loaded_tables, lda_offset_of}
 use Rattle.definition.proofs.Ranges.{tables-fitting}
+use Rattle.kaldi_io.specs.Got.{matrix_in}
+use Rattle.kaldi_files.specs.Parts.{gmm_in, extractor_in}
 use Rattle.kaldi_text.specs.Answers.{cells}
-use Rattle.ivector_tables.specs.Steps.{float_matrix, gmm_at, sigma_inv_ms, quadratic_terms}
+use Rattle.ivector_tables.specs.Steps.{sigma_inv_ms, quadratic_terms}
 use Rattle.ivector_info.specs.Load.{scratch_kept}
-use Rattle.ivector_info.specs.declared.Places.{Places}
-use Rattle.ivector_info.specs.Steps.{contents_at, CheckedIn, JudgedIn, GmmFits, LdaFits}
+use Rattle.ivector_info.specs.declared.Judged.{Judged}
+use Rattle.ivector_info.specs.Steps.{contents_in, judged_in, JudgedIn, LdaFits}
 use Rattle.ivector_info.proofs.Files.{dims_are}
 
 -- ---- a refusal
 
-module _ {g : Got Model} {n : ℕ} (e : g ≡ refused n) where
-  pub loaded_no : L.Refused n ≡ loaded_of g
-  loaded_no = rw e
+module _ {g : Got Model} {n : ℕ} (e : refused n ≡ g) where
+  pub loaded_no : Err n ≡ loaded_of g
+  loaded_no = ap loaded_of e
 
   pub tables_same : (t : Tables) → t ≡ loaded_tables g t
-  tables_same t = rw e
+  tables_same t = ap (λ (x : Got Model). loaded_tables x t) e
 
   pub scratch_same : (room : List Float) → scratch_kept g room room
-  scratch_same room = rw e refl
+  scratch_same room = rw (sym e) refl
 
 -- ---- a load
 
@@ -45,72 +48,83 @@ filled : (x t : Tables) {a b c d e f g h : List Float}
     → tables_from a b c d e f g h ≡ filled_tables x t
 filled x t p q r s u v w y = rw (p, q, r, s, u, v, w, y)
 
-module _ (o : IvectorOptions) (z : TableLengths) {f : Files} {d : Dimensions} (prior : Float) {at : Places}
-    (x : CheckedIn f d d.feat_dim d.feat_dim at) {g : Got Model}
-    (e : g ≡ read (model_of o (contents_at f d d.feat_dim d.feat_dim prior at) z) 0) where
-  abbrev here : Contents
-  here = contents_at f d d.feat_dim d.feat_dim prior at
+module _ {o : IvectorOptions} {text : List ℕ} {z : TableLengths} {n : ℕ} {j : Judged} (x : JudgedIn o text z n j) where
+  dims_here : j.dims ≡ (judged_in o text z j).info.dims
+  dims_here = x.dims_are ∙ dims_are x.files_in
 
-  abbrev theirs : Gmm
-  theirs = gmm_at f.gmm d.num_gauss d.feat_dim at.weights at.weights_double at.means_invvars at.means_double at.inv_vars at.vars_double
+  feat : j.dims.feat_dim ≡ j.files.extractor.feat_dim
+  feat = ap (λ (d : Dimensions). d.feat_dim) x.dims_are
 
-  abbrev turning : Matrix
-  turning = float_matrix f.lda d.feat_dim d.lda_cols at.lda at.lda_double
+  module _ {g : Got Model} (e : read (judged_in o text z j) 0 ≡ g) where
+    pub loaded_is : Ok (record { opts = o; dims = j.dims; prior_offset = j.files.extractor.prior_offset; tables = z }) ≡ loaded_of g
+    loaded_is = ap (λ (d : Dimensions). Ok (record { opts = o; dims = d; prior_offset = j.files.extractor.prior_offset; tables = z })) dims_here ∙ ap loaded_of e
 
-  pub loaded_is : L.Model (record { opts = o; dims = d; prior_offset = prior; tables = z }) ≡ loaded_of g
-  loaded_is =
-      rw e
-      (ap (λ (k : Dimensions). L.Model (record { opts = o; dims = k; prior_offset = prior; tables = z }))
-      (sym (dims_are x prior)))
+    pub scratch_free : (before after : List Float) → scratch_kept g before after
+    scratch_free before after = rw (sym e) tt
 
-  pub scratch_free : (before after : List Float) → scratch_kept g before after
-  scratch_free before after = rw e tt
+    -- what `fill_gmm`, `fill_gaussians` and `fill_lda` say
+    pub tables_are : (t : Tables) {gconsts means vars sims us turned offset row : List Float}
+        → gconsts ≡ over (build j.files.gmm.inv_vars.rows (gconst (gmm_in j.files.gmm))) t.gconsts
+        → means ≡ over (transposed j.files.gmm.inv_vars.cols (matrix_in binary32 j.files.gmm.means_invvars)) t.means_invvars_t
+        → vars ≡ over (transposed j.files.gmm.inv_vars.cols (matrix_in binary32 j.files.gmm.inv_vars)) t.inv_vars_t
+        → sims ≡ over (sigma_inv_ms (extractor_in j.files.extractor)) t.sigma_inv_m
+        → us ≡ over (quadratic_terms (extractor_in j.files.extractor)) t.u
+        → turned ≡ over (transposed (spliced o j.dims) (matrix_in binary32 j.files.lda)) t.lda_t
+        → offset ≡ over (build j.dims.feat_dim (lda_offset_of (spliced o j.dims) (matrix_in binary32 j.files.lda))) t.lda_offset
+        → row ≡ over (cells (line text j.files.row.from)) t.global_mean_stats
+        → tables_from gconsts means vars sims us turned offset row ≡ loaded_tables g t
+    unfolding tables_of sigma_inv_ms quadratic_terms
+    tables_are t a b c d u l f r =
+        let cols : j.files.gmm.inv_vars.cols ≡ j.files.extractor.feat_dim = x.gmm_cols_are ∙ feat in
+        let same = dims_here in
+        filled (tables_of o (contents_in text j.files)) t a
+        (b ∙ ap (λ (k : ℕ). over (transposed k (matrix_in binary32 j.files.gmm.means_invvars)) t.means_invvars_t) cols)
+        (c ∙ ap (λ (k : ℕ). over (transposed k (matrix_in binary32 j.files.gmm.inv_vars)) t.inv_vars_t) cols)
+        d
+        u
+        (l ∙ ap (λ (k : Dimensions). over (transposed (spliced o k) (matrix_in binary32 j.files.lda)) t.lda_t) same)
+        (f ∙ ap (λ (k : Dimensions). over (build k.feat_dim (lda_offset_of (spliced o k) (matrix_in binary32 j.files.lda))) t.lda_offset) same)
+        r
+        ∙ ap (λ (m : Got Model). loaded_tables m t) e
 
-  -- what `fill_gmm`, `fill_gaussians` and `fill_lda` say
-  pub tables_are : (t : Tables) {gconsts means vars sims us turned offset row : List Float}
-      → (gconsts ≡ over (build d.num_gauss (gconst theirs)) t.gconsts)
-      × (means ≡ over (transposed d.feat_dim theirs.means_invvars) t.means_invvars_t)
-      × (vars ≡ over (transposed d.feat_dim theirs.inv_vars) t.inv_vars_t)
-      → (sims ≡ over (sigma_inv_ms f.extractor d.ext_gauss d.feat_dim d.ivector_dim at.m at.sigma_inv) t.sigma_inv_m)
-      × (us ≡ over (quadratic_terms f.extractor d.ext_gauss d.feat_dim d.ivector_dim at.m at.sigma_inv) t.u)
-      → (turned ≡ over (transposed (spliced o d) turning) t.lda_t)
-      × (offset ≡ over (build d.feat_dim (lda_offset_of (spliced o d) turning)) t.lda_offset)
-      × (row ≡ over (cells (line f.cmvn at.row)) t.global_mean_stats)
-      → tables_from gconsts means vars sims us turned offset row ≡ loaded_tables g t
-  unfolding tables_of sigma_inv_ms quadratic_terms
-  tables_are t p q r =
-      let same = sym (dims_are x prior) in
-      filled (tables_of o here) t p.0 p.1 p.2 q.0 q.1
-      (r.0 ∙ ap (λ (k : Dimensions). over (transposed (spliced o k) turning) t.lda_t) same)
-      (r.1 ∙ ap (λ (k : Dimensions). over (build d.feat_dim (lda_offset_of (spliced o k) turning)) t.lda_offset) same)
-      r.2
-      ∙ sym (ap (λ (g : Got Model). loaded_tables g t) e)
+  -- ---- what the fills are lent
 
--- ---- what the fills are lent
+  gauss : j.dims.num_gauss ≡ j.files.gmm.inv_vars.rows
+  gauss = ap (λ (d : Dimensions). d.num_gauss) x.dims_are
 
-module _ {o : IvectorOptions} {z : TableLengths} {n : ℕ} {f : Files} {d : Dimensions} {at : Places} (x : JudgedIn o z n f d at) where
-  pub gmm_fits : GmmFits f.gmm d at z.gconsts z.means_invvars_t z.inv_vars_t
-  gmm_fits =
-      let t = tables-fitting o d z x.tables_fit_is in
-      record {
-        gmm_in_is = x.files_in_is.gmm_in_is;
-        gconsts_fit = t.gconsts_fit;
-        means_fit = rw (mul_comm d.feat_dim d.num_gauss) t.means_fit;
-        vars_fit = rw (mul_comm d.feat_dim d.num_gauss) t.vars_fit;
-      }
+  pub gconsts_fit : j.files.gmm.inv_vars.rows ≤ z.gconsts
+  gconsts_fit = rw (sym gauss) (tables-fitting o j.dims z x.tables_fit_is).gconsts_fit
 
-  pub sims_fit : d.ext_gauss * (d.feat_dim * d.ivector_dim) ≤ z.sigma_inv_m
-  sims_fit = rw (← mul_assoc d.ext_gauss d.feat_dim d.ivector_dim) (tables-fitting o d z x.tables_fit_is).sigma_fits
+  turned_is : j.dims.num_gauss * j.dims.feat_dim ≡ j.files.gmm.inv_vars.cols * j.files.gmm.inv_vars.rows
+  turned_is = mul_comm j.dims.num_gauss j.dims.feat_dim ∙ rw (gauss, x.gmm_cols_are) refl
 
-  pub lda_fits : LdaFits o f.lda f.cmvn d at z.lda_t z.lda_offset z.global_mean_stats
+  pub means_fit : j.files.gmm.inv_vars.cols * j.files.gmm.inv_vars.rows ≤ z.means_invvars_t
+  means_fit = rw (sym turned_is) (tables-fitting o j.dims z x.tables_fit_is).means_fit
+
+  pub vars_fit : j.files.gmm.inv_vars.cols * j.files.gmm.inv_vars.rows ≤ z.inv_vars_t
+  vars_fit = rw (sym turned_is) (tables-fitting o j.dims z x.tables_fit_is).vars_fit
+
+  pub sims_fit : j.files.extractor.num_gauss * (j.files.extractor.feat_dim * j.files.extractor.ivector_dim) ≤ z.sigma_inv_m
+  sims_fit = rw (← mul_assoc j.files.extractor.num_gauss j.files.extractor.feat_dim j.files.extractor.ivector_dim) (rw x.dims_are at (tables-fitting o j.dims z x.tables_fit_is).sigma_fits)
+
+  pub us_fit : j.files.extractor.num_gauss * triangle j.files.extractor.ivector_dim ≤ z.u
+  us_fit = rw x.dims_are at (tables-fitting o j.dims z x.tables_fit_is).u_fits
+
+  pub scratch_fits : triangle j.files.extractor.feat_dim + j.files.extractor.feat_dim * j.files.extractor.ivector_dim ≤ n
+  scratch_fits = rw x.dims_are at x.scratch_fits
+
+  pub lda_fits : LdaFits o text j z.lda_t z.lda_offset z.global_mean_stats
   lda_fits =
-      let t = tables-fitting o d z x.tables_fit_is in
+      let t = tables-fitting o j.dims z x.tables_fit_is in
+      let r = x.files_in.row_in in
+      let base : j.dims.base_dim ≡ _ = ap (λ (d : Dimensions). d.base_dim) x.dims_are in
       record {
-        lda_in = x.files_in_is.lda_in;
-        row_in_is = x.files_in_is.row_in_is;
         options_in = x.options_in;
-        spliced_in = x.spliced_in;
+        row_in = r;
+        base_is = omega (arith, base, r.high);
+        rows_are = x.lda_rows_are;
+        spliced_in = omega (arith, x.spliced_in, ap (λ (d : Dimensions). d.lda_cols) x.dims_are);
         turned_fits = t.lda_fits;
         offset_fits = t.offset_fits;
-        row_fits = t.global_fits;
+        row_fits = omega (arith, base, t.global_fits, r.low);
       }

@@ -1,4 +1,5 @@
-// `OnlineIvectorStats`: the statistics of an i-vector, and its solve. The numbers lie in lent rooms, the frame count goes by value.
+// `OnlineIvectorStats`: the statistics of an i-vector, and its solve. The numbers lie in lent rooms. That these are the same ones afterwards is the clause
+// `SameStats` of each function that writes them: in the struct's type it would be no plainer, since a ghost field beside a `&mut` is not covered.
 #![tactic(auto)]
 
 ghost use Rattle.std.specs.Prelude.{◌≡◌, List, ◌+◌, ◌*◌, ◌<◌, ◌≤◌, length, set, if◌then◌else◌};
@@ -10,14 +11,73 @@ ghost use Rattle.definition.specs.Kaldi.{triangle};
 ghost use Rattle.definition.specs.Statistics.{Entry, new_stats, add_diagonal, rescaled, acc as acc_of};
 ghost use Rattle.definition.specs.Solve.{prior_vector, get_ivector};
 ghost use Rattle.batch_sums.specs.Batch.{Slots, Sums};
-ghost use Rattle.ivector_stats.specs.Steps.{linear_term, linear_over, quadratic_over, stats_in};
+ghost use Rattle.ivector_stats.specs.Steps.{linear_term, linear_over, quadratic_over};
+ghost use Rattle.ivector_stats.specs.Rooms.{stats_of, stats_lent, StatsFit, SameStats};
 
 use basics::add_scaled;
-use definition::IvectorOptions;
+use batch_sums::RunningSums;
+use definition::IvectorInfo;
 use packed_matrix::{Symmetric, weighted_rows};
 
-// v added to the diagonal of a packed matrix, s wide.
-#[tactic(auto, using(loops::proofs::Loop::loops))]
+/// The statistics of a speaker: how many frames went in, and their two terms.
+#[derive(Drop)]
+pub struct Statistics<'a> {
+    pub num_frames: f64,
+    pub linear: &'a mut [f64],
+    pub quadratic: &'a mut [f64],
+}
+
+/// The same, to be read.
+#[derive(Clone, Copy)]
+pub struct LentStatistics<'a> {
+    pub num_frames: f64,
+    pub linear: &'a [f64],
+    pub quadratic: &'a [f64],
+}
+
+impl Statistics<'_> {
+    /// The statistics, to be read.
+    pub fn lent(&self) -> LentStatistics<'_>
+        ensures num_frames { result.num_frames ≡ self.now.num_frames }
+        ensures linear { result.linear.now ≡ self.now.linear.now }
+        ensures quadratic { result.quadratic.now ≡ self.now.quadratic.now }
+    {
+        LentStatistics {
+            num_frames: self.num_frames,
+            linear: self.linear,
+            quadratic: self.quadratic,
+        }
+    }
+}
+
+/// A batch's running sums, to be read: how many Gaussians were seen, and the slots.
+#[derive(Clone, Copy)]
+pub struct LentSums<'a> {
+    pub count: usize,
+    pub seen: &'a [usize],
+    pub tot: &'a [f64],
+    pub sum: &'a [f64],
+}
+
+impl<'a> LentSums<'a> {
+    /// Those of these rooms.
+    pub fn of(sums: &'a RunningSums<'_>) -> LentSums<'a>
+        ensures count { result.count ≡ sums.now.count }
+        ensures seen { result.seen.now ≡ sums.now.seen.now }
+        ensures tot { result.tot.now ≡ sums.now.tot.now }
+        ensures sum { result.sum.now ≡ sums.now.sum.now }
+    {
+        LentSums {
+            count: sums.count,
+            seen: sums.seen,
+            tot: sums.tot,
+            sum: sums.sum,
+        }
+    }
+}
+
+// v added to the diagonal of a packed matrix, s wide. By index: the places of the diagonal are reckoned.
+#[tactic(auto, using(loops::proofs::Loop::loops), unfolding(definition::specs::Statistics::add_diagonal))]
 fn add_diagonal(s: usize, v: f64, quadratic: &mut [f64])
     requires { (s ≤ 128) × (length quadratic.old ≡ triangle s) }
     ensures { quadratic.new ≡ add_diagonal s v quadratic.old }
@@ -28,7 +88,8 @@ fn add_diagonal(s: usize, v: f64, quadratic: &mut [f64])
     }
 }
 
-// The statistics before any frame: those of the prior. Their frame count is 0.
+// The statistics before any frame: those of the prior. Their frame count is 0. Two slices and their
+// width: before this there are no statistics, and a struct made for the call would be no plainer.
 pub fn new(dim: usize, prior_offset: f64, linear: &mut [f64], quadratic: &mut [f64])
     requires { (0 < dim) × (dim ≤ 128) × (length linear.old ≡ dim) × (length quadratic.old ≡ triangle dim) }
     ensures { (linear.new ≡ (new_stats dim prior_offset).linear) × (quadratic.new ≡ (new_stats dim prior_offset).quadratic) }
@@ -39,7 +100,7 @@ pub fn new(dim: usize, prior_offset: f64, linear: &mut [f64], quadratic: &mut [f
     add_diagonal(dim, 1.0, quadratic);
 }
 
-// The prior as a vector.
+// The prior as a vector. That it is dim long is a clause; without dim it would be no plainer, since the definition has it.
 pub fn prior_vector(dim: usize, prior_offset: f64, ivector: &mut [f64])
     requires { (0 < dim) × (length ivector.old ≡ dim) }
     ensures { ivector.new ≡ prior_vector dim prior_offset }
@@ -59,70 +120,70 @@ fn add(row: &[f64], out: &mut [f64])
     }
 }
 
-// What Gaussian g adds to the statistics by its weight w and its weighted features x. row is scratch.
+// What Gaussian g adds to the statistics by its weight w and its weighted features x. row is scratch. The Gaussian's parts of the tables are cut out: of
+// `chunks_exact(..).nth(g)` a part that is there would still be asked for, and it is no plainer.
 fn acc_gauss(
     g: usize,
     w: f64,
     x: &[f64],
     sigma_inv_m: &[f64],
     u: &[f64],
-    linear: &mut [f64],
-    quadratic: &mut [f64],
+    stats: &mut Statistics<'_>,
     row: &mut [f64],
 )
     requires rows_in { g * (length x.now * length row.old) + length x.now * length row.old ≤ length sigma_inv_m.now }
-    requires terms_in { g * length quadratic.old + length quadratic.old ≤ length u.now }
-    requires linear_long { length linear.old ≡ length row.old }
-    ensures linear { linear.new ≡ fill (length row.old) (λ c. at linear.old c +₆₄ linear_term (length x.now) (length row.old) sigma_inv_m.now g (at x.now) c) linear.old }
-    ensures quadratic { quadratic.new ≡ fill (length quadratic.old) (λ i. at quadratic.old i +₆₄ w *₆₄ at u.now (g * length quadratic.old + i)) quadratic.old }
+    requires terms_in { g * length stats.old.quadratic.now + length stats.old.quadratic.now ≤ length u.now }
+    requires linear_long { length stats.old.linear.now ≡ length row.old }
+    ensures linear { stats.new.linear.now ≡ fill (length row.old) (λ c. at stats.old.linear.now c +₆₄ linear_term (length x.now) (length row.old) sigma_inv_m.now g (at x.now) c) stats.old.linear.now }
+    ensures quadratic { stats.new.quadratic.now ≡ fill (length stats.old.quadratic.now) (λ i. at stats.old.quadratic.now i +₆₄ w *₆₄ at u.now (g * length stats.old.quadratic.now + i)) stats.old.quadratic.now }
+    ensures num_frames { stats.new.num_frames ≡ stats.old.num_frames }
+    ensures loans { SameStats stats.old stats.new }
 {
     let s = row.len();
     let size = x.len() * s;
     let start = g * size;
     let end = start + size;
     weighted_rows(&sigma_inv_m[start..end], s, x, row);
-    add(row, linear);
-    let from = g * quadratic.len();
-    let to = from + quadratic.len();
-    add_scaled(w, &u[from..to], quadratic);
+    add(row, stats.linear);
+    let n = stats.quadratic.len();
+    let from = g * n;
+    let to = from + n;
+    add_scaled(w, &u[from..to], stats.quadratic);
 }
 
-// What the m Gaussians seen add to the statistics, in the order first seen; the answer is their weight.
+// What the Gaussians seen add to the statistics' terms, in the order first seen; the answer is their weight. row is scratch. A slot's d features are a part of
+// the sums, by index: a slot stands in three lists.
 fn acc_batch(
     d: usize,
     sigma_inv_m: &[f64],
     u: &[f64],
     num_gauss: usize,
-    m: usize,
-    seen: &[usize],
-    tot: &[f64],
-    sum: &[f64],
-    linear: &mut [f64],
-    quadratic: &mut [f64],
+    sums: LentSums<'_>,
+    stats: &mut Statistics<'_>,
     row: &mut [f64],
 ) -> f64
     requires rows_in { num_gauss * (d * length row.old) ≤ length sigma_inv_m.now }
-    requires terms_in { num_gauss * length quadratic.old ≤ length u.now }
-    requires linear_long { length linear.old ≡ length row.old }
-    requires slots { Slots num_gauss d m seen.now tot.now sum.now }
-    ensures linear { linear.new ≡ linear_over d (length row.old) sigma_inv_m.now seen.now sum.now linear.old m }
-    ensures quadratic { quadratic.new ≡ quadratic_over (length quadratic.old) u.now seen.now tot.now quadratic.old m }
-    ensures weight { result ≡ sum₆₄ zero₆₄ m (at tot.now) }
+    requires terms_in { num_gauss * length stats.old.quadratic.now ≤ length u.now }
+    requires linear_long { length stats.old.linear.now ≡ length row.old }
+    requires slots { Slots num_gauss d sums.count sums.seen.now sums.tot.now sums.sum.now }
+    ensures linear { stats.new.linear.now ≡ linear_over d (length row.old) sigma_inv_m.now sums.entry.seen.now sums.entry.sum.now stats.old.linear.now sums.entry.count }
+    ensures quadratic { stats.new.quadratic.now ≡ quadratic_over (length stats.old.quadratic.now) u.now sums.entry.seen.now sums.entry.tot.now stats.old.quadratic.now sums.entry.count }
+    ensures weight { result ≡ sum₆₄ zero₆₄ sums.entry.count (at sums.entry.tot.now) }
+    ensures num_frames { stats.new.num_frames ≡ stats.old.num_frames }
+    ensures loans { SameStats stats.old stats.new }
 {
     let mut tot_weight = 0.0;
-    // By index: a slot stands in three lists.
-    for k in 0..m {
-        let w = tot[k];
+    for k in 0..sums.count {
+        let w = sums.tot[k];
         let start = k * d;
         let end = start + d;
         acc_gauss(
-            seen[k],
+            sums.seen[k],
             w,
-            &sum[start..end],
+            &sums.sum[start..end],
             sigma_inv_m,
             u,
-            linear,
-            quadratic,
+            stats,
             row,
         );
         tot_weight += w;
@@ -137,77 +198,69 @@ fn prior_scale(num_frames: f64, max_count: f64) -> f64
     floats::max(num_frames, max_count) / max_count
 }
 
-// The prior as the new frame count scales it; the answer is that count.
+// tot_weight more frames are counted, and the prior is scaled as the new count asks.
 fn rescale(
-    o: IvectorOptions,
     dim: usize,
     prior_offset: f64,
+    max_count: f64,
     tot_weight: f64,
-    num_frames: f64,
-    linear: &mut [f64],
-    quadratic: &mut [f64],
-) -> f64
-    requires { (0 < dim) × (dim ≤ 128) × (length linear.old ≡ dim) × (length quadratic.old ≡ triangle dim) }
-    ensures { stats_in result linear.new quadratic.new ≡ rescaled dim prior_offset o.max_count tot_weight (stats_in num_frames linear.old quadratic.old) }
+    stats: &mut Statistics<'_>,
+)
+    requires dim { (0 < dim) × (dim ≤ 128) }
+    requires stats { StatsFit dim stats.old }
+    ensures rescaled { stats_of stats.new ≡ rescaled dim prior_offset max_count tot_weight (stats_of stats.old) }
+    ensures loans { SameStats stats.old stats.new }
 {
-    let new = num_frames + tot_weight;
-    if o.max_count > 0.0 {
-        let old_scale = prior_scale(num_frames, o.max_count);
-        let new_scale = prior_scale(new, o.max_count);
+    let old = stats.num_frames;
+    let new = old + tot_weight;
+    stats.num_frames = new;
+    if max_count > 0.0 {
+        let old_scale = prior_scale(old, max_count);
+        let new_scale = prior_scale(new, max_count);
         let change = new_scale - old_scale;
         if change != 0.0 {
-            linear[0] += prior_offset * change;
-            add_diagonal(dim, change, quadratic);
-            return new;
+            stats.linear[0] += prior_offset * change;
+            add_diagonal(dim, change, stats.quadratic);
         }
     }
-    new
 }
 
-// A batch's sums go into the statistics, per Gaussian over the batch. The answer is the frame count.
+// A batch's sums go into the statistics, per Gaussian over the batch.
 pub fn acc(
-    o: IvectorOptions,
-    d: usize,
-    dim: usize,
-    prior_offset: f64,
+    info: IvectorInfo,
     sigma_inv_m: &[f64],
     u: &[f64],
-    num_gauss: usize,
-    m: usize,
-    seen: &[usize],
-    tot: &[f64],
-    sum: &[f64],
-    num_frames: f64,
-    linear: &mut [f64],
-    quadratic: &mut [f64],
-) -> f64
-    requires { (0 < dim) × (dim ≤ 128) × (length linear.old ≡ dim) × (length quadratic.old ≡ triangle dim) × (num_gauss * (d * dim) ≤ length sigma_inv_m.now) × (num_gauss * triangle dim ≤ length u.now) × Slots num_gauss d m seen.now tot.now sum.now }
-    ensures { (es : List Entry) → Sums d es m seen.now tot.now sum.now
-        → stats_in result linear.new quadratic.new ≡ acc_of d dim sigma_inv_m.now u.now prior_offset o.max_count es (stats_in num_frames linear.old quadratic.old) }
+    sums: LentSums<'_>,
+    stats: &mut Statistics<'_>,
+)
+    requires dim { (0 < info.dims.ivector_dim) × (info.dims.ivector_dim ≤ 128) }
+    requires stats { StatsFit info.dims.ivector_dim stats.old }
+    requires rows_in { info.dims.num_gauss * (info.dims.feat_dim * info.dims.ivector_dim) ≤ length sigma_inv_m.now }
+    requires terms_in { info.dims.num_gauss * triangle info.dims.ivector_dim ≤ length u.now }
+    requires slots { Slots info.dims.num_gauss info.dims.feat_dim sums.count sums.seen.now sums.tot.now sums.sum.now }
+    ensures added { (es : List Entry) → Sums info.dims.feat_dim es sums.entry.count sums.entry.seen.now sums.entry.tot.now sums.entry.sum.now
+        → stats_of stats.new ≡ acc_of info.dims.feat_dim info.dims.ivector_dim sigma_inv_m.now u.now info.prior_offset info.opts.max_count es (stats_of stats.old) }
+    ensures loans { SameStats stats.old stats.new }
 {
+    let dim = info.dims.ivector_dim;
+    // as long as the largest vector, with no heap
     let mut row = [0.0f64; 128];
     let tot_weight = acc_batch(
-        d,
+        info.dims.feat_dim,
         sigma_inv_m,
         u,
-        num_gauss,
-        m,
-        seen,
-        tot,
-        sum,
-        linear,
-        quadratic,
+        info.dims.num_gauss,
+        sums,
+        stats,
         &mut row[..dim],
     );
     rescale(
-        o,
         dim,
-        prior_offset,
+        info.prior_offset,
+        info.opts.max_count,
         tot_weight,
-        num_frames,
-        linear,
-        quadratic,
-    )
+        stats,
+    );
 }
 
 // Element 0 raised to the prior where it is 0.
@@ -222,26 +275,27 @@ fn raise(prior: f64, ivector: &mut [f64])
 
 // The i-vector, from the current one: the prior where the frame count is not above 0.
 pub fn get_ivector(
-    o: IvectorOptions,
-    dim: usize,
-    prior_offset: f64,
-    num_frames: f64,
-    linear: &[f64],
-    quadratic: &[f64],
+    info: IvectorInfo,
+    stats: LentStatistics<'_>,
     ivector: &mut [f64],
     scratch: &mut [f64],
 )
-    requires { (0 < dim) × (dim ≤ 128) × (length linear.now ≡ dim) × (length quadratic.now ≡ triangle dim) × (length ivector.old ≡ dim) × (dim * dim ≤ length scratch.old) }
-    ensures { ivector.new ≡ get_ivector dim prior_offset o.num_cg_iters (stats_in num_frames linear.now quadratic.now) ivector.old }
+    requires dim { (0 < info.dims.ivector_dim) × (info.dims.ivector_dim ≤ 128) }
+    requires linear { length stats.linear.now ≡ info.dims.ivector_dim }
+    requires quadratic { length stats.quadratic.now ≡ triangle info.dims.ivector_dim }
+    requires current { length ivector.old ≡ info.dims.ivector_dim }
+    requires scratch { info.dims.ivector_dim * info.dims.ivector_dim ≤ length scratch.old }
+    ensures { ivector.new ≡ get_ivector info.dims.ivector_dim info.prior_offset info.opts.num_cg_iters (stats_lent stats.entry) ivector.old }
 {
-    if num_frames > 0.0 {
-        raise(prior_offset, ivector);
+    let dim = info.dims.ivector_dim;
+    if stats.num_frames > 0.0 {
+        raise(info.prior_offset, ivector);
         let a = Symmetric {
-            cells: quadratic,
+            cells: stats.quadratic,
             n: dim,
         };
-        linear::linear_cgd(a, linear, ivector, o.num_cg_iters, scratch);
+        linear::linear_cgd(a, stats.linear, ivector, info.opts.num_cg_iters, scratch);
         return;
     }
-    prior_vector(dim, prior_offset, ivector);
+    prior_vector(dim, info.prior_offset, ivector);
 }

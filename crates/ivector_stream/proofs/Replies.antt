@@ -1,52 +1,28 @@
 -- What a call returns and leaves: its two ways out, refused and taken, as the one equation of its contract.
-use mathlib.Core.Path.{◌≡◌, refl, sym, ap, ◌∙◌}
+use Rattle.std.specs.Prelude.{Ok, Err}
+use mathlib.Core.Path.{◌≡◌, sym, ap, ◌∙◌}
 use mathlib.Core.Bool.{true}
 use mathlib.Core.List.{List}
 use Prim.Native.Nat.{ℕ, ◌+◌}
 use native.Mathlib.Omega.{arith}
 use lib.ListN.{length, get_or}
 use lib.Ieee.{Float}
-use borrow.Author.Tests.{eq-eqb, ne_eqb}
 use Rattle.loops.specs.Lists.{build}
 use Rattle.loops.specs.Refusal.{taken}
 use Rattle.loops.proofs.Build.{length_build}
-use Rattle.loops.proofs.Choose.{choose_true, choose_false}
 use Rattle.loops.proofs.Refusal.{taken_new, taken_old}
 use Rattle.floats.specs.Operators.{at}
 use Rattle.definition.specs.declared.IvectorInfo.{IvectorInfo}
 use Rattle.definition.specs.declared.IvectorStream.{IvectorStream}
 use Rattle.definition.specs.declared.RoomLengths.{RoomLengths}
 use Rattle.definition.specs.declared.TableLengths.{TableLengths}
-use Rattle.definition.specs.declared.StreamAnswer.{StreamAnswer}
 use Rattle.definition.specs.declared.StreamCall.{StreamCall}
-use Rattle.definition.specs.declared.NewStream.TheVariants as N
 use Rattle.definition.specs.Changes.{Change, Changes, changed}
-use Rattle.definition.specs.Machine.{frames_held, rows_held}
 use Rattle.definition.specs.Stream.{new_refusal}
 use Rattle.program.specs.Rooms.{Rings, rings_from, EstimateRooms, estimate_from, rooms_from, waiting_in, changes_in}
-use Rattle.program.specs.Calls.{fresh_stream, new_answer, answer_of, call_of, with_changes, RingStep, ring_call, done_on}
+use Rattle.program.specs.Calls.{fresh_stream, new_answer, call_of, with_changes, RingStep, ring_call, done_on}
 use Rattle.program.proofs.WaitingRooms.{length_waiting}
 use Rattle.program.proofs.InOrder.{length_inserts}
-
--- ---- an answer
-
-abbrev answer : ℕ → ℕ → ℕ → ℕ → ℕ → StreamAnswer
-answer r f w n m = record { refusal = r; frames_held = f; rows_held = w; not_finite = n; nan_likelihoods = m }
-
-abbrev call : StreamAnswer → IvectorStream → StreamCall
-call a s = record { answer = a; stream = s }
-
-module _ (r n m : ℕ) (s : IvectorStream) where
-  pub reply_10 : r ≡ 10 → call (answer r 0 0 0 0) s ≡ call_of r s n m
-  unfolding answer_of
-  reply_10 e = ap (λ (a : StreamAnswer). call a s) (choose_true _ (eq-eqb r 10 e) refl)
-
-  pub reply_held : {f w : ℕ} → (r ≡ 10 → ⊥) → f ≡ frames_held s.accepted s.mark → w ≡ rows_held s.longest s.accepted s.mark
-      → call (answer r f w n m) s ≡ call_of r s n m
-  unfolding answer_of
-  reply_held {f} {w} h p q =
-      ap (λ (a : StreamAnswer). call a s)
-      (ap (λ (k : ℕ). answer r k w n m) p ∙ ap (λ (k : ℕ). answer r (frames_held s.accepted s.mark) k n m) q ∙ choose_false _ (ne_eqb r 10 h) refl)
 
 -- ---- a call on record s and rings z that does x: n is its refusal number, c what is returned
 
@@ -117,10 +93,10 @@ module _ {A : Type 0} (n : ℕ) (new old : A) where
   written e h = h ∙ sym (taken_new n new old (sym e))
 
 module _ (i : IvectorInfo) (t : TableLengths) (z : RoomLengths) where
-  pub new_refused : {r : ℕ} → r ≡ new_refusal i t z → (r ≡ 0 → ⊥) → N.Refused r ≡ new_answer i t z
+  pub new_refused : {r : ℕ} → r ≡ new_refusal i t z → (r ≡ 0 → ⊥) → Err r ≡ new_answer i t z
   unfolding new_answer
-  new_refused e h = ap N.Refused e ∙ untouched (new_refusal i t z) _ _ e h
+  new_refused e h = ap Err e ∙ untouched (new_refusal i t z) _ _ e h
 
-  pub new_done : {c : StreamCall} → 0 ≡ new_refusal i t z → c ≡ call_of 0 (fresh_stream i z) 0 0 → N.Stream c ≡ new_answer i t z
+  pub new_done : {c : StreamCall} → 0 ≡ new_refusal i t z → c ≡ call_of 0 (fresh_stream i z) 0 0 → Ok c ≡ new_answer i t z
   unfolding new_answer
-  new_done e g = written (new_refusal i t z) _ _ e (ap N.Stream g)
+  new_done e g = written (new_refusal i t z) _ _ e (ap Ok g)

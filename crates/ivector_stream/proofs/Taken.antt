@@ -5,7 +5,6 @@ use mathlib.Core.List.{List, foldl}
 use Prim.Native.Nat.{ℕ, ◌+◌, ◌-◌, ◌≤◌, ◌<◌, min, max}
 use native.Mathlib.Omega.{arith}
 use lib.ListN.{length, get_or, take}
-use lib.Seq.{length-take-le, get_or-take}
 use lib.Ieee.{Float}
 use Rattle.loops.specs.Lists.{build}
 use Rattle.loops.specs.Ring.{put, place}
@@ -34,15 +33,9 @@ module _ (s : IvectorStream) (z : Rings) (x : List Float) {n : ℕ} (e : n ≡ (
       let rows_are = r ∙ ap (λ (k : ℕ). put (place (length z.rows) k (s.accepted + 1)) (build k (λ d. ring_at k z.rows s.accepted d +₆₄ at x d)) z.rows) wide in
       done s z (push_frame s z x) e h g (rings_are frames_are rows_are refl refl)
 
--- ---- the lowest of a number and of n frames in order
-
-module _ (low : ℕ) (fs : List ℕ) (n : ℕ) where
-  pub lowest_none : n ≡ 0 → low ≡ foldl min low (take n fs)
-  lowest_none e = rw e
-
-  pub lowest_first : {r : ℕ} → 0 < n → n ≤ length fs → rising 0 (take n fs) ≡ true → r ≡ min low (get_or fs 0 0) → r ≡ foldl min low (take n fs)
-  lowest_first p l o e =
-      e ∙ ap (min low) (sym (get_or-take n fs 0 0 p)) ∙ sym (min-first low 0 (take n fs) (omega (arith, length-take-le n fs l)) o)
+-- the lowest of a number and of frames in order
+pub lowest_first : (low : ℕ) (fs : List ℕ) {r : ℕ} → 0 < length fs → rising 0 fs ≡ true → r ≡ min low (get_or fs 0 0) → r ≡ foldl min low fs
+lowest_first low fs p o e = e ∙ sym (min-first low 0 fs p o)
 
 -- the new mark, as code comes to it, and that it is no later than the statistics
 module _ (s : IvectorStream) (fs : List ℕ) (f : ℕ) {reached first kept mark : ℕ} (a : reached ≡ min f s.num_frames_stats) (b : first ≡ foldl min reached (take s.waiting fs))

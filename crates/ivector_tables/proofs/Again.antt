@@ -1,65 +1,16 @@
 -- The extractor's blocks, read again.
-use Rattle.std.proofs.Common.{◌≡◌, ℕ, ◌+◌, ◌-◌, ◌*◌, ◌<◌, false, List, [], length, get_or, drop, sym, ap, ◌∙◌, subst, arith, eqb-true}
-use lib.Ieee.{Float, Format, binary64}
+use Rattle.std.proofs.Common.{◌≡◌, ℕ, ◌+◌, ◌-◌, ◌<◌, false, List, [], length, get_or, drop, sym, ap, ◌∙◌, arith, eqb-true}
+use lib.Ieee.{Float, binary64}
 use Rattle.loops.specs.Lists.{flat, over}
 use Rattle.loops.proofs.Tests.{each_at}
 use Rattle.definition.specs.Options.{max_feat, max_ivector}
-use Rattle.definition.specs.Reader.{read, refused, numbers, times, Parser}
-use Rattle.definition.specs.Kaldi.{Matrix, Packed, matrix, packed_matrix, matrix_at, triangle}
-use Rattle.definition.specs.Model.{quadratic_term}
-use Rattle.kaldi_io.specs.Answers.{place_of, Ready, MatrixIn, PackedIn}
-use Rattle.kaldi_io.proofs.Chain.{not-read, same-value}
+use Rattle.definition.specs.Reader.{read, times, Parser}
+use Rattle.definition.specs.Kaldi.{Matrix, Packed, Extractor, matrix, packed_matrix, matrix_at}
+use Rattle.kaldi_io.specs.Answers.{place_of}
 use Rattle.kaldi_files.specs.Answers.{means, inverses, items, sized_as, square_as, ExtractorIn}
 use Rattle.kaldi_files.proofs.Runs.{item_there, rest_there, times_length}
 use Rattle.kaldi_files.proofs.ExtractorParts.{sized_is}
-use Rattle.ivector_tables.specs.Steps.{matrix_nums, packed_nums, MAt, SigmaAt, m_at, sigma_inv_m_at, sigma_inv_ms, quadratic_terms}
-
--- ---- an M
-
-module _ {d n : ℕ} {s : List ℕ} {p : ℕ} (o : MAt d n s p) where
-  pub m_there : {r : ℕ} → matrix binary64 false max_feat max_ivector s p ≡ refused r → ⊥
-  m_there e = not-read (sym e ∙ o.stands)
-
-  module _ (rows cols : ℕ) (w : Format) (from next : ℕ) (e : matrix binary64 false max_feat max_ivector s p ≡ read (record { rows = rows; cols = cols; nums = numbers binary64 w (rows * cols) (drop from s) }) next) where
-    m_block : record { rows = rows; cols = cols; nums = numbers binary64 w (rows * cols) (drop from s) } ≡ o.block
-    m_block = same-value (sym e ∙ o.stands)
-
-    m_rows : rows ≡ d
-    m_rows = ap (λ (m : Matrix). m.rows) m_block ∙ o.rows_are
-
-    m_cols : cols ≡ n
-    m_cols = ap (λ (m : Matrix). m.cols) m_block ∙ o.cols_are
-
-    m_size : rows * cols ≡ d * n
-    m_size = rw (m_rows, m_cols)
-
-    pub m_ready : MatrixIn binary64 w max_feat max_ivector s rows cols from → Ready binary64 w (d * n) s from
-    m_ready b = subst (λ (k : ℕ). Ready binary64 w k s from) m_size b.ready
-
-    pub m_nums : numbers binary64 w (d * n) (drop from s) ≡ matrix_nums (matrix binary64 false max_feat max_ivector s p)
-    m_nums = ap (λ (k : ℕ). numbers binary64 w k (drop from s)) (sym m_size) ∙ sym (ap matrix_nums e)
-
-    pub m_after : next ≡ place_of (matrix binary64 false max_feat max_ivector s p)
-    m_after = sym (ap place_of e)
-
--- ---- a Σ⁻¹
-
-module _ {d : ℕ} {s : List ℕ} {q : ℕ} (o : SigmaAt d s q) where
-  pub sigma_there : {r : ℕ} → packed_matrix s q ≡ refused r → ⊥
-  sigma_there e = not-read (sym e ∙ o.stands)
-
-  module _ (dim : ℕ) (w : Format) (from next : ℕ) (e : packed_matrix s q ≡ read (record { rows = dim; nums = numbers binary64 w (triangle dim) (drop from s) }) next) where
-    sigma_size : triangle dim ≡ triangle d
-    sigma_size = ap triangle (ap (λ (v : Packed). v.rows) (same-value (sym e ∙ o.stands)) ∙ o.size_is)
-
-    pub sigma_ready : PackedIn w s dim from → Ready binary64 w (triangle d) s from
-    sigma_ready b = subst (λ (k : ℕ). Ready binary64 w k s from) sigma_size b.ready
-
-    pub sigma_nums : numbers binary64 w (triangle d) (drop from s) ≡ packed_nums (packed_matrix s q)
-    sigma_nums = ap (λ (k : ℕ). numbers binary64 w k (drop from s)) (sym sigma_size) ∙ sym (ap packed_nums e)
-
-    pub sigma_after : next ≡ place_of (packed_matrix s q)
-    sigma_after = sym (ap place_of e)
+use Rattle.ivector_tables.specs.Steps.{matrix_nums, packed_nums, MAt, SigmaAt, sigma_inv_m_at, quadratic_term_at, sigma_inv_ms, quadratic_terms}
 
 -- ---- both runs, one Gaussian after the other
 
@@ -103,7 +54,7 @@ module _ {s : List ℕ} {gauss d n m sigma : ℕ} (x : ExtractorIn s gauss d n m
             cols_are = h.1;
           }
 
-      pub m_is : matrix_nums (matrix binary64 false max_feat max_ivector s p) ≡ m_at s gauss m i
+      pub m_is : matrix_nums (matrix binary64 false max_feat max_ivector s p) ≡ (matrix_at (items (means s gauss m)) i).nums
       m_is = ap matrix_nums m_item
 
       pub m_next : {z : ℕ} → z ≡ place_of (matrix binary64 false max_feat max_ivector s p) → MFrom s gauss m (i + 1) z
@@ -131,11 +82,11 @@ module _ {s : List ℕ} {gauss d n m sigma : ℕ} (x : ExtractorIn s gauss d n m
 
 -- ---- the tables of all Gaussians
 
-module _ (s : List ℕ) (gauss d n m sigma : ℕ) (room : List Float) where
-  pub sims_whole : {y : List Float} → y ≡ over (flat gauss (sigma_inv_m_at s gauss d n m sigma)) room → y ≡ over (sigma_inv_ms s gauss d n m sigma) room
+module _ (x : Extractor) (room : List Float) {y : List Float} where
+  pub sigma_tables : y ≡ over (flat x.num_gauss (sigma_inv_m_at x)) room → y ≡ over (sigma_inv_ms x) room
   unfolding sigma_inv_ms
-  sims_whole e = e
+  sigma_tables e = e
 
-  pub quadratics_whole : {y : List Float} → y ≡ over (flat gauss (λ i. quadratic_term d n (m_at s gauss m i) (sigma_inv_m_at s gauss d n m sigma i))) room → y ≡ over (quadratic_terms s gauss d n m sigma) room
+  pub quadratic_tables : y ≡ over (flat x.num_gauss (quadratic_term_at x)) room → y ≡ over (quadratic_terms x) room
   unfolding quadratic_terms
-  quadratics_whole e = e
+  quadratic_tables e = e

@@ -1,7 +1,9 @@
--- The GMM's constants, and places of its numbers.
-use Rattle.std.proofs.Common.{◌≡◌, ℕ, ◌+◌, ◌*◌, ◌<◌, ◌≤◌, Bool, sym, ap, ◌∙◌, mul-le-mul, le-ltb, lt-ltb, if◌then◌else◌}
-use lib.Ieee.{Float, neg}
-use Rattle.floats.specs.Operators.{◌+₆₄◌, ◌-₆₄◌, ◌*₆₄◌, ◌/₆₄◌, f64, zero₃₂, half₆₄, as_f64, at, sum₆₄}
+-- The GMM's constants, and the offset of an LDA with no column for it.
+use Rattle.std.proofs.Common.{◌≡◌, ℕ, ◌+◌, ◌*◌, ◌≤◌, Bool, List, replicate, sym, ap, ◌∙◌, le-ltb, if◌then◌else◌}
+use lib.Ieee.{Float}
+use Rattle.loops.specs.Lists.{build}
+use Rattle.loops.proofs.Build.{build_ext, build_same}
+use Rattle.floats.specs.Operators.{◌+₆₄◌, ◌-₆₄◌, ◌*₆₄◌, ◌/₆₄◌, zero₃₂, half₆₄, at, sum₆₄}
 use Rattle.floats.specs.Narrow.{narrowed}
 use Rattle.floats.specs.Ln.{ln_of}
 use Rattle.definition.specs.Kaldi.{Matrix, Gmm}
@@ -17,24 +19,14 @@ pub term_is : {l a b m v : Float} → l ≡ ln_of b → a ≡ m → b ≡ v
     → half₆₄ *₆₄ l -₆₄ half₆₄ *₆₄ a *₆₄ a /₆₄ b ≡ half₆₄ *₆₄ ln_of v -₆₄ half₆₄ *₆₄ m *₆₄ m /₆₄ v
 term_is h e f = rw (h, e, f)
 
-pub offset_is : (d : ℕ) {x y : Float} → x ≡ ln_of (f64 0x4019_21fb_5444_2d18) → y ≡ as_f64 d → neg half₆₄ *₆₄ x *₆₄ y ≡ gconst_offset d
-offset_is d e f = rw (e, f)
-
 pub gconst_is : (x : Gmm) (g : ℕ) {w offset gc r : Float} → w ≡ ln_of (at x.weights g) → offset ≡ gconst_offset x.inv_vars.cols
     → gc ≡ sum₆₄ (w +₆₄ offset) x.inv_vars.cols (term x g) → r ≡ narrowed gc → r ≡ gconst x g
 unfolding gconst
 gconst_is x g {offset = o} e f h p = p ∙ ap narrowed (h ∙ ap (λ (s : Float). sum₆₄ s x.inv_vars.cols (term x g)) (ap (λ (s : Float). s +₆₄ o) e ∙ ap (λ (s : Float). ln_of (at x.weights g) +₆₄ s) f))
 
--- ---- few numbers
+-- ---- the offset where there is no column for it
 
-pub few : (a b : ℕ) → a ≤ 1024 → b ≤ 1089 → a * b ≤ 1115136
-few a b p q = mul-le-mul {n₂ = 1024} {m₂ = 1089} p q
-
--- ---- the offset's column
-
-module _ (n : ℕ) (x : Matrix) (r : ℕ) where
-  pub offset_there : n < x.cols → {v : Float} → v ≡ at x.nums (r * x.cols + n) → v ≡ lda_offset_of n x r
-  offset_there l e = e ∙ ap (λ (t : Bool). if t then at x.nums (r * x.cols + n) else zero₃₂) (sym (lt-ltb n x.cols l))
-
-  pub offset_none : x.cols ≤ n → zero₃₂ ≡ lda_offset_of n x r
-  offset_none l = ap (λ (t : Bool). if t then at x.nums (r * x.cols + n) else zero₃₂) (sym (le-ltb n x.cols l))
+pub no_offset : (n : ℕ) (x : Matrix) (k : ℕ) (y : List Float) → x.cols ≤ n → k ≡ x.rows → y ≡ replicate k zero₃₂ → y ≡ build x.rows (lda_offset_of n x)
+no_offset n x k y l e h =
+    h ∙ ap (λ (k : ℕ). replicate k zero₃₂) e ∙ sym (build_same x.rows zero₃₂)
+    ∙ build_ext x.rows _ _ (λ r p. ap (λ (t : Bool). if t then at x.nums (r * x.cols + n) else zero₃₂) (sym (le-ltb n x.cols l)))

@@ -1,10 +1,10 @@
 -- Rows of a table, each times its element of a column that was laid out, added up; and rows that make a table.
-use Rattle.std.proofs.Common.{◌≡◌, ℕ, ◌+◌, ◌-◌, ◌*◌, ◌/◌, List, ◌++◌, length, take, drop, sym, refl, ap, ◌∙◌, arith, take_at, drop_at}
+use Rattle.std.proofs.Common.{◌≡◌, ℕ, ◌+◌, ◌*◌, ◌/◌, List, ◌++◌, length, drop, sym, refl, ap, ◌∙◌}
 use lib.Ieee.{Float, nan, binary64}
 use Rattle.loops.specs.Lists.{build, flat, over}
 use Rattle.loops.proofs.Loop.{iter_ext}
 use Rattle.loops.proofs.Build.{at_build, build_ext}
-use Rattle.loops.proofs.Fill.{over_whole}
+use Rattle.loops.proofs.Fill.{over_whole, lent_over}
 use Rattle.loops.proofs.Flat.{length_cells}
 use Rattle.loops.proofs.Triangle.{length_triangle}
 use Rattle.basics.proofs.Rows.{times_comm}
@@ -49,20 +49,10 @@ module _ (d s : ℕ) (m sim : List Float) where
   unfolding quadratic_term
   quadratic_whole room l e = e ∙ over_whole _ _ (length_triangle (quadratic_row d s m sim) s ∙ sym l)
 
--- ---- two parts of a room, written one after the other
+-- ---- the front of a room, split off and written
 
-module _ {A : Type 0} (t n e : ℕ) (room xs ys : List A) (g : e ≡ t + n) (p : length xs ≡ t) (q : length ys ≡ e - t) where
-  abbrev pub twice : List A
-  twice = take t (xs ++ drop t room) ++ (ys ++ drop (e - t) (drop t (xs ++ drop t room)))
-
-  first_long : length (take t (xs ++ drop t room)) ≡ t
-  first_long = ap length (take_at xs (drop t room) t p) ∙ p
-
-  pub first_part : take t twice ≡ xs
-  first_part = take_at (take t (xs ++ drop t room)) _ t first_long ∙ take_at xs (drop t room) t p
-
-  pub second_part : take n (drop t twice) ≡ ys
-  second_part = ap (take n) (drop_at (take t (xs ++ drop t room)) _ t first_long) ∙ take_at ys _ n (omega arith)
+pub front_over : {A : Type 0} (n : ℕ) (room xs back : List A) {ys : List A} → length xs ≡ n → back ≡ drop n room → xs ≡ ys → xs ++ back ≡ over ys room
+front_over {A = A} n room xs back l e h = ap (λ (t : List A). xs ++ t) e ∙ lent_over n room xs l h
 
 -- ---- columns that become rows
 
@@ -70,10 +60,11 @@ pub transposed-whole : (kept : ℕ) (x : Matrix) (room : List Float) → over (f
 unfolding transposed
 transposed-whole kept x room = refl
 
--- ---- from numbers that are told
+-- ---- from lengths and numbers that are told
 
-pub sigma_by : (d n : ℕ) {a b m k y : List Float} → y ≡ sigma_inv_m d n a m → a ≡ b → m ≡ k → y ≡ sigma_inv_m d n b k
-sigma_by d n e p q = rw (← p, ← q) e
+pub sigma_by : {d e n w : ℕ} {a b m k y : List Float} → y ≡ sigma_inv_m e w a m → e ≡ d → w ≡ n → a ≡ b → m ≡ k → y ≡ sigma_inv_m d n b k
+sigma_by h p q r t = rw (← p, ← q, ← r, ← t) h
 
-pub quadratic_by : (d n : ℕ) {a b m k y : List Float} → y ≡ quadratic_term d n m (sigma_inv_m d n a m) → a ≡ b → m ≡ k → y ≡ quadratic_term d n k (sigma_inv_m d n b k)
-quadratic_by d n e p q = rw (← p, ← q) e
+pub quadratic_by : {d e n w : ℕ} {a b m k y : List Float} → y ≡ quadratic_term e w m (sigma_inv_m e w a m) → e ≡ d → w ≡ n → a ≡ b → m ≡ k
+    → y ≡ quadratic_term d n k (sigma_inv_m d n b k)
+quadratic_by h p q r t = rw (← p, ← q, ← r, ← t) h

@@ -1,26 +1,11 @@
--- What a fill reads again, once the bytes are checked, and what it makes of it.
-use Rattle.std.specs.Prelude.{◌≡◌, ℕ, ◌*◌, Bool, false, List, [], drop, slice_index_or, Float}
-use Rattle.std.specs.Float.{binary32, binary64}
+-- What a fill reads again, once the files are checked, and what it makes of it.
+use Rattle.std.specs.Prelude.{◌≡◌, ℕ, false, List, [], slice_index_or, Float}
+use Rattle.std.specs.Float.{binary64}
 use Rattle.loops.specs.Lists.{flat}
 use Rattle.definition.specs.Options.{max_feat, max_ivector}
-use Rattle.definition.specs.Reader.{Got, read, refused, numbers}
-use Rattle.definition.specs.Kaldi.{Matrix, Packed, Gmm, matrix, packed_matrix, matrix_at}
+use Rattle.definition.specs.Reader.{Got, read, refused}
+use Rattle.definition.specs.Kaldi.{Matrix, Packed, Extractor, matrix, packed_matrix, matrix_at}
 use Rattle.definition.specs.Model.{sigma_inv_m, quadratic_term}
-use Rattle.kaldi_io.specs.Answers.{width}
-use Rattle.kaldi_files.specs.Answers.{means, inverses, items}
-
--- ---- numbers that stand in the bytes s
-
-abbrev pub float_matrix : List ℕ → ℕ → ℕ → ℕ → Bool → Matrix
-float_matrix s rows cols from double = record { rows = rows; cols = cols; nums = numbers binary32 (width double) (rows * cols) (drop from s) }
-
-abbrev pub gmm_at : List ℕ → ℕ → ℕ → ℕ → Bool → ℕ → Bool → ℕ → Bool → Gmm
-gmm_at s gauss dim weights wd means md vars vd =
-    record {
-      weights = numbers binary32 (width wd) gauss (drop weights s);
-      means_invvars = float_matrix s gauss dim means md;
-      inv_vars = float_matrix s gauss dim vars vd;
-    }
 
 -- ---- blocks that stand in the bytes s
 
@@ -48,14 +33,17 @@ pub record SigmaAt (d : ℕ) (s : List ℕ) (q : ℕ) : Type 0 where
 
 -- ---- the tables of all Gaussians
 
-abbrev pub m_at : List ℕ → ℕ → ℕ → ℕ → List Float
-m_at s gauss m i = (matrix_at (items (means s gauss m)) i).nums
+abbrev pub m_at : Extractor → ℕ → List Float
+m_at x i = (matrix_at x.m i).nums
 
-abbrev pub sigma_inv_m_at : List ℕ → ℕ → ℕ → ℕ → ℕ → ℕ → ℕ → List Float
-sigma_inv_m_at s gauss d n m sigma i = sigma_inv_m d n (slice_index_or (items (inverses s gauss sigma)) i (record { rows = 0; nums = [] })).nums (m_at s gauss m i)
+abbrev pub sigma_inv_m_at : Extractor → ℕ → List Float
+sigma_inv_m_at x i = sigma_inv_m x.feat_dim x.ivector_dim (slice_index_or x.sigma_inv i (record { rows = 0; nums = [] })).nums (m_at x i)
 
-unfoldable pub sigma_inv_ms : List ℕ → ℕ → ℕ → ℕ → ℕ → ℕ → List Float
-sigma_inv_ms s gauss d n m sigma = flat gauss (sigma_inv_m_at s gauss d n m sigma)
+abbrev pub quadratic_term_at : Extractor → ℕ → List Float
+quadratic_term_at x i = quadratic_term x.feat_dim x.ivector_dim (m_at x i) (sigma_inv_m_at x i)
 
-unfoldable pub quadratic_terms : List ℕ → ℕ → ℕ → ℕ → ℕ → ℕ → List Float
-quadratic_terms s gauss d n m sigma = flat gauss (λ i. quadratic_term d n (m_at s gauss m i) (sigma_inv_m_at s gauss d n m sigma i))
+unfoldable pub sigma_inv_ms : Extractor → List Float
+sigma_inv_ms x = flat x.num_gauss (sigma_inv_m_at x)
+
+unfoldable pub quadratic_terms : Extractor → List Float
+quadratic_terms x = flat x.num_gauss (quadratic_term_at x)

@@ -1,20 +1,28 @@
 // A fetch's work on a batch of frames: the batch's sums go into the statistics, and the i-vector is solved for.
+//
+// Each of these functions that writes a struct of lent rooms says by the clause `loans` or `room_loans` that its slices stay the ones that were lent: a caller
+// knows it by that clause alone, and in the struct's type it would be no plainer, since a ghost field beside a `&mut` is not covered.
 #![tactic(auto)]
 
-ghost use Rattle.std.specs.Prelude.{◌≡◌, true, ℕ, ◌+◌, ◌≤◌, ◌<◌, length, get_or};
-ghost use Rattle.definition.specs.Model.{Tables, tables_from, table_lengths_of, tables_fit, Model, model, model_in};
+ghost use Rattle.std.specs.Prelude.{◌≡◌, true, ◌<◌, length};
+ghost use Rattle.definition.specs.Lent.{tables_in, SameEstimate};
+ghost use Rattle.definition.specs.Model.{table_lengths_of, table_sizes, tables_fit, kept_tables, Model, model_in};
 ghost use Rattle.definition.specs.Views.{Frames};
 ghost use Rattle.definition.specs.Changes.{Batch};
 ghost use Rattle.definition.specs.Estimate.{Estimate, nans_over, updated};
 ghost use Rattle.definition.specs.Stream.{record_sound, rooms_fit};
-ghost use Rattle.program.specs.Rooms.{rings_from, EstimateRooms, estimate_from, Rooms, rooms_from, room_lengths_of, ring_frames, waiting_in, estimate_at};
+ghost use Rattle.program.specs.Rooms.{EstimateRooms, estimate_from, rooms_from, room_lengths_of, ring_frames, estimate_at};
+ghost use Rattle.program.specs.Lent.{rings_in, estimate_of};
 ghost use Rattle.program.specs.Calls.{over_estimate};
-ghost use Rattle.frame_views.specs.Rows.{Lent};
-ghost use Rattle.ivector_stats.specs.Steps.{stats_in};
-ghost use Rattle.ivector_batch.specs.Steps.{batch_of, batch_length, Ready};
-ghost use Rattle.ivector_update.specs.Steps.{Solvable};
+ghost use Rattle.ivector_batch.specs.Steps.{batch_in, places_of, Held};
+ghost use Rattle.ivector_batch.specs.Fetched.{model_of, frames_of, whole_of};
+ghost use Rattle.ivector_update.specs.Steps.{Solvable, learnt, RoomsFit, SameRooms};
 
-use definition::IvectorInfo;
+use batch_sums::RunningSums;
+use definition::{IvectorInfo, LentEstimate, LentFrames, LentTables};
+use diag_gmm::LikeRooms;
+use ivector_batch::{FetchBatch, Intake};
+use ivector_stats::{LentStatistics, LentSums, Statistics};
 
 // What an update leaves: the statistics' frame count, and how many likelihoods of the frames that it brought in were NaN.
 #[derive(Clone, Copy)]
@@ -23,300 +31,132 @@ pub struct Update {
     pub nans: usize,
 }
 
-// What `update_stats_until` does with a batch of some places, in rooms that it is lent: a number for each Gaussian in each.
+// Rooms of a number for each Gaussian.
+#[derive(Drop)]
+pub struct GaussianRooms<'a> {
+    pub likes: &'a mut [f32],
+    pub squares: &'a mut [f32],
+    pub seen: &'a mut [usize],
+    pub tot: &'a mut [f64],
+}
+
+// What `update_stats_until` does with a batch of some places, in rooms that it is lent.
 fn update_batch(
-    info: IvectorInfo,
-    accepted: usize,
-    called: bool,
-    next: usize,
-    f: usize,
-    n: usize,
-    places: usize,
-    waiting_frames: &[usize],
-    waiting_weights: &[f32],
-    gconsts: &[f32],
-    means_invvars_t: &[f32],
-    inv_vars_t: &[f32],
-    sigma_inv_m: &[f64],
-    u: &[f64],
-    lda_t: &[f32],
-    lda_offset: &[f32],
-    global: &[f64],
-    frames: &[f32],
-    rows: &[f64],
-    cmvn: &mut [f64],
+    batch: &FetchBatch<'_>,
     num_frames: f64,
-    linear: &mut [f64],
-    quadratic: &mut [f64],
-    current: &mut [f64],
+    estimate: &mut LentEstimate<'_>,
     scratch: &mut [f64],
-    ll: &mut [f32],
-    lb: &mut [f32],
-    seen: &mut [usize],
-    tot: &mut [f64],
+    rooms: &mut GaussianRooms<'_>,
 ) -> Update
-    requires lent { Lent info.dims.base_dim accepted global.now frames.now rows.now cmvn.old }
-    requires fact { (
-        let t : Tables = tables_from gconsts.now means_invvars_t.now inv_vars_t.now sigma_inv_m.now u.now lda_t.now lda_offset.now global.now in
-        Ready info t × Solvable info t linear.old quadratic.old (length scratch.old)) }
-    requires next_le_f { (next ≤ f) × (f < accepted) × (n ≤ length waiting_frames.now) × (n ≤ length waiting_weights.now) × ((k : ℕ) → k < n → get_or waiting_frames.now k 0 < accepted)
-        × (length current.old ≡ info.dims.ivector_dim)
-        × (length (batch_of info.opts called next f (waiting_in n waiting_frames.now waiting_weights.now)) ≤ 1000000000) }
-    requires places_value { (places ≡ batch_length called next f n) × (0 < places)
-        × (length ll.old ≡ info.dims.num_gauss) × (length lb.old ≡ info.dims.num_gauss)
-        × (length seen.old ≡ info.dims.num_gauss) × (length tot.old ≡ info.dims.num_gauss) }
-    ensures { (
-        let M : Model = model info (tables_from gconsts.now means_invvars_t.now inv_vars_t.now sigma_inv_m.now u.now lda_t.now lda_offset.now global.now) in
-        let F : Frames = ring_frames info.dims.base_dim accepted frames.now rows.now in
-        let bs : Batch = batch_of info.opts called next f (waiting_in n waiting_frames.now waiting_weights.now) in
-        let e₀ : Estimate = record { cmvn = cmvn.old; stats = stats_in num_frames linear.old quadratic.old; current = current.old } in
-        let e : Estimate = updated M F bs e₀ in
-        (cmvn.new ≡ e.cmvn) × (stats_in result.num_frames linear.new quadratic.new ≡ e.stats) × (current.new ≡ e.current)
-        × (result.nans ≡ nans_over M F bs cmvn.old)) }
+    requires some { 0 < places_of batch.now.intake }
+    requires solvable { Solvable batch.now (estimate_of estimate.old) (length scratch.old) }
+    requires rooms { RoomsFit batch.now.info.dims.num_gauss rooms.old }
+    ensures learnt { learnt result.num_frames (estimate_of estimate.new)
+        ≡ updated (model_of batch.now) (frames_of batch.now) (whole_of batch.now) (learnt num_frames (estimate_of estimate.old)) }
+    ensures nans { result.nans ≡ nans_over (model_of batch.now) (frames_of batch.now) (whole_of batch.now) estimate.old.cmvn_stats.now }
+    ensures loans { SameEstimate estimate.old estimate.new }
+    ensures room_loans { SameRooms rooms.old rooms.new }
 {
-    let o = info.opts;
-    let dims = info.dims;
-    let mut normalized = [0.0f32; 64];
-    let mut raw = [0.0f32; 64];
-    let d = dims.feat_dim;
-    let taken = ivector_batch::take_batch(
-        info,
-        accepted,
-        called,
-        next,
-        places,
-        waiting_frames,
-        waiting_weights,
-        gconsts,
-        means_invvars_t,
-        inv_vars_t,
-        lda_t,
-        lda_offset,
-        global,
-        frames,
-        rows,
-        cmvn,
-        &mut normalized[..d],
-        &mut raw[..d],
-        ll,
-        lb,
-        seen,
-        tot,
-        scratch,
-    );
-    let count = ivector_stats::acc(
-        o,
-        d,
-        dims.ivector_dim,
-        info.prior_offset,
-        sigma_inv_m,
-        u,
-        dims.num_gauss,
-        taken.seen,
-        seen,
-        tot,
-        scratch,
+    let mut likes = LikeRooms {
+        likes: rooms.likes,
+        squares: rooms.squares,
+    };
+    let mut sums = RunningSums {
+        count: 0,
+        seen: rooms.seen,
+        tot: rooms.tot,
+        sum: scratch,
+    };
+    let nans = batch.take_batch(estimate.cmvn_stats, &mut likes, &mut sums);
+    let mut stats = Statistics {
         num_frames,
-        linear,
-        quadratic,
+        linear: estimate.linear,
+        quadratic: estimate.quadratic,
+    };
+    let t = batch.tables;
+    ivector_stats::acc(
+        batch.info,
+        t.sigma_inv_m,
+        t.u,
+        LentSums::of(&sums),
+        &mut stats,
     );
-    ivector_stats::get_ivector(
-        o,
-        dims.ivector_dim,
-        info.prior_offset,
-        count,
-        linear,
-        quadratic,
-        current,
-        scratch,
-    );
+    let learnt = stats.lent();
+    ivector_stats::get_ivector(batch.info, learnt, estimate.current, scratch);
     Update {
-        num_frames: count,
-        nans: taken.nans,
+        num_frames: stats.num_frames,
+        nans,
     }
 }
 
-// `update_stats_until`: what a fetch of f brings in goes into the statistics (frames next .. f, or, once a change call was taken, those of
-// the first n waiting changes; where there are none, nothing is added), and the current vector is solved for. Scratch
-// is free. With few Gaussians, clearing rooms for as many as there can be would cost more than the work: they have rooms for 64.
+/// The batch goes into the statistics (where it is empty, nothing is added), and the current vector is solved for. Scratch is free.
+// Rooms for the Gaussians are arrays, as there is no heap, and are cut to their count. With few Gaussians, clearing rooms for
+// as many as there can be would cost more than the work: they have rooms for 64. The rooms of the estimate come one by one, as they are cut: a struct of parts
+// that are cut out of a struct's slices is not covered (tried).
 pub fn update_stats_until(
-    info: IvectorInfo,
-    accepted: usize,
-    called: bool,
-    next: usize,
-    f: usize,
-    n: usize,
-    waiting_frames: &[usize],
-    waiting_weights: &[f32],
-    gconsts: &[f32],
-    means_invvars_t: &[f32],
-    inv_vars_t: &[f32],
-    sigma_inv_m: &[f64],
-    u: &[f64],
-    lda_t: &[f32],
-    lda_offset: &[f32],
-    global: &[f64],
-    frames: &[f32],
-    rows: &[f64],
-    cmvn: &mut [f64],
+    batch: &FetchBatch<'_>,
     num_frames: f64,
+    cmvn_stats: &mut [f64],
     linear: &mut [f64],
     quadratic: &mut [f64],
     current: &mut [f64],
     scratch: &mut [f64],
 ) -> Update
-    requires lent { Lent info.dims.base_dim accepted global.now frames.now rows.now cmvn.old }
-    requires fact { (
-        let t : Tables = tables_from gconsts.now means_invvars_t.now inv_vars_t.now sigma_inv_m.now u.now lda_t.now lda_offset.now global.now in
-        Ready info t × Solvable info t linear.old quadratic.old (length scratch.old)) }
-    requires next_le_f { (next ≤ f) × (f < accepted) × (n ≤ length waiting_frames.now) × (n ≤ length waiting_weights.now) × ((k : ℕ) → k < n → get_or waiting_frames.now k 0 < accepted)
-        × (length current.old ≡ info.dims.ivector_dim)
-        × (length (batch_of info.opts called next f (waiting_in n waiting_frames.now waiting_weights.now)) ≤ 1000000000) }
-    ensures { (
-        let M : Model = model info (tables_from gconsts.now means_invvars_t.now inv_vars_t.now sigma_inv_m.now u.now lda_t.now lda_offset.now global.now) in
-        let F : Frames = ring_frames info.dims.base_dim accepted frames.now rows.now in
-        let bs : Batch = batch_of info.opts called next f (waiting_in n waiting_frames.now waiting_weights.now) in
-        let e₀ : Estimate = record { cmvn = cmvn.old; stats = stats_in num_frames linear.old quadratic.old; current = current.old } in
-        let e : Estimate = updated M F bs e₀ in
-        (cmvn.new ≡ e.cmvn) × (stats_in result.num_frames linear.new quadratic.new ≡ e.stats) × (current.new ≡ e.current)
-        × (result.nans ≡ nans_over M F bs cmvn.old)) }
+    requires { Solvable batch.now (estimate_from cmvn_stats.old linear.old quadratic.old current.old) (length scratch.old) }
+    ensures learnt { learnt result.num_frames (estimate_from cmvn_stats.new linear.new quadratic.new current.new)
+        ≡ updated (model_of batch.now) (frames_of batch.now) (whole_of batch.now) (learnt num_frames (estimate_from cmvn_stats.old linear.old quadratic.old current.old)) }
+    ensures nans { result.nans ≡ nans_over (model_of batch.now) (frames_of batch.now) (whole_of batch.now) cmvn_stats.old }
 {
-    let o = info.opts;
-    let dims = info.dims;
-    let places = ivector_batch::batch_length(called, next, f, n);
-    if places == 0 {
-        ivector_stats::get_ivector(
-            o,
-            dims.ivector_dim,
-            info.prior_offset,
+    let g = batch.info.dims.num_gauss;
+    if batch.intake.places() == 0 {
+        let stats = LentStatistics {
             num_frames,
             linear,
             quadratic,
-            current,
-            scratch,
-        );
+        };
+        ivector_stats::get_ivector(batch.info, stats, current, scratch);
         return Update {
             num_frames,
             nans: 0,
         };
     }
-    let g = dims.num_gauss;
-    if g <= 64 {
-        let mut ll = [0.0f32; 64];
-        let mut lb = [0.0f32; 64];
-        let mut seen = [0usize; 64];
-        let mut tot = [0.0f64; 64];
-        return update_batch(
-            info,
-            accepted,
-            called,
-            next,
-            f,
-            n,
-            places,
-            waiting_frames,
-            waiting_weights,
-            gconsts,
-            means_invvars_t,
-            inv_vars_t,
-            sigma_inv_m,
-            u,
-            lda_t,
-            lda_offset,
-            global,
-            frames,
-            rows,
-            cmvn,
-            num_frames,
-            linear,
-            quadratic,
-            current,
-            scratch,
-            &mut ll[..g],
-            &mut lb[..g],
-            &mut seen[..g],
-            &mut tot[..g],
-        );
-    }
-    let mut ll = [0.0f32; 1024];
-    let mut lb = [0.0f32; 1024];
-    let mut seen = [0usize; 1024];
-    let mut tot = [0.0f64; 1024];
-    update_batch(
-        info,
-        accepted,
-        called,
-        next,
-        f,
-        n,
-        places,
-        waiting_frames,
-        waiting_weights,
-        gconsts,
-        means_invvars_t,
-        inv_vars_t,
-        sigma_inv_m,
-        u,
-        lda_t,
-        lda_offset,
-        global,
-        frames,
-        rows,
-        cmvn,
-        num_frames,
+    let mut estimate = LentEstimate {
+        cmvn_stats,
         linear,
         quadratic,
         current,
-        scratch,
-        &mut ll[..g],
-        &mut lb[..g],
-        &mut seen[..g],
-        &mut tot[..g],
-    )
+    };
+    if g <= 64 {
+        let mut likes = [0.0f32; 64];
+        let mut squares = [0.0f32; 64];
+        let mut seen = [0usize; 64];
+        let mut tot = [0.0f64; 64];
+        let mut rooms = GaussianRooms {
+            likes: &mut likes[..g],
+            squares: &mut squares[..g],
+            seen: &mut seen[..g],
+            tot: &mut tot[..g],
+        };
+        return update_batch(batch, num_frames, &mut estimate, scratch, &mut rooms);
+    }
+    let mut likes = [0.0f32; 1024];
+    let mut squares = [0.0f32; 1024];
+    let mut seen = [0usize; 1024];
+    let mut tot = [0.0f64; 1024];
+    let mut rooms = GaussianRooms {
+        likes: &mut likes[..g],
+        squares: &mut squares[..g],
+        seen: &mut seen[..g],
+        tot: &mut tot[..g],
+    };
+    update_batch(batch, num_frames, &mut estimate, scratch, &mut rooms)
 }
 
-// The same in lent tables and rooms, of which it reads and writes what the record says that they keep.
-pub fn update_rooms(
-    info: IvectorInfo,
-    accepted: usize,
-    called: bool,
-    next: usize,
-    f: usize,
-    n: usize,
-    waiting_frames: &[usize],
-    waiting_weights: &[f32],
-    gconsts: &[f32],
-    means_invvars_t: &[f32],
-    inv_vars_t: &[f32],
-    sigma_inv_m: &[f64],
-    u: &[f64],
-    lda_t: &[f32],
-    lda_offset: &[f32],
-    global: &[f64],
-    frames: &[f32],
-    rows: &[f64],
-    cmvn: &mut [f64],
-    num_frames: f64,
-    linear: &mut [f64],
-    quadratic: &mut [f64],
-    current: &mut [f64],
-    scratch: &mut [f64],
-) -> Update
-    requires fact { (
-        let t : Tables = tables_from gconsts.now means_invvars_t.now inv_vars_t.now sigma_inv_m.now u.now lda_t.now lda_offset.now global.now in
-        let z : Rooms = rooms_from (rings_from frames.now rows.now waiting_frames.now waiting_weights.now) (estimate_from cmvn.old linear.old quadratic.old current.old) in
-        (record_sound info ≡ true) × (tables_fit info.opts info.dims (table_lengths_of t) ≡ true) × (rooms_fit info.dims (room_lengths_of z (length scratch.old)) ≡ true)) }
-    requires next_le_f { (next ≤ f) × (f < accepted) × (accepted ≤ 1000000000) × (n ≤ length waiting_frames.now) × (n ≤ length waiting_weights.now) × ((k : ℕ) → k < n → get_or waiting_frames.now k 0 < accepted)
-        × (length (batch_of info.opts called next f (waiting_in n waiting_frames.now waiting_weights.now)) ≤ 1000000000) }
-    ensures { (
-        let t : Tables = tables_from gconsts.now means_invvars_t.now inv_vars_t.now sigma_inv_m.now u.now lda_t.now lda_offset.now global.now in
-        let e₀ : EstimateRooms = estimate_from cmvn.old linear.old quadratic.old current.old in
-        let F : Frames = ring_frames info.dims.base_dim accepted frames.now rows.now in
-        let bs : Batch = batch_of info.opts called next f (waiting_in n waiting_frames.now waiting_weights.now) in
-        let e : Estimate = updated (model_in info t) F bs (estimate_at info.dims num_frames e₀) in
-        (result.num_frames ≡ e.stats.num_frames)
-        × (estimate_from cmvn.new linear.new quadratic.new current.new ≡ over_estimate e e₀)
-        × (result.nans ≡ nans_over (model_in info t) F bs (estimate_at info.dims num_frames e₀).cmvn)) }
+// Of the tables what the record says that they keep. C may lend longer ones: each is cut by hand, to a length of its own.
+fn kept<'a>(info: IvectorInfo, tables: LentTables<'a>) -> LentTables<'a>
+    requires sound { record_sound info ≡ true }
+    requires fit { tables_fit info.opts info.dims (table_lengths_of (tables_in tables)) ≡ true }
+    ensures { tables_in result ≡ kept_tables (table_sizes info.opts info.dims) (tables_in tables.entry) }
 {
     let o = info.opts;
     let d = info.dims;
@@ -324,33 +164,62 @@ pub fn update_rooms(
     let row = d.base_dim + 1;
     let cells = d.num_gauss * d.feat_dim;
     let sigma_cells = d.ext_gauss * d.feat_dim * s;
-    let packed = s * (s + 1) / 2;
-    let u_cells = d.ext_gauss * packed;
+    let u_cells = d.ext_gauss * (s * (s + 1) / 2);
     let lda_cells = d.base_dim * (o.left_context + 1 + o.right_context) * d.feat_dim;
-    update_stats_until(
+    LentTables {
+        gconsts: &tables.gconsts[..d.num_gauss],
+        means_invvars_t: &tables.means_invvars_t[..cells],
+        inv_vars_t: &tables.inv_vars_t[..cells],
+        sigma_inv_m: &tables.sigma_inv_m[..sigma_cells],
+        u: &tables.u[..u_cells],
+        lda_t: &tables.lda_t[..lda_cells],
+        lda_offset: &tables.lda_offset[..d.feat_dim],
+        global_mean_stats: &tables.global_mean_stats[..row],
+    }
+}
+
+// The same in lent tables and rooms, of which it reads and writes what the record says that they keep. C may lend longer ones: each is cut by hand, to a length
+// of its own.
+pub fn update_rooms(
+    info: IvectorInfo,
+    intake: Intake<'_>,
+    tables: LentTables<'_>,
+    held: LentFrames<'_>,
+    num_frames: f64,
+    estimate: &mut LentEstimate<'_>,
+    scratch: &mut [f64],
+) -> Update
+    requires sound { record_sound info ≡ true }
+    requires tables_fit { tables_fit info.opts info.dims (table_lengths_of (tables_in tables)) ≡ true }
+    requires rooms_fit { rooms_fit info.dims (room_lengths_of (rooms_from (rings_in held intake.waiting) (estimate_of estimate.old)) (length scratch.old)) ≡ true }
+    requires held { Held info.opts intake }
+    ensures learnt { (
+        let M : Model = model_in info (tables_in tables.entry) in
+        let z : EstimateRooms = estimate_of estimate.old in
+        let F : Frames = ring_frames info.dims.base_dim intake.entry.accepted held.entry.frames.now held.entry.rows.now in
+        let bs : Batch = batch_in info.opts intake.entry in
+        let e : Estimate = updated M F bs (estimate_at info.dims num_frames z) in
+        (result.num_frames ≡ e.stats.num_frames)
+        × (estimate_of estimate.new ≡ over_estimate e z)
+        × (result.nans ≡ nans_over M F bs (estimate_at info.dims num_frames z).cmvn)) }
+    ensures loans { SameEstimate estimate.old estimate.new }
+{
+    let s = info.dims.ivector_dim;
+    let row = info.dims.base_dim + 1;
+    let packed = s * (s + 1) / 2;
+    let batch = FetchBatch {
         info,
-        accepted,
-        called,
-        next,
-        f,
-        n,
-        waiting_frames,
-        waiting_weights,
-        &gconsts[..d.num_gauss],
-        &means_invvars_t[..cells],
-        &inv_vars_t[..cells],
-        &sigma_inv_m[..sigma_cells],
-        &u[..u_cells],
-        &lda_t[..lda_cells],
-        &lda_offset[..d.feat_dim],
-        &global[..row],
-        frames,
-        rows,
-        &mut cmvn[..row],
+        tables: kept(info, tables),
+        held,
+        intake,
+    };
+    update_stats_until(
+        &batch,
         num_frames,
-        &mut linear[..s],
-        &mut quadratic[..packed],
-        &mut current[..s],
+        &mut estimate.cmvn_stats[..row],
+        &mut estimate.linear[..s],
+        &mut estimate.quadratic[..packed],
+        &mut estimate.current[..s],
         scratch,
     )
 }

@@ -1,5 +1,4 @@
 -- The laws that the functions' proofs cite.
-pub mod GmmDims
 pub mod Runs
 pub mod ExtractorParts
 pub mod ExtractorRead

@@ -1,6 +1,6 @@
 -- What the checks of the files say: what the file holds, as the definition's parsers have it. Numbers stay in the file's bytes.
-use Rattle.std.specs.Prelude.{Bool, true, false, ◌&&◌, List, ℕ, eqb, length, Float}
-use Rattle.std.specs.Float.{binary32, binary64}
+use Rattle.std.specs.Prelude.{true, false, ◌&&◌, List, ℕ, eqb, length, Float}
+use Rattle.std.specs.Float.{binary32}
 use Rattle.definition.specs.Options.{max_gauss, max_feat}
 use Rattle.definition.specs.Reader.{Parser, ◌>>=◌, ◌>>◌, give, need, text}
 use Rattle.definition.specs.Kaldi as K

@@ -1,5 +1,8 @@
 //! The model's three binary files: each checked from its start to its last item, with nothing written. As `DiagGmm::parse`,
 //! `IvectorExtractor::parse` and the LDA's part of `IvectorInfo::open` in the Rust.
+//
+// Each of these checks says that the reader's bytes stay the same ones: a fact of its fields speaks of one state, and not of the one before, so no type is
+// plainer.
 
 ghost use Rattle.std.specs.Prelude.{◌≡◌, ◌≤◌, true, false, ◌&&◌, IfOk, List, ℕ};
 ghost use Rattle.std.specs.Float.{binary32, binary64};
@@ -137,6 +140,7 @@ fn check_matrices(
     ensures same_source { r.new.src ≡ r.old.src }
 {
     let mut alike = true;
+    // a range: the blocks are read off the reader, and there is no list of them; an iterator that reads would be no plainer
     for _ in 0..count {
         let m = r.matrix::<f64>(false, MAX_FEAT, MAX_IVECTOR)?;
         alike &= m.rows == rows;
@@ -151,6 +155,7 @@ fn check_packeds(r: &mut KaldiReader<'_>, count: usize, dim: usize) -> Result<bo
     ensures same_source { r.new.src ≡ r.old.src }
 {
     let mut alike = true;
+    // a range for the same reason: an iterator that reads would be no plainer
     for _ in 0..count {
         let m = r.packed()?;
         alike &= m.dim == dim;
@@ -191,7 +196,8 @@ fn read_offset(r: &mut KaldiReader<'_>) -> Result<f64, Refusal>
     Ok(offset)
 }
 
-// Whether all blocks have the lengths that they should have.
+// Whether all blocks have the lengths that they should have. The flags are what two runs answered, one for each, and the
+// definition's `alike` is one too: another form would have to be translated back in the clause, and is no plainer.
 #[tactic(auto, unfolding(loops::specs::Refusal::first_of))]
 fn need_alike(alike: bool, square: bool) -> Result<(), Refusal>
     ensures { (s : List ℕ) (at : ℕ) → got itself result at ≡ need (alike && square) 5 s at }
@@ -230,8 +236,8 @@ pub fn check_extractor<'a>(r: &mut KaldiReader<'a>) -> Result<Extractor<'a>, Ref
 #[tactic(auto, unfolding(definition::specs::Kaldi::lda))]
 pub fn check_lda<'a>(r: &mut KaldiReader<'a>) -> Result<Matrix<'a>, Refusal>
     ensures value { got (matrix_in binary32) result r.new.at ≡ lda r.old.src.now r.old.at }
-    ensures rows { IfOk result (λ m. m.rows ≤ max_feat) }
-    ensures cols { IfOk result (λ m. m.cols ≤ max_columns) }
+    ensures rows { IfOk result (λ m. (1 ≤ m.rows) × (m.rows ≤ max_feat)) }
+    ensures cols { IfOk result (λ m. (1 ≤ m.cols) × (m.cols ≤ max_columns)) }
     ensures same_source { r.new.src ≡ r.old.src }
 {
     r.binary()?;

@@ -1,6 +1,5 @@
 -- The laws that the functions' proofs cite.
 pub mod Chain
 pub mod Bytes
-pub mod Numbers
 pub mod Words
 pub mod Values

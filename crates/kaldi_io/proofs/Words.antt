@@ -1,5 +1,5 @@
 -- The next word, as code finds it: std's run of blanks, and its run of other bytes behind them.
-use Rattle.std.proofs.Common.{◌≡◌, ℕ, suc, ◌+◌, ◌-◌, ◌<◌, ◌≤◌, Bool, true, false, not, cond, List, [], ◌∷◌, length, take, drop, sym, ap, refl, ◌∙◌, arith, drop-drop, length-drop, le-ltb, lt-ltb, add_assoc}
+use Rattle.std.proofs.Common.{◌≡◌, ℕ, suc, ◌+◌, ◌<◌, ◌≤◌, Bool, true, false, not, cond, List, [], ◌∷◌, length, take, drop, ap, refl, ◌∙◌, arith, drop-drop, length-drop, le-ltb, lt-ltb}
 use Rattle.std.proofs.lemmas.List.{take_rest}
 use Rattle.std.specs.List.{prefix_len}
 use Rattle.definition.specs.Reader.{run, read, refused}

@@ -1,6 +1,6 @@
 use Rattle.std.specs.Prelude.{ℕ, List, Result, Ok, Err, Float}
 use Rattle.std.specs.Borrow.{Bor}
-use Rattle.std.specs.Float.{Format, binary32, binary64}
+use Rattle.std.specs.Float.{Format, binary64}
 use Rattle.definition.specs.Reader.{Got, read, refused, numbers}
 use Rattle.definition.specs.Kaldi as K
 use Rattle.definition.specs.Number.{number_of}

@@ -10,7 +10,7 @@ ghost use Rattle.definition.specs.Kaldi.{binary, blank, word, token, dim, block_
 ghost use Rattle.kaldi_io.specs.Widths.{format_of};
 ghost use Rattle.kaldi_io.specs.Got.{got, list_of, itself, numbers_in, matrix_in, packed_in};
 
-use crate::blocks::{Matrix, Numbers, Packed, is_kept};
+use crate::blocks::{Matrix, Numbers, Packed, are_kept, is_kept};
 use crate::widths::Width;
 use crate::{MAX_FEAT, MAX_SKIPPED};
 use definition::{Refusal, need};
@@ -41,7 +41,7 @@ fn letters_len(bytes: &[u8]) -> usize
     bytes.iter().take_while(|b| !is_blank(**b)).count()
 }
 
-// Four bytes, from low to high.
+// Four bytes, from low to high. As `&[u8; 4]` it would be no plainer: the reader cuts its bytes by a number.
 #[tactic(auto, unfolding(definition::specs::Reader::little_endian))]
 fn u32_of(bytes: &[u8]) -> u32
     requires { length bytes.now ≡ 4 }
@@ -83,6 +83,7 @@ pub struct KaldiReader<'a> {
     pub at: usize,
 }
 
+// Each method that moves says that the bytes stay the same ones: a fact of the fields speaks of one state, and not of the one before, so no type is plainer.
 impl<'a> KaldiReader<'a> {
     /// At the first byte.
     pub fn new(src: &'a [u8]) -> KaldiReader<'a>
@@ -128,10 +129,12 @@ impl<'a> KaldiReader<'a> {
     {
         let rest = self.rest();
         let from = blanks_len(rest);
+        // cut where the blanks were counted to: `split_at` gives them too, which nothing reads, so it is no plainer
         let rest = &rest[from..];
         let len = letters_len(rest);
         need(len < rest.len(), Refusal::CutShort)?;
         self.at += from + len + 1;
+        // cut where the letters were counted to: no plainer with `split_at`, likewise
         Ok(&rest[..len])
     }
 
@@ -199,6 +202,7 @@ impl<'a> KaldiReader<'a> {
     }
 
     /// `n` numbers, for a table of `K`: their whole extent, then each of them.
+    // `positive`, here and below, is the flag of the definition's `floats`: as a type it would make two methods of each, and no call is plainer.
     #[tactic(auto, unfolding(loops::specs::Refusal::first_of, definition::specs::Reader::floats))]
     fn numbers<K: Real>(
         &mut self,
@@ -215,16 +219,16 @@ impl<'a> KaldiReader<'a> {
         ensures same_source { self.new.src ≡ self.old.src }
     {
         let bytes = self.bytes(n * width.bytes())?;
-        let numbers = Numbers {
+        need(are_kept::<K>(bytes, width, n, positive), Refusal::BadNumber)?;
+        Ok(Numbers {
             bytes,
             width,
             count: n,
-        };
-        need(numbers.are_kept::<K>(positive), Refusal::BadNumber)?;
-        Ok(numbers)
+        })
     }
 
     /// A vector of at most `most` numbers, for a table of `K`.
+    // A flag for the reason above: no form with a type is plainer.
     #[tactic(auto, unfolding(loops::specs::Refusal::first_of, definition::specs::Kaldi::vector))]
     pub fn vector<K: Real>(&mut self, positive: bool, most: usize) -> Result<Numbers<'a>, Refusal>
     where
@@ -240,6 +244,7 @@ impl<'a> KaldiReader<'a> {
     }
 
     /// A matrix, row after row, for a table of `K`.
+    // A flag for the reason above: no form with a type is plainer.
     #[tactic(auto, unfolding(loops::specs::Refusal::first_of, definition::specs::Kaldi::matrix))]
     pub fn matrix<K: Real>(
         &mut self,

@@ -1,23 +1,21 @@
 -- The parts of a text number, and the whole.
 use Rattle.std.specs.Prelude.{if◌then◌else◌}
 use mathlib.Core.Path.{◌≡◌, sym, ap, ◌∙◌}
-use mathlib.Core.Bool.{Bool, true, false, ◌&&◌, ◌||◌}
-use mathlib.Core.List.{List, [], ◌∷◌, ◌++◌}
+use mathlib.Core.Bool.{Bool, true, false, ◌&&◌}
+use mathlib.Core.List.{List, [], ◌++◌}
 use mathlib.Core.Logic.{◌⊎◌, inl, inr, ⊎_elim}
-use Prim.Native.Nat.{ℕ, suc, ◌+◌, ◌-◌, ◌^◌, ◌≤◌, ◌<◌, min}
-use native.Mathlib.Nat.{zero-add, le_refl}
+use Prim.Native.Nat.{ℕ, ◌+◌, ◌^◌, ◌≤◌, ◌<◌, min}
+use native.Mathlib.Nat.{zero-add}
 use native.Mathlib.Decide.{dec_lt}
 use native.Mathlib.Omega.{arith}
 use borrow.Author.Tests.{le-leb, lt-leb, lt-ltb, le-ltb}
-use lib.Dec.{leb, ltb, eqb, lit≤}
-use lib.ListN.{length, take, drop, length-append, length-drop}
+use lib.Dec.{leb, ltb, lit≤}
+use lib.ListN.{length, length-append}
 use lib.Ieee.{Float, Format, binary32, binary64, prec}
 use Rattle.loops.proofs.Choose.{by-test}
-use Rattle.loops.proofs.Parts.{length_part}
 use Rattle.floats.specs.Decimal.{scaled, tens}
-use Rattle.definition.specs.Options.{within}
-use Rattle.definition.specs.Reader.{Got, Parser, after, run, here, refused, read}
-use Rattle.definition.specs.Text.{sign, digits, fraction, digits_value, Power, signed_digits, exponent, to_nearest, number}
+use Rattle.definition.specs.Reader.{Got, Parser, after, refused, read}
+use Rattle.definition.specs.Text.{sign, digits, fraction, digits_value, Power, exponent, to_nearest, number}
 use Rattle.kaldi_io.proofs.Chain.{not-read, same-value, same_place, same_refusal}
 use Rattle.kaldi_text.specs.Steps.{capped}
 use Rattle.kaldi_text.proofs.Decimals.{decimal_append, decimal_cap}

@@ -1,14 +1,14 @@
 -- The rows of the text.
 use Rattle.std.specs.Prelude.{if◌then◌else◌}
 use mathlib.Core.Path.{◌≡◌, refl, sym, ap, ◌∙◌}
-use mathlib.Core.Bool.{Bool, true, false, not, ◌&&◌, ◌||◌}
+use mathlib.Core.Bool.{true, false, ◌||◌}
 use mathlib.Core.List.{List, [], ◌∷◌}
 use Prim.Native.Nat.{ℕ, suc, ◌+◌, ◌-◌, ◌≤◌, ◌<◌}
 use native.Mathlib.Nat.{zero-add, add-zero}
 use native.Mathlib.Omega.{arith}
 use lib.ListN.{length, drop, get_or, length-drop}
 use lib.Seq.{get_or-drop, drop-drop}
-use lib.Ieee.{Float, binary64, nan, lt}
+use lib.Ieee.{Float, binary64, nan}
 use Rattle.loops.specs.Steps.{fill}
 use Rattle.loops.proofs.Choose.{by-test}
 use Rattle.loops.proofs.Fill.{fill_list}

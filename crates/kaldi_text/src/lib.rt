@@ -67,8 +67,11 @@ fn is_end(b: u8) -> bool
     is_space(b) || is_stop(b)
 }
 
+// ---- counts of bytes in front
+// Each of these says that its count is in the text, by which callers cut: a count of a type of its own would be no plainer.
+
 // How many bytes in front are digits.
-fn digits_len(s: &[u8]) -> usize
+pub fn digits_len(s: &[u8]) -> usize
     ensures value { result ≡ run (within 48 57) s.now }
     ensures in_bounds { result ≤ length s.now }
 {
@@ -90,6 +93,8 @@ fn gaps_len(s: &[u8]) -> usize
 {
     s.iter().take_while(|b| is_gap(**b)).count()
 }
+
+// ---- the value of digits
 
 // The whole number that digits stand for, after m: at most `cap`.
 pub fn value_of(digits: &[u8], m: u64, cap: u64) -> u64
@@ -135,6 +140,8 @@ pub struct Row {
     pub last: f64,
 }
 
+// Each method that moves says that the bytes stay the same ones: a fact of the fields speaks of one state, and not of the one before. That a text has at most
+// 65,536 bytes is asked where numbers are read: as a fact of the fields it would bind the readers of longer texts, so no form is plainer.
 impl<'a> TextReader<'a> {
     pub fn new(src: &'a [u8]) -> TextReader<'a>
         ensures bytes { result.src.now ≡ src.now }
@@ -219,6 +226,7 @@ impl<'a> TextReader<'a> {
         let rest = self.rest();
         let n = digits_len(rest);
         self.at += n;
+        // cut where the digits were counted to: `split_at` gives the rest too, which nothing reads, so it is no plainer
         &rest[..n]
     }
 
@@ -419,6 +427,7 @@ pub fn fill_row(s: &[u8], from: usize, out: &mut [f64])
 {
     let mut r = TextReader { src: s, at: from };
     r.skip_spaces();
+    // By index: a turn may end the fill, which leaves the places from i on as they were, so a loop over the places, that knows no i, is no plainer.
     for i in 0..out.len() {
         r.skip_gaps();
         match r.number() {

@@ -9,8 +9,8 @@ pub struct Decimal {
     pub m: u64,
     pub up: u64,
     pub down: u64,
-    ghost up_bound: { up ≤ 200000 },
-    ghost down_bound: { down ≤ 200000 },
+    pub ghost up_bound: { up ≤ 200000 },
+    pub ghost down_bound: { down ≤ 200000 },
 }
 
 /// Lent bytes, and how far they are read.
@@ -18,5 +18,5 @@ pub struct Decimal {
 pub struct TextReader<'a> {
     pub src: &'a [u8],
     pub at: usize,
-    ghost in_text: { at ≤ length src.now },
+    pub ghost in_text: { at ≤ length src.now },
 }

@@ -6,6 +6,14 @@ ghost use Rattle.loops.specs.Lists.{those};
 ghost use Rattle.floats.specs.Operators.{f32, at};
 ghost use Rattle.definition.specs.Posteriors.{ahead as is_ahead, insert as insert_of};
 ghost use Rattle.leading.specs.Steps.{held, Falling, Place, Moved, slid};
+ghost use Rattle.leading.specs.Rooms.{Places, SameChosen};
+
+/// The rooms of a selection: a place for each of its Gaussians, and one for the Gaussian's posterior.
+#[derive(Drop)]
+pub struct Chosen<'a> {
+    pub gauss: &'a mut [usize],
+    pub posts: &'a mut [f32],
+}
 
 // Whether the posterior p is ahead of q: larger; a NaN stands last.
 fn ahead(p: f32, q: f32) -> bool
@@ -14,7 +22,8 @@ fn ahead(p: f32, q: f32) -> bool
     !p.is_nan() && (q.is_nan() || p > q)
 }
 
-// x put down at `first`, what stood there at the next place, and so on up to n.
+// x put down at `first`, what stood there at the next place, and so on up to n. By index, and no plainer as a move of a part: where n is at most `first`
+// nothing moves. Here and in `leads` the room goes with n, since more of it is lent than is in use.
 fn slide<T: Copy>(x: T, first: usize, n: usize, room: &mut [T])
     requires { n ≤ length room.old }
     ensures { room.new ≡ slid first n x room.old }
@@ -27,7 +36,7 @@ fn slide<T: Copy>(x: T, first: usize, n: usize, room: &mut [T])
     }
 }
 
-// Whether p belongs in front of the first n.
+// Whether p belongs in front of the first n. With the part of n places it is no plainer: `insert` lends its room whole.
 fn leads(p: f32, n: usize, posts: &[f32]) -> bool
     requires { n ≤ length posts.now }
     ensures { result ≡ true → 0 < n → is_ahead (0, p) (0, at posts.now 0) ≡ true }
@@ -39,14 +48,14 @@ fn leads(p: f32, n: usize, posts: &[f32]) -> bool
 }
 
 // Whether p is ahead of the last of n, and so of one of them.
-fn enters(p: f32, n: usize, posts: &[f32]) -> bool
-    requires { (n ≤ length posts.now) × Falling n posts.now }
-    ensures { (result ≡ true → (0 < n) × (is_ahead (0, p) (0, at posts.now (n - 1)) ≡ true)) × (result ≡ false → (k : ℕ) → k < n → is_ahead (0, p) (0, at posts.now k) ≡ false) }
+fn enters(p: f32, n: usize, chosen: &Chosen<'_>) -> bool
+    requires { (n ≤ length chosen.now.posts.now) × Falling n chosen.now.posts.now }
+    ensures { (result ≡ true → (0 < n) × (is_ahead (0, p) (0, at chosen.now.posts.now (n - 1)) ≡ true)) × (result ≡ false → (k : ℕ) → k < n → is_ahead (0, p) (0, at chosen.now.posts.now k) ≡ false) }
 {
     if n == 0 {
         return false;
     }
-    ahead(p, posts[n - 1])
+    ahead(p, chosen.posts[n - 1])
 }
 
 // What stands in front of place j, put down at j too.
@@ -57,7 +66,8 @@ fn up<T: Copy>(j: usize, room: &mut [T])
     room[j] = room[j - 1];
 }
 
-// From place `last` on towards the front, those that p is ahead of moved up by one, four at a time: the one at the answer stands there twice.
+// From place `last` on towards the front, those that p is ahead of moved up by one, four at a time: the one at the answer stands there twice. The walk,
+// here and in `settle`, takes the two slices: after each write a struct's would be read again.
 fn fours(p: f32, last: usize, chosen: &mut [usize], posts: &mut [f32]) -> usize
     requires { (last < length chosen.old) × (last < length posts.old) }
     ensures { Moved p last result chosen.old posts.old chosen.new posts.new }
@@ -112,24 +122,23 @@ fn settle(g: usize, p: f32, last: usize, chosen: &mut [usize], posts: &mut [f32]
     j
 }
 
-// Put in among the first n; past num_gselect the last falls off.
-pub fn insert(
-    g: usize,
-    p: f32,
-    n: usize,
-    num_gselect: usize,
-    chosen: &mut [usize],
-    posts: &mut [f32],
-) -> usize
-    requires { (n ≤ num_gselect) × (num_gselect ≤ length chosen.old) × (num_gselect ≤ length posts.old) × Falling n posts.old }
-    ensures { (held result chosen.new posts.new ≡ take num_gselect (insert_of (g, p) (held n chosen.old posts.old))) × (result ≤ num_gselect) }
+// Put in among the first n; past num_gselect the last falls off. That the rooms have places, and are the same ones afterwards, are clauses by a word each: in
+// the struct's type they would be no plainer, since a ghost field beside a `&mut` is not covered. That at most num_gselect are held is one comparison of the
+// count: a name for it would be no shorter.
+pub fn insert(g: usize, p: f32, n: usize, num_gselect: usize, chosen: &mut Chosen<'_>) -> usize
+    requires few { n ≤ num_gselect }
+    requires places { Places num_gselect chosen.old }
+    requires in_order { Falling n chosen.old.posts.now }
+    ensures inserted { held result chosen.new.gauss.now chosen.new.posts.now ≡ take num_gselect (insert_of (g, p) (held n chosen.old.gauss.now chosen.old.posts.now)) }
+    ensures most { result ≤ num_gselect }
+    ensures loans { SameChosen chosen.old chosen.new }
 {
     if n < num_gselect {
-        settle(g, p, n, chosen, posts);
+        settle(g, p, n, chosen.gauss, chosen.posts);
         return n + 1;
     }
-    if enters(p, n, posts) {
-        settle(g, p, n - 1, chosen, posts);
+    if enters(p, n, chosen) {
+        settle(g, p, n - 1, chosen.gauss, chosen.posts);
         return n;
     }
     n

@@ -8,7 +8,7 @@ use native.Mathlib.Numerals.{add-one}
 use native.Mathlib.Omega.{arith}
 use lib.ListN.{length, get_or}
 use lib.Dec.{leb, ltb}
-use borrow.Author.Tests.{leb-true, le-leb, lt-leb, le-ltb, ltb-false}
+use borrow.Author.Tests.{leb-true, le-leb, le-ltb, ltb-false}
 use Rattle.std.specs.Ordering.{is_le, is_some_and, nat_cmp}
 use Rattle.std.specs.Prelude.{Some, None}
 use Rattle.std.specs.List.{IsAllAdjacentAnswer, slice_get}

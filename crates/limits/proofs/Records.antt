@@ -1,7 +1,7 @@
 -- A stream's rooms and its record: what a test of them tells, as code makes it, and what is known of a record that is not broken.
 use mathlib.Core.Path.{◌≡◌, refl, sym, ap, ◌∙◌}
 use mathlib.Core.Bool.{Bool, true, false, not, ◌||◌, or-false}
-use mathlib.Core.List.{List, [], ◌∷◌, zip_with}
+use mathlib.Core.List.{List, zip_with}
 use Prim.Native.Nat.{ℕ, ◌+◌, ◌-◌, ◌≤◌, ◌<◌, min}
 use native.Mathlib.Omega.{arith}
 use lib.ListN.{length, get_or, take, drop}
@@ -9,23 +9,19 @@ use lib.Seq.{take_all, take-length}
 use native.Mathlib.Nat.{min-eq_left, min-eq_right}
 use native.Mathlib.Decide.{dec_le}
 use lib.Dec.{leb, ltb, eqb}
-use borrow.Author.Tests.{eqb-false, eq-eqb, ne_eqb, ltb-false, lt-ltb, le-ltb, not-false, le-leb, lt-leb}
-use Rattle.loops.specs.Lists.{all_of, any_of}
+use borrow.Author.Tests.{eqb-false, ltb-false, not-false, le-leb, lt-leb}
+use Rattle.loops.specs.Lists.{any_of}
 use Rattle.loops.specs.Ring.{rows_in}
-use Rattle.loops.proofs.Choose.{and_first, or_first, or_second, or_none, or_skip, or_fails}
+use Rattle.loops.proofs.Choose.{or_fails}
 use Rattle.loops.proofs.Tests.{none_of, at_some, at_fail}
 use Rattle.definition.specs.declared.IvectorOptions.{IvectorOptions}
 use Rattle.definition.specs.declared.Dimensions.{Dimensions}
 use Rattle.definition.specs.declared.TableLengths.{TableLengths}
-use Rattle.definition.specs.declared.RingLengths.{RingLengths}
-use Rattle.definition.specs.declared.EstimateLengths.{EstimateLengths}
 use Rattle.definition.specs.declared.RoomLengths.{RoomLengths}
-use Rattle.definition.specs.declared.IvectorInfo.{IvectorInfo}
 use Rattle.definition.specs.declared.IvectorStream.{IvectorStream}
-use Rattle.definition.specs.Options.{options_in_range, dims_in_range, dims_agree}
 use Rattle.definition.specs.Machine.{frames_held, rows_held, waiting_room}
 use Rattle.definition.specs.Model.{table_sizes, table_lengths, tables_fit}
-use Rattle.definition.specs.Stream.{record_sound, info_sound, same_tables, ring_lengths, same_rings, stream_scratch, estimate_lengths, estimate_sizes, rooms_fit, rising, breaks, is_broken}
+use Rattle.definition.specs.Stream.{info_sound, stream_scratch, estimate_lengths, estimate_sizes, rooms_fit, rising, breaks, is_broken}
 use Rattle.limits.specs.Steps.{waiting_broken, counts_broken}
 use Rattle.limits.proofs.Listed.{FirstAre, all-last, any_rest, pair_fail, pair_last}
 

@@ -1,5 +1,6 @@
 // Limits of options, dimensions and lent lengths, and what makes a record one that no call has made. Pure tests. Those that every push makes are
-// compiled into it, `#[inline(always)]`: else the model's record would be copied for each.
+// compiled into it, `#[inline(always)]`: else the model's record would be copied for each. Each asks that the dimensions are in range, or how far a
+// stream goes, in the definition's own word for it, which is short: a name for it would be no plainer.
 #![tactic(auto)]
 
 ghost use Rattle.std.specs.Prelude.{◌≡◌, true, ◌&&◌, ◌||◌, ◌≤◌, eqb, ltb};
@@ -8,11 +9,13 @@ ghost use Rattle.floats.specs.Operators.{zero₃₂, one₃₂};
 ghost use Rattle.definition.specs.Options.{within, options_in_range, dims_in_range, dims_agree};
 ghost use Rattle.definition.specs.Model.{tables_fit, load_scratch};
 ghost use Rattle.definition.specs.Machine.{frames_held, rows_held, frames_ready};
-ghost use Rattle.definition.specs.Stream.{record_sound, info_sound, stream_scratch, rooms_fit, is_broken};
+ghost use Rattle.definition.specs.Stream.{record_sound, info_sound, stream_scratch, rooms_fit, is_broken, same_tables, same_rings, same_rooms, estimate_lengths};
+ghost use Rattle.loops.specs.Lists.{pairwise};
 ghost use Rattle.limits.specs.Steps.{waiting_broken, counts_broken};
 
 use definition::{
-    Dimensions, IvectorInfo, IvectorOptions, IvectorStream, RoomLengths, TableLengths,
+    Dimensions, EstimateLengths, IvectorInfo, IvectorOptions, IvectorStream, RingLengths,
+    RoomLengths, TableLengths,
 };
 
 // ---- options and dimensions
@@ -213,7 +216,7 @@ pub fn rows_held(longest: usize, accepted: usize, mark: usize) -> usize
     (accepted + 1).saturating_sub(first)
 }
 
-// How many frames can be fetched.
+// How many frames can be fetched. `finished` is the record's flag, as C and the definition have it: an enum of two would be translated back in each clause.
 #[tactic(auto, unfolding(definition::specs::Machine::frames_ready))]
 pub fn frames_ready(o: IvectorOptions, finished: bool, accepted: usize) -> usize
     ensures { result ≡ frames_ready o finished accepted }
@@ -278,6 +281,7 @@ fn counts_broken(s: &IvectorStream, waiting: &[usize]) -> bool
     if rings.waiting_frames.min(rings.waiting_weights) < s.waiting {
         return true;
     }
+    // cut to the room too, since a lent record may say more than there is: the definition's `take`
     waiting_broken(&waiting[..s.waiting.min(waiting.len())], left, s.mark)
 }
 
@@ -291,4 +295,36 @@ pub fn is_broken(s: &IvectorStream, waiting: &[usize]) -> bool
         return true;
     }
     !rooms_fit(s.info.dims, s.lengths) || counts_broken(s, waiting)
+}
+
+// ---- the derived comparison
+
+// Of any two records of lengths the derived `==` is the definition's comparison of them, one after the other: these say so, each of one type.
+// They are for a reader of the contracts: no code calls them.
+
+#[tactic(auto, unfolding(definition::specs::Stream::same_tables))]
+pub fn same_tables(a: TableLengths, b: TableLengths) -> bool
+    ensures { result ≡ same_tables a b }
+{
+    a == b
+}
+
+#[tactic(auto, unfolding(definition::specs::Stream::same_rings))]
+pub fn same_rings(a: RingLengths, b: RingLengths) -> bool
+    ensures { result ≡ same_rings a b }
+{
+    a == b
+}
+
+#[tactic(auto, unfolding(definition::specs::Stream::same_rooms, definition::specs::Stream::same_rings))]
+pub fn same_rooms(a: RoomLengths, b: RoomLengths) -> bool
+    ensures { result ≡ same_rooms a b }
+{
+    a == b
+}
+
+pub fn same_estimate(a: EstimateLengths, b: EstimateLengths) -> bool
+    ensures { result ≡ pairwise eqb (estimate_lengths a) (estimate_lengths b) }
+{
+    a == b
 }

@@ -90,13 +90,13 @@ backward_step l n y t x =
 -- ---- the two ways through the solve
 
 module _ (x : List Float) (n : ℕ) (b l : List Float) {f : Out (List Float)} {r : Bool} (e : done r l ≡ f) where
-  pub solve_on : {y' x' : List Float} → r ≡ true → y' ≡ forward n l b → x' ≡ backward n l y' → (x' ≡ solved_or x n b f) × (true ≡ is_on f)
+  pub solve_on : {y' x' : List Float} → r ≡ true → y' ≡ forward n l b → x' ≡ backward n l y' → x' ≡ solved_or x n b f
   unfolding solved_or
-  solve_on t p q = let h : on l ≡ f = ap (λ (z : Bool). done z l) (sym t) ∙ e in (rw (← h) (cc), rw (← h))
+  solve_on t p q = let h : on l ≡ f = ap (λ (z : Bool). done z l) (sym t) ∙ e in rw (← h) (cc)
 
-  pub solve_off : r ≡ false → (x ≡ solved_or x n b f) × (false ≡ is_on f)
+  pub solve_off : r ≡ false → x ≡ solved_or x n b f
   unfolding solved_or
-  solve_off t = let h : off l ≡ f = ap (λ (z : Bool). done z l) (sym t) ∙ e in (rw (← h), rw (← h))
+  solve_off t = let h : off l ≡ f = ap (λ (z : Bool). done z l) (sym t) ∙ e in rw (← h)
 
 -- ---- the start instead
 

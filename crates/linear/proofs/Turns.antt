@@ -59,29 +59,7 @@ module _ (a : List Float) (n : ℕ) (b x : List Float) where
     pub renew_far : {q r' : List Float} → t ≡ true → q ≡ sp_mat_vec a n x → r' ≡ build n (λ i. at q i -₆₄ at b i) → r' ≡ (if is_far s then residual a n b x else r)
     renew_far h e1 e2 = choose_true r (sym e ∙ h) (e2 ∙ ap (λ (q : List Float). build n (λ i. at q i -₆₄ at b i)) e1)
 
-    pub renew_near : t ≡ false → r ≡ (if is_far s then residual a n b x else r)
-    renew_near h = choose_false _ (sym e ∙ h) refl
-
--- ---- its scalars
-
-pub begun_k : {v : Float} {s : CgdState} → s ≡ started v → s.k ≡ 0
-begun_k e = rw e
-
-module _ (n : ℕ) (s : CgdState) {t : Bool} (e : t ≡ is_far s) where
-  pub scalars_far : (r : List Float) {v : Float} {s' : CgdState} → t ≡ true → v ≡ dot n r r → s' ≡ recomputed s v → s' ≡ (if is_far s then recomputed s (dot n r r) else s)
-  scalars_far r h e1 e2 = choose_true s (sym e ∙ h) (e2 ∙ ap (recomputed s) e1)
-
-  pub scalars_near : (r : List Float) → t ≡ false → s ≡ (if is_far s then recomputed s (dot n r r) else s)
-  scalars_near r h = choose_false _ (sym e ∙ h) refl
-
 -- ---- a turn
-
-renewed_k : (f : Bool) (s : CgdState) (v : Float) → (if f then recomputed s v else s).k ≡ s.k
-renewed_k true s v = refl
-renewed_k false s v = refl
-
-pub counted : (n : ℕ) (s : CgdState) (r : List Float) {v : Float} {s₁ t : CgdState} → s₁ ≡ stepped s v → t ≡ (if is_far s₁ then recomputed s₁ (dot n r r) else s₁) → t.k ≡ s.k + 1
-counted n s r {s₁ = s₁} e h = ap (λ (t : CgdState). t.k) h ∙ renewed_k (is_far s₁) s₁ (dot n r r) ∙ ap (λ (t : CgdState). t.k) e
 
 module _ (a : List Float) (n : ℕ) (b x r p : List Float) (s : CgdState) where
   -- from the step along p on: the same as the definition has it, by whether the residual is recomputed

@@ -1,4 +1,7 @@
-// The solver behind `get_ivector`: A x = b by the conjugate gradient, or by Cholesky's factor where that fails. A is packed.
+// The solver behind `get_ivector`: A x = b by the conjugate gradient, or by Cholesky's factor where that fails. A is packed. The vectors of a turn are
+// slices, each as long as A has rows by a clause of its own, and no struct of rooms: a call that reads one field behind a reference while it writes another,
+// as `times(p, ap)`, is not covered (tried). So are the rooms of a solve, of which too one is read while another is written. By index go the loops over rows,
+// columns and factors of A: each reads places of the slice that it writes, or a column, which is no slice; so a part before place i is cut out by hand.
 #![tactic(auto)]
 
 ghost use Rattle.std.specs.Prelude.{◌≡◌, List, ◌+◌, ◌*◌, ◌<◌, ◌≤◌, min, ltb, Float, length, if◌then◌else◌};
@@ -102,6 +105,14 @@ impl Square<'_> {
     {
         weighted_rows(self.cells, self.n, x, out);
     }
+}
+
+// A x = b, A laid out square.
+#[derive(Clone, Copy)]
+struct System<'a, 'b> {
+    square: Square<'a>,
+    b: &'b [f64],
+    ghost b_long: { square.n ≤ length b.now },
 }
 
 // A x = b with L and y in lent rooms. False, and x as it was, where A has no factor.
@@ -222,46 +233,42 @@ impl CgdState {
 
 // The first residual, the first direction against it, and the scalars. A is laid out square, here and in the turns; ap is room for A x.
 fn cgd_begin(
-    square: Square<'_>,
-    b: &[f64],
+    system: System<'_, '_>,
     x: &[f64],
     r: &mut [f64],
     p: &mut [f64],
     ap: &mut [f64],
 ) -> CgdState
-    requires b_long { square.n ≤ length b.now }
-    requires x_long { length x.now ≡ square.n }
-    requires r_long { length r.old ≡ square.n }
-    requires p_long { length p.old ≡ square.n }
-    requires ap_long { length ap.old ≡ square.n }
-    ensures begun { (a : List Float) → square.entry.cells.now ≡ square_of square.entry.n a → cgd_of x.now r.new p.new result ≡ begun a square.entry.n b.now x.now }
+    requires x_long { length x.now ≡ system.square.n }
+    requires r_long { length r.old ≡ system.square.n }
+    requires p_long { length p.old ≡ system.square.n }
+    requires ap_long { length ap.old ≡ system.square.n }
+    ensures begun { (a : List Float) → system.entry.square.cells.now ≡ square_of system.entry.square.n a → cgd_of x.now r.new p.new result ≡ begun a system.entry.square.n system.entry.b.now x.now }
     ensures no_turn { result.k ≡ 0 }
 {
-    square.times(x, ap);
-    difference(b, ap, square.n, p);
+    system.square.times(x, ap);
+    difference(system.b, ap, system.square.n, p);
     negated(p, r);
     CgdState::new(dot(r, r))
 }
 
 // The residual anew, where it is far from the last one that was.
 fn recompute(
-    square: Square<'_>,
-    b: &[f64],
+    system: System<'_, '_>,
     x: &[f64],
     r: &mut [f64],
     ap: &mut [f64],
     s: CgdState,
 ) -> CgdState
-    requires b_long { square.n ≤ length b.now }
-    requires x_long { length x.now ≡ square.n }
-    requires r_long { length r.old ≡ square.n }
-    requires ap_long { length ap.old ≡ square.n }
-    ensures residual { (a : List Float) → square.entry.cells.now ≡ square_of square.entry.n a → r.new ≡ (if is_far s then residual a square.entry.n b.now x.now else r.old) }
-    ensures scalars { result ≡ (if is_far s then recomputed_of s (dot_of square.entry.n r.new r.new) else s) }
+    requires x_long { length x.now ≡ system.square.n }
+    requires r_long { length r.old ≡ system.square.n }
+    requires ap_long { length ap.old ≡ system.square.n }
+    ensures residual { (a : List Float) → system.entry.square.cells.now ≡ square_of system.entry.square.n a → r.new ≡ (if is_far s then residual a system.entry.square.n system.entry.b.now x.now else r.old) }
+    ensures scalars { result ≡ (if is_far s then recomputed_of s (dot_of system.entry.square.n r.new r.new) else s) }
 {
     if s.is_far() {
-        square.times(x, ap);
-        difference(ap, b, square.n, r);
+        system.square.times(x, ap);
+        difference(ap, system.b, system.square.n, r);
         return s.recomputed(dot(r, r));
     }
     s
@@ -269,8 +276,7 @@ fn recompute(
 
 // A turn along p, up to the residual and its scalars.
 fn cgd_turn(
-    square: Square<'_>,
-    b: &[f64],
+    system: System<'_, '_>,
     x: &mut [f64],
     r: &mut [f64],
     p: &[f64],
@@ -278,27 +284,25 @@ fn cgd_turn(
     s: CgdState,
 ) -> CgdState
     requires few { s.k < 200 }
-    requires b_long { square.n ≤ length b.now }
-    requires x_long { length x.old ≡ square.n }
-    requires r_long { length r.old ≡ square.n }
-    requires p_long { length p.now ≡ square.n }
-    requires ap_long { length ap.old ≡ square.n }
-    ensures turn { (a : List Float) → square.entry.cells.now ≡ square_of square.entry.n a
-        → turn_end square.entry.n p.now s x.new r.new result ≡ turn a square.entry.n b.now (cgd_of x.old r.old p.now s) }
+    requires x_long { length x.old ≡ system.square.n }
+    requires r_long { length r.old ≡ system.square.n }
+    requires p_long { length p.now ≡ system.square.n }
+    requires ap_long { length ap.old ≡ system.square.n }
+    ensures turn { (a : List Float) → system.entry.square.cells.now ≡ square_of system.entry.square.n a
+        → turn_end system.entry.square.n p.now s x.new r.new result ≡ turn a system.entry.square.n system.entry.b.now (cgd_of x.old r.old p.now s) }
     ensures counted { result.k ≡ s.k + 1 }
 {
-    square.times(p, ap);
+    system.square.times(p, ap);
     let alpha = -dot(p, r) / dot(p, ap);
     add_scaled(alpha, p, x);
     add_scaled(alpha, ap, r);
     let moved = s.stepped(dot(r, r));
-    recompute(square, b, x, r, ap, moved)
+    recompute(system, x, r, ap, moved)
 }
 
 // At most n + 5 turns and at most max_iters, each but the last with the next direction.
 fn cgd_turns(
-    square: Square<'_>,
-    b: &[f64],
+    system: System<'_, '_>,
     x: &mut [f64],
     r: &mut [f64],
     p: &mut [f64],
@@ -307,20 +311,19 @@ fn cgd_turns(
     s: CgdState,
 ) -> CgdState
     requires no_turn { s.k ≡ 0 }
-    requires few { square.n ≤ 128 }
-    requires b_long { square.n ≤ length b.now }
-    requires x_long { length x.old ≡ square.n }
-    requires r_long { length r.old ≡ square.n }
-    requires p_long { length p.old ≡ square.n }
-    requires ap_long { length ap.old ≡ square.n }
-    ensures { (a : List Float) → square.entry.cells.now ≡ square_of square.entry.n a
-        → cgd_of x.new r.new p.new result ≡ final (leave (min (square.entry.n + 5) max_iters) (λ k. turn a square.entry.n b.now) (cgd_of x.old r.old p.old s)) }
+    requires few { system.square.n ≤ 128 }
+    requires x_long { length x.old ≡ system.square.n }
+    requires r_long { length r.old ≡ system.square.n }
+    requires p_long { length p.old ≡ system.square.n }
+    requires ap_long { length ap.old ≡ system.square.n }
+    ensures { (a : List Float) → system.entry.square.cells.now ≡ square_of system.entry.square.n a
+        → cgd_of x.new r.new p.new result ≡ final (leave (min (system.entry.square.n + 5) max_iters) (λ k. turn a system.entry.square.n system.entry.b.now) (cgd_of x.old r.old p.old s)) }
 {
     let mut t = s;
     // No `for`: the turns are counted in the scalars, whose fields end them too.
-    while t.goes_on(square.n, max_iters) {
+    while t.goes_on(system.square.n, max_iters) {
         let before = t;
-        t = cgd_turn(square, b, x, r, p, ap, before);
+        t = cgd_turn(system, x, r, p, ap, before);
         if t.is_last() {
             break;
         }
@@ -351,41 +354,6 @@ fn exact_or_start(
     }
 }
 
-// `linear_cgd` in lent rooms, with a copy of the start. l holds the square while the turns go on, and L after them.
-fn linear_cgd_in(
-    a: Symmetric<'_>,
-    b: &[f64],
-    x: &mut [f64],
-    max_iters: usize,
-    x_orig: &[f64],
-    r: &mut [f64],
-    p: &mut [f64],
-    ap: &mut [f64],
-    l: &mut [f64],
-)
-    requires start { x_orig.now ≡ x.old }
-    requires few { a.n ≤ 128 }
-    requires b_long { a.n ≤ length b.now }
-    requires x_long { length x.old ≡ a.n }
-    requires r_long { length r.old ≡ a.n }
-    requires p_long { length p.old ≡ a.n }
-    requires ap_long { length ap.old ≡ a.n }
-    requires l_long { length l.old ≡ a.n * a.n }
-    ensures { x.new ≡ linear_cgd a.entry.cells.now a.entry.n b.now x.old max_iters }
-{
-    a.lay_out(l);
-    let square = Square { cells: l, n: a.n };
-    let first = cgd_begin(square, b, x, r, p, ap);
-    if first.is_last() {
-        return;
-    }
-    let last = cgd_turns(square, b, x, r, p, ap, max_iters, first);
-    let front = &b[..a.n];
-    if last.is_worse(first.r_cur, dot(front, front)) {
-        exact_or_start(a, b, x, x_orig, l, ap);
-    }
-}
-
 // A x = b from the start x, which is kept where it is the solution. Where the residual gets worse: the exact solution, or the start
 // again. The matrix laid out square, and then L, lies in scratch.
 pub fn linear_cgd(a: Symmetric<'_>, b: &[f64], x: &mut [f64], max_iters: usize, scratch: &mut [f64])
@@ -396,21 +364,27 @@ pub fn linear_cgd(a: Symmetric<'_>, b: &[f64], x: &mut [f64], max_iters: usize, 
     ensures { x.new ≡ linear_cgd a.entry.cells.now a.entry.n b.now x.old max_iters }
 {
     let n = a.n;
-    let mut x_orig = [0.0f64; 128];
+    // Each as long as the largest vector, with no heap: the front is cut out, as of scratch and of b, which may be longer.
+    let mut start = [0.0f64; 128];
     let mut r = [0.0f64; 128];
     let mut p = [0.0f64; 128];
     let mut ap = [0.0f64; 128];
-    x_orig[..n].copy_from_slice(x);
-    let size = n * n;
-    linear_cgd_in(
-        a,
-        b,
-        x,
-        max_iters,
-        &x_orig[..n],
-        &mut r[..n],
-        &mut p[..n],
-        &mut ap[..n],
-        &mut scratch[..size],
-    );
+    let start = &mut start[..n];
+    let r = &mut r[..n];
+    let p = &mut p[..n];
+    let ap = &mut ap[..n];
+    let l = &mut scratch[..n * n];
+    start.copy_from_slice(x);
+    a.lay_out(l);
+    let square = Square { cells: l, n };
+    let system = System { square, b };
+    let first = cgd_begin(system, x, r, p, ap);
+    if first.is_last() {
+        return;
+    }
+    let last = cgd_turns(system, x, r, p, ap, max_iters, first);
+    let front = &b[..n];
+    if last.is_worse(first.r_cur, dot(front, front)) {
+        exact_or_start(a, b, x, start, l, ap);
+    }
 }

@@ -1,6 +1,6 @@
--- The ways out of the three calls.
+-- The ways out of `model_dimensions`.
 use mathlib.Core.Path.{◌≡◌, refl, sym, ap, ◌∙◌, subst}
-use mathlib.Core.Bool.{true, false, ◌&&◌}
+use mathlib.Core.Bool.{true, ◌&&◌}
 use Prim.Native.Nat.{ℕ, ◌+◌, ◌*◌, ◌≤◌}
 use native.Mathlib.Omega.{arith}
 use lib.Dec.{leb}
@@ -9,14 +9,13 @@ use Rattle.loops.proofs.Choose.{and_both}
 use Rattle.definition.specs.declared.IvectorOptions.{IvectorOptions}
 use Rattle.definition.specs.declared.Dimensions.{Dimensions}
 use Rattle.definition.specs.declared.TableLengths.{TableLengths}
-use Rattle.definition.specs.declared.RoomLengths.{RoomLengths}
-use Rattle.definition.specs.Options.{within, options_in_range, dims_in_range, dims_agree, spliced}
+use Rattle.definition.specs.Options.{options_in_range, dims_in_range, spliced}
 use Rattle.definition.specs.Reader.{Got, read, refused}
 use Rattle.definition.specs.Kaldi.{triangle}
-use Rattle.definition.specs.Model.{Model, Files, lengths_from, table_sizes, tables_fit, load_scratch, load}
+use Rattle.definition.specs.Model.{Model, Files, lengths_from, tables_fit, load_scratch, load}
 use Rattle.definition.proofs.Ranges.{DimRanges, DimProducts, SplicedRanges, dim-ranges, dim_products, spliced-ranges}
 use Rattle.kaldi_io.proofs.Chain.{not-read, same-value, same_refusal}
-use Rattle.memory.specs.Memory.{dimensions_of, dimensions_answer, no_dimensions, tables_answer, no_tables, tables_needed, room_sizes, rooms_answer, no_rooms, rooms_needed}
+use Rattle.memory.specs.Memory.{dimensions_of, dimensions_answer, no_dimensions}
 use Rattle.memory.proofs.Sized.{Follows, follows}
 use Rattle.memory.proofs.Exact.{dims_sound}
 
@@ -67,45 +66,3 @@ module _ (o : IvectorOptions) (f : Files) where
           let sound = dims_sound o f q in
           let found = (subst (λ (x : Got Dimensions). Follows o all_most most x (load o f all_most most)) q (follows o all_most most f)).0 (enough o c sound.0 sound.1) in
           ap (λ (x : Dimensions). record { refusal = 0; dims = x }) (sym same ∙ ap (λ (m : Model). m.info.dims) (same-value (h ∙ found.is)) ∙ found.dims_are)
-
--- ---- tables
-
-module _ (o : IvectorOptions) (d : Dimensions) where
-  pub options_out : options_in_range o ≡ false → no_tables 1 ≡ tables_needed o d
-  unfolding tables_needed
-  options_out e = rw e
-
-  module _ (a : options_in_range o ≡ true) where
-    pub dims_out : dims_in_range d ≡ false → no_tables 4 ≡ tables_needed o d
-    unfolding tables_needed
-    dims_out e = rw (a, e)
-
-    module _ (b : dims_in_range d ≡ true) where
-      pub apart : dims_agree o d ≡ false → no_tables 5 ≡ tables_needed o d
-      unfolding tables_needed
-      apart e = rw (a, b, e)
-
-      pub sized : dims_agree o d ≡ true → {z : TableLengths} {n : ℕ} → z ≡ table_sizes o d → n ≡ load_scratch d → tables_answer 0 z n ≡ tables_needed o d
-      unfolding tables_needed
-      sized e h k = rw (a, b, e, h, k)
-
--- ---- rooms
-
-module _ (d : Dimensions) (f r w : ℕ) where
-  pub rooms_out : dims_in_range d ≡ false → no_rooms 4 ≡ rooms_needed d f r w
-  unfolding rooms_needed
-  rooms_out e = rw e
-
-  module _ (a : dims_in_range d ≡ true) where
-    pub frames_out : within 1 1000000000 f ≡ false → no_rooms 8 ≡ rooms_needed d f r w
-    unfolding rooms_needed
-    frames_out e = rw (a, e)
-
-    module _ (b : within 1 1000000000 f ≡ true) where
-      pub rows_out : within 2 2000000000 r ≡ false → no_rooms 8 ≡ rooms_needed d f r w
-      unfolding rooms_needed
-      rows_out e = rw (a, b, e)
-
-      pub rooms_sized : within 2 2000000000 r ≡ true → {z : RoomLengths} → z ≡ room_sizes d f r w → rooms_answer 0 z ≡ rooms_needed d f r w
-      unfolding rooms_needed
-      rooms_sized e h = rw (a, b, e, h)

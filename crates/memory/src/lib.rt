@@ -2,56 +2,43 @@
 // zeros.
 #![tactic(auto)]
 
-ghost use Rattle.std.specs.Prelude.{◌≡◌, true, ◌&&◌, ◌≤◌};
-ghost use Rattle.definition.specs.Options.{within, options_in_range, dims_in_range};
-ghost use Rattle.definition.specs.Model.{lengths_from, table_sizes};
+ghost use Rattle.std.specs.Prelude.{◌≡◌, true, ◌≤◌};
+ghost use Rattle.definition.specs.Options.{options_in_range, dims_in_range};
+ghost use Rattle.definition.specs.Model.{table_sizes};
 ghost use Rattle.ivector_info.specs.Load.{files_of};
-ghost use Rattle.memory.specs.Memory.{no_dimensions, dimensions_of, dimensions_answer, no_tables, tables_needed, room_sizes, no_rooms, rooms_needed};
+ghost use Rattle.memory.specs.Memory.{dimensions_of, dimensions_answer, tables_needed, room_sizes, rooms_needed};
+ghost use Rattle.memory.specs.Answered.{tables_or, rooms_or};
 
 use definition::{
-    Dimensions, EstimateLengths, IvectorOptions, RingLengths, RoomLengths, TableLengths,
+    Dimensions, EstimateLengths, IvectorOptions, Refusal, RingLengths, RoomLengths, TableLengths,
+    need,
 };
-use ivector_info::{Judged, judge};
+use ivector_info::judge;
 use limits::{dims_agree, dims_in_range, load_scratch, options_in_range, stream_scratch};
 
 // ---- a model's dimensions
 
+// A refusal by its number, in this record and the two below: C gets them.
 #[repr(C)]
-#[derive(Clone, Copy)]
+#[derive(Clone, Copy, Debug, Default, PartialEq)]
 pub struct DimensionsAnswer {
     pub refusal: usize,
     pub dims: Dimensions,
 }
 
-fn no_dimensions() -> Dimensions
-    ensures { result ≡ no_dimensions }
-{
-    Dimensions {
-        num_gauss: 0,
-        ext_gauss: 0,
-        feat_dim: 0,
-        ivector_dim: 0,
-        base_dim: 0,
-        lda_cols: 0,
-    }
-}
+// Lengths that are enough for every table.
+const LONGEST: TableLengths = TableLengths {
+    gconsts: usize::MAX,
+    means_invvars_t: usize::MAX,
+    inv_vars_t: usize::MAX,
+    sigma_inv_m: usize::MAX,
+    u: usize::MAX,
+    lda_t: usize::MAX,
+    lda_offset: usize::MAX,
+    global_mean_stats: usize::MAX,
+};
 
-fn equal_lengths(n: usize) -> TableLengths
-    ensures { result ≡ lengths_from n n n n n n n n }
-{
-    TableLengths {
-        gconsts: n,
-        means_invvars_t: n,
-        inv_vars_t: n,
-        sigma_inv_m: n,
-        u: n,
-        lda_t: n,
-        lda_offset: n,
-        global_mean_stats: n,
-    }
-}
-
-// The load's own judgement, with lengths that no table needs.
+// The load's own judgement, with lengths that no table needs. The files are given one by one, as C lends them.
 pub fn model_dimensions(
     opts: IvectorOptions,
     gmm: &[u8],
@@ -61,44 +48,30 @@ pub fn model_dimensions(
 ) -> DimensionsAnswer
     ensures { result ≡ dimensions_answer (dimensions_of opts (files_of gmm.now extractor.now lda.now cmvn.now)) }
 {
-    let most = 18446744073709551615;
-    let z = equal_lengths(most);
-    match judge(opts, gmm, extractor, lda, cmvn, z, most) {
-        Judged::Refused(refusal) => {
-            let dims = no_dimensions();
-            return DimensionsAnswer { refusal, dims };
-        }
-        Judged::Is {
-            dims,
-            prior_offset: _,
-            places: _,
-        } => {
-            return DimensionsAnswer { refusal: 0, dims };
-        }
+    match judge(opts, gmm, extractor, lda, cmvn, LONGEST, usize::MAX) {
+        Ok(judged) => DimensionsAnswer {
+            refusal: 0,
+            dims: judged.dims,
+        },
+        Err(e) => DimensionsAnswer {
+            refusal: e.number(),
+            ..DimensionsAnswer::default()
+        },
     }
 }
 
 // ---- tables
 
 #[repr(C)]
-#[derive(Clone, Copy)]
+#[derive(Clone, Copy, Debug, Default, PartialEq)]
 pub struct TablesAnswer {
+    // a number, as the C interface needs it
     pub refusal: usize,
     pub tables: TableLengths,
     pub scratch: usize,
 }
 
-fn no_tables(refusal: usize) -> TablesAnswer
-    ensures { result ≡ no_tables refusal }
-{
-    let tables = equal_lengths(0);
-    TablesAnswer {
-        refusal,
-        tables,
-        scratch: 0,
-    }
-}
-
+// The limits, here and in `room_sizes`, are clauses: the call just above each has tested them, and a type that carries them would be made for these two alone, and no plainer.
 fn table_sizes(o: IvectorOptions, d: Dimensions) -> TableLengths
     requires { (options_in_range o ≡ true) × (dims_in_range d ≡ true) }
     ensures { result ≡ table_sizes o d }
@@ -120,59 +93,43 @@ fn table_sizes(o: IvectorOptions, d: Dimensions) -> TableLengths
     }
 }
 
+#[tactic(auto, unfolding(loops::specs::Refusal::first_of, crate::specs::Memory::tables_needed))]
+fn tables_of(opts: IvectorOptions, dims: Dimensions) -> Result<TablesAnswer, Refusal>
+    ensures { tables_or result ≡ tables_needed opts dims }
+{
+    need(options_in_range(opts), Refusal::OptionRange)?;
+    need(dims_in_range(dims), Refusal::DimensionRange)?;
+    need(dims_agree(opts, dims), Refusal::Disagree)?;
+    Ok(TablesAnswer {
+        refusal: 0,
+        tables: table_sizes(opts, dims),
+        scratch: load_scratch(dims),
+    })
+}
+
 pub fn tables_needed(opts: IvectorOptions, dims: Dimensions) -> TablesAnswer
     ensures { result ≡ tables_needed opts dims }
 {
-    if !options_in_range(opts) {
-        return no_tables(1);
-    }
-    if !dims_in_range(dims) {
-        return no_tables(4);
-    }
-    if !dims_agree(opts, dims) {
-        return no_tables(5);
-    }
-    let tables = table_sizes(opts, dims);
-    let scratch = load_scratch(dims);
-    TablesAnswer {
-        refusal: 0,
-        tables,
-        scratch,
+    match tables_of(opts, dims) {
+        Ok(answer) => answer,
+        Err(e) => TablesAnswer {
+            refusal: e.number(),
+            ..TablesAnswer::default()
+        },
     }
 }
 
 // ---- rooms
 
 #[repr(C)]
-#[derive(Clone, Copy)]
+#[derive(Clone, Copy, Debug, Default, PartialEq)]
 pub struct RoomsAnswer {
+    // a number, as the C interface needs it
     pub refusal: usize,
     pub lengths: RoomLengths,
 }
 
-fn no_rooms(refusal: usize) -> RoomsAnswer
-    ensures { result ≡ no_rooms refusal }
-{
-    RoomsAnswer {
-        refusal,
-        lengths: RoomLengths {
-            rings: RingLengths {
-                frames: 0,
-                rows: 0,
-                waiting_frames: 0,
-                waiting_weights: 0,
-            },
-            estimate: EstimateLengths {
-                cmvn_stats: 0,
-                linear: 0,
-                quadratic: 0,
-                current: 0,
-                scratch: 0,
-            },
-        },
-    }
-}
-
+// The limits are clauses, as of `table_sizes`: a type for them is no plainer.
 fn room_sizes(d: Dimensions, frames: usize, rows: usize, changes: usize) -> RoomLengths
     requires { (dims_in_range d ≡ true) × (frames ≤ 1000000000) × (rows ≤ 2000000000) }
     ensures { result ≡ room_sizes d frames rows changes }
@@ -197,30 +154,32 @@ fn room_sizes(d: Dimensions, frames: usize, rows: usize, changes: usize) -> Room
     }
 }
 
-fn in_limits(low: usize, high: usize, n: usize) -> bool
-    ensures { result ≡ within low high n }
+#[tactic(auto, unfolding(loops::specs::Refusal::first_of, crate::specs::Memory::rooms_needed))]
+fn rooms_of(
+    dims: Dimensions,
+    frames: usize,
+    rows: usize,
+    changes: usize,
+) -> Result<RoomsAnswer, Refusal>
+    ensures { rooms_or result ≡ rooms_needed dims frames rows changes }
 {
-    if low <= n {
-        return n <= high;
-    }
-    false
+    need(dims_in_range(dims), Refusal::DimensionRange)?;
+    need((1..=1_000_000_000).contains(&frames), Refusal::ShortRoom)?;
+    need((2..=2_000_000_000).contains(&rows), Refusal::ShortRoom)?;
+    Ok(RoomsAnswer {
+        refusal: 0,
+        lengths: room_sizes(dims, frames, rows, changes),
+    })
 }
 
 pub fn rooms_needed(dims: Dimensions, frames: usize, rows: usize, changes: usize) -> RoomsAnswer
     ensures { result ≡ rooms_needed dims frames rows changes }
 {
-    if !dims_in_range(dims) {
-        return no_rooms(4);
-    }
-    if !in_limits(1, 1000000000, frames) {
-        return no_rooms(8);
-    }
-    if !in_limits(2, 2000000000, rows) {
-        return no_rooms(8);
-    }
-    let lengths = room_sizes(dims, frames, rows, changes);
-    RoomsAnswer {
-        refusal: 0,
-        lengths,
+    match rooms_of(dims, frames, rows, changes) {
+        Ok(answer) => answer,
+        Err(e) => RoomsAnswer {
+            refusal: e.number(),
+            ..RoomsAnswer::default()
+        },
     }
 }

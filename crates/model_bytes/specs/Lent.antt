@@ -1,5 +1,5 @@
 -- The code's own types, as the definitions speak of them: the parameters that are lent, and the answer.
-use Rattle.std.specs.Prelude.{Result, Ok, Err, map, Float}
+use Rattle.std.specs.Prelude.{ℕ, Result, Ok, Err, map, Float}
 use Rattle.definition.specs.declared.refusal.Refusal.{Refusal}
 use Rattle.definition.specs.Number.{number_of}
 use Rattle.model_bytes.specs.declared.LentParams.{LentParams}
@@ -14,6 +14,10 @@ params_in f p =
     (map f p.lda.now)
 
 -- the lengths of the three files, or the number of a refusal
+abbrev pub written_by : Result FileLengths ℕ → Written
+written_by (Ok l) = W.Files l.gmm l.extractor l.lda
+written_by (Err n) = W.Refused n
+
 abbrev pub written_of : Result FileLengths Refusal → Written
 written_of (Ok l) = W.Files l.gmm l.extractor l.lda
 written_of (Err e) = W.Refused (number_of e)

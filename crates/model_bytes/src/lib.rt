@@ -3,7 +3,7 @@
 
 ghost use Rattle.std.specs.Prelude.{◌≡◌};
 ghost use Rattle.model_bytes.specs.Written.{written_answer};
-ghost use Rattle.model_bytes.specs.Lent.{written_of};
+ghost use Rattle.model_bytes.specs.Lent.{written_by, written_of};
 
 use definition::Refusal;
 use floats::Real;
@@ -40,7 +40,7 @@ pub struct FileLengths {
     pub lda: usize,
 }
 
-/// The answer as a record, for hosts without such enums: the refusal's number, 0 where the call was taken, and the lengths, 0 beside a refusal.
+/// The answer as the record that C gets: the refusal's number, 0 where the call was taken, and the lengths, 0 beside a refusal.
 #[repr(C)]
 #[derive(Clone, Copy, Debug, Default, PartialEq, Eq)]
 pub struct WrittenAnswer {
@@ -50,22 +50,29 @@ pub struct WrittenAnswer {
     pub lda: usize,
 }
 
+/// The record that C gets, with a refusal by its number, whichever it is.
+#[tactic(auto, unfolding(crate::specs::Written::written_answer))]
+pub fn written_answer(written: Result<FileLengths, usize>) -> WrittenAnswer
+    ensures { result ≡ written_answer (written_by written) }
+{
+    match written {
+        Ok(lengths) => WrittenAnswer {
+            refusal: 0,
+            gmm: lengths.gmm,
+            extractor: lengths.extractor,
+            lda: lengths.lda,
+        },
+        Err(number) => WrittenAnswer {
+            refusal: number,
+            ..Default::default()
+        },
+    }
+}
+
 impl From<Result<FileLengths, Refusal>> for WrittenAnswer {
     ghost from_gives = { λ w a. a ≡ written_answer (written_of w) };
 
-    #[tactic(auto, unfolding(crate::specs::Written::written_answer))]
     fn from(written: Result<FileLengths, Refusal>) -> WrittenAnswer {
-        match written {
-            Ok(lengths) => WrittenAnswer {
-                refusal: 0,
-                gmm: lengths.gmm,
-                extractor: lengths.extractor,
-                lda: lengths.lda,
-            },
-            Err(e) => WrittenAnswer {
-                refusal: e.number(),
-                ..Default::default()
-            },
-        }
+        written_answer(definition::numbered(written))
     }
 }

@@ -30,6 +30,7 @@ fn check_size(most: usize, n: usize) -> Result<(), Refusal>
     need((1..=most).contains(&n), Refusal::DimensionRange)
 }
 
+// `positive`, here and of a list, is the flag of the definition's `kept`; an enum of two in its place would be translated in each clause, and no plainer.
 #[tactic(auto, unfolding(definition::specs::Reader::kept))]
 fn is_kept(x: f32, positive: bool) -> bool
     ensures { result ≡ kept positive x }
@@ -37,7 +38,7 @@ fn is_kept(x: f32, positive: bool) -> bool
     Real::is_finite(x) && (!positive || x.is_above_zero())
 }
 
-// A list of a table of f32.
+// A list of a table of f32, with the flag of the definition's `kept`.
 #[tactic(auto, unfolding(loops::specs::Refusal::first_of))]
 fn check_list<W: KeepAs<f32>>(xs: &[W], n: usize, positive: bool) -> Result<(), Refusal>
     ensures { refused_by result ≡ first_of (list_tests W.format binary32 positive n (map W.float xs.now)) }
@@ -74,6 +75,7 @@ fn check_gmm<W: KeepAs<f32>>(p: &LentParams<'_, W>) -> Result<(), Refusal>
     check_list(p.inv_vars, z.num_gauss * z.feat_dim, true)
 }
 
+// The GMM's check came before, here and for the LDA: a clause of each says so, since a type of parameters that are judged in part would be no plainer.
 fn check_extractor<W: Real>(p: &LentParams<'_, W>) -> Result<(), Refusal>
     requires { p.now.sizes.feat_dim ≤ 64 }
     ensures { refused_by result ≡ first_of (extractor_tests W.format (params_in W.float p.now)) }
@@ -89,6 +91,7 @@ fn check_extractor<W: Real>(p: &LentParams<'_, W>) -> Result<(), Refusal>
     need(p.prior_offset.is_finite(), Refusal::BadNumber)
 }
 
+// After the GMM's check; a type that says so would be no plainer.
 fn check_lda<W: KeepAs<f32>>(p: &LentParams<'_, W>) -> Result<(), Refusal>
     requires { p.now.sizes.feat_dim ≤ 64 }
     ensures { refused_by result ≡ first_of (lda_tests W.format (params_in W.float p.now)) }
@@ -107,7 +110,8 @@ fn base_of(text: &[u8]) -> Result<usize, Refusal>
     }
 }
 
-// The CMVN text, and the files against each other.
+// The CMVN text, and the files against each other. That the options and the sizes are in range was judged before: a clause says so of each, in a word of its
+// own, and a type for options that were judged would be no plainer for the one call.
 fn check_text(o: IvectorOptions, z: ModelSizes, text: &[u8]) -> Result<(), Refusal>
     requires options { options_in_range o ≡ true }
     requires sizes { InRange z }

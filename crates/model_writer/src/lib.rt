@@ -12,11 +12,12 @@ ghost use Rattle.model_bytes.specs.Pieces.{m_blocks, sigma_blocks};
 use byte_writer::Writer;
 use definition::{IvectorOptions, Refusal};
 use floats::{KeepAs, Real};
+pub use model_bytes::written_answer;
 use model_bytes::{FileLengths, LentParams};
 
 // ---- sizes and numbers
 
-// A size: the byte 4, and its four bytes.
+// A size: the byte 4, and its four bytes. The first four of eight: that a cast to `u32` loses nothing no clause says here, so it would be no plainer.
 fn size(w: &mut Writer<'_>, n: usize)
     requires { HasRoom (size_bytes n) w.old }
     ensures { Wrote (size_bytes n) w.old w.new }
@@ -26,6 +27,7 @@ fn size(w: &mut Writer<'_>, n: usize)
     w.bytes(&bytes[..4]);
 }
 
+// A number: the first bytes of eight, as many as its width has. `to_le_bytes` of a pattern gives eight for each type; a method for each would be no plainer.
 fn number<W: Real>(w: &mut Writer<'_>, x: W)
     requires { HasRoom (numbers_bytes W.format (W.float x ∷ [])) w.old }
     ensures { Wrote (numbers_bytes W.format (W.float x ∷ [])) w.old w.new }
@@ -74,7 +76,8 @@ fn packed<W: Real>(w: &mut Writer<'_>, n: usize, xs: &[W])
     numbers(w, xs);
 }
 
-// `<M>` and `<SigmaInv>`, a block for each Gaussian.
+// `<M>` and `<SigmaInv>`, a block for each Gaussian, in these two functions. How many is given beside the numbers: it is known, and from their length it
+// would take a division, which is no plainer.
 fn matrices<W: Real>(w: &mut Writer<'_>, count: usize, rows: usize, cols: usize, xs: &[W])
     requires rows { rows ≤ 64 }
     requires cols { cols ≤ 128 }
@@ -83,12 +86,13 @@ fn matrices<W: Real>(w: &mut Writer<'_>, count: usize, rows: usize, cols: usize,
     ensures { Wrote (m_blocks W.format count rows cols (map W.float xs.now)) w.old w.new }
 {
     let n = rows * cols;
-    // block by block by its number: a loop over `chunks_exact` has no number for its invariant
+    // By index: over `chunks_exact`, which was tried, the invariant has no number of a block, and the proof of a turn does not close.
     for i in 0..count {
         matrix(w, rows, cols, &xs[i * n..i * n + n]);
     }
 }
 
+// By index and with its count, as `matrices`.
 fn packeds<W: Real>(w: &mut Writer<'_>, count: usize, rows: usize, xs: &[W])
     requires rows { rows ≤ 64 }
     requires long { length xs.now ≡ count * triangle rows }
@@ -96,7 +100,7 @@ fn packeds<W: Real>(w: &mut Writer<'_>, count: usize, rows: usize, xs: &[W])
     ensures { Wrote (sigma_blocks W.format count rows (map W.float xs.now)) w.old w.new }
 {
     let n = rows * (rows + 1) / 2;
-    // as in `matrices`
+    // By index, as in `matrices`.
     for i in 0..count {
         packed(w, rows, &xs[i * n..i * n + n]);
     }
@@ -121,6 +125,7 @@ fn gmm<W: Real>(w: &mut Writer<'_>, p: &LentParams<'_, W>)
     w.bytes(b"</DiagGMM> ");
 }
 
+// Of what the checks have seen it asks what it needs; a type of parameters that were judged is no plainer for the one call.
 #[tactic(auto, unfolding(model_bytes::specs::Written::extractor_bytes))]
 fn extractor<W: Real>(w: &mut Writer<'_>, p: &LentParams<'_, W>)
     requires feat { p.now.sizes.feat_dim ≤ 64 }

@@ -1,4 +1,5 @@
 -- The lowest index whose number is least, turn by turn as code finds it; and what `nearest_voice` answers of it.
+use Rattle.std.specs.Prelude.{Err}
 use mathlib.Core.Path.{◌≡◌, refl, sym, ap, ◌∙◌}
 use mathlib.Core.Bool.{Bool, true, false, cond}
 use mathlib.Core.List.{List}
@@ -6,8 +7,10 @@ use Prim.Native.Nat.{ℕ, suc, ◌+◌, ◌-◌, ◌*◌, ◌≤◌, ◌<◌}
 use native.Mathlib.Nat.{le_trans, le_of_eq, suc-mul, mul-le-mul_right}
 use lib.Ieee.{Float, lt, le}
 use Rattle.loops.proofs.Refusal.{taken_new, taken_old}
-use Rattle.nearest_voice.specs.declared.NearestVoice.TheVariants as N
-use Rattle.nearest_voice.specs.Voice.{distance, least, voice_refusal, within_limit, nearest_voice}
+use Rattle.definition.specs.declared.refusal.Refusal.{Refusal}
+use Rattle.definition.specs.Number.{number_of}
+use Rattle.nearest_voice.proofs.Refusals.{some_number}
+use Rattle.nearest_voice.specs.Voice.{distance, least, voice_refusal, voice, nobody, within_limit, nearest_voice}
 
 -- row i of c rows lies within them
 pub row_in_lem : (i c n m : ℕ) → i < c → m ≡ c * n → i * n + n ≤ m
@@ -39,30 +42,33 @@ module _ (f : ℕ → Float) where
 
 -- within the limit, and beyond it
 module _ (f : ℕ → Float) (i : ℕ) (limit : Float) where
-  near : le (f i) limit ≡ true → N.Voice i (f i) ≡ within_limit f i limit
+  near : le (f i) limit ≡ true → voice i (f i) ≡ within_limit f i limit
   unfolding within_limit
-  near t = sym (ap (λ (b : Bool). cond b (N.Voice i (f i)) N.Nobody) t)
+  near t = sym (ap (λ (b : Bool). cond b (voice i (f i)) nobody) t)
 
-  far : le (f i) limit ≡ false → N.Nobody ≡ within_limit f i limit
+  far : le (f i) limit ≡ false → nobody ≡ within_limit f i limit
   unfolding within_limit
-  far t = sym (ap (λ (b : Bool). cond b (N.Voice i (f i)) N.Nobody) t)
+  far t = sym (ap (λ (b : Bool). cond b (voice i (f i)) nobody) t)
 
--- the answer
-module _ (n : ℕ) (v : List ℕ) (count : ℕ) (e : List ℕ) (limit : Float) (r : ℕ) (r-is : r ≡ voice_refusal n v count e limit) where
-  pub answer_refused : (r ≡ 0 → ⊥) → N.Refused r ≡ nearest_voice n v count e limit
+-- the answer of vectors that are not refused
+module _ (n : ℕ) (v : List ℕ) (count : ℕ) (e : List ℕ) (limit : Float) (z : 0 ≡ voice_refusal n v count e limit)
+    (i : ℕ) (d : Float) (i-is : i ≡ least (distance n v e) (count - 1)) (d-is : d ≡ distance n v e i) where
+  answer_is : within_limit (distance n v e) i limit ≡ nearest_voice n v count e limit
   unfolding nearest_voice
-  answer_refused h = ap N.Refused r-is ∙ sym (taken_old _ _ _ (λ z. h (r-is ∙ z)))
+  answer_is = ap (λ (j : ℕ). within_limit (distance n v e) j limit) i-is ∙ sym (taken_new _ _ _ (sym z))
 
-  module _ (z : r ≡ 0) (i : ℕ) (d : Float) (i-is : i ≡ least (distance n v e) (count - 1)) (d-is : d ≡ distance n v e i) where
-    answer_is : within_limit (distance n v e) i limit ≡ nearest_voice n v count e limit
-    unfolding nearest_voice
-    answer_is = ap (λ (j : ℕ). within_limit (distance n v e) j limit) i-is ∙ sym (taken_new _ _ _ (sym r-is ∙ z))
+  compared_with : {b : Bool} → le d limit ≡ b → le (distance n v e i) limit ≡ b
+  compared_with t = ap (λ (y : Float). le y limit) (sym d-is) ∙ t
 
-    compared_with : {b : Bool} → le d limit ≡ b → le (distance n v e i) limit ≡ b
-    compared_with t = ap (λ (y : Float). le y limit) (sym d-is) ∙ t
+  pub answer_voice : le d limit ≡ true → voice i d ≡ nearest_voice n v count e limit
+  answer_voice t = ap (voice i) d-is ∙ near (distance n v e) i limit (compared_with t) ∙ answer_is
 
-    pub answer_voice : le d limit ≡ true → N.Voice i d ≡ nearest_voice n v count e limit
-    answer_voice t = ap (N.Voice i) d-is ∙ near (distance n v e) i limit (compared_with t) ∙ answer_is
+  pub answer_nobody : le d limit ≡ false → nobody ≡ nearest_voice n v count e limit
+  answer_nobody t = far (distance n v e) i limit (compared_with t) ∙ answer_is
 
-    pub answer_nobody : le d limit ≡ false → N.Nobody ≡ nearest_voice n v count e limit
-    answer_nobody t = far (distance n v e) i limit (compared_with t) ∙ answer_is
+-- of those that are
+pub answer_refused :
+    (n : ℕ) (v : List ℕ) (count : ℕ) (e : List ℕ) (limit : Float) (r : Refusal) → number_of r ≡ voice_refusal n v count e limit
+    → Err (number_of r) ≡ nearest_voice n v count e limit
+unfolding nearest_voice
+answer_refused n v count e limit r h = ap Err h ∙ sym (taken_old _ _ _ (λ z. some_number r (h ∙ z)))

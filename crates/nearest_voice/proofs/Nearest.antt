@@ -1,6 +1,7 @@
 -- The nearest voice: `least` is the lowest index of least number (`least_lowest`, by induction over the indices); so of vectors that are not refused every other
 -- is at least as far as the one that is answered, and one of a lower index farther (`nearest_is`). What each answer says is `answer_meant`: where the nearest
 -- is not within the limit nobody is, and an infinite distance never is.
+use Rattle.std.specs.Prelude.{Err}
 use mathlib.Core.Path.{◌≡◌, refl, sym, ◌∙◌, subst}
 use mathlib.Core.Logic.{inl, inr}
 use mathlib.Core.Bool.{Bool, true, false, cond, false≢true}
@@ -12,8 +13,7 @@ use lib.ListN.{length}
 use lib.Ieee.{Float, lt, le}
 use Rattle.loops.proofs.Choose.{by-test}
 use Rattle.loops.specs.Refusal.{taken}
-use Rattle.nearest_voice.specs.declared.NearestVoice.TheVariants as N
-use Rattle.nearest_voice.specs.Voice.{distance, least, voice_refusal, within_limit, nearest_voice, Lowest, Meant}
+use Rattle.nearest_voice.specs.Voice.{distance, least, voice_refusal, voice, nobody, within_limit, nearest_voice, Lowest, Meant}
 use Rattle.nearest_voice.proofs.Refusals.{accepted}
 use Rattle.nearest_voice.proofs.Least.{row_in_lem, least_first, new_step, same_step}
 use Rattle.nearest_voice.proofs.Order.{signless, distance_signless, not-lt, lt-le, lt_then_le, le_self, le-le, near_finite}
@@ -94,13 +94,13 @@ module _ (n : ℕ) (v : List ℕ) (count : ℕ) (e : List ℕ) (limit : Float) w
       within_meant : Meant n v count e limit (within_limit (distance n v e) i limit)
       unfolding within_limit
       within_meant = by-test (le (distance n v e i) limit)
-          (λ t. subst (λ (b : Bool). Meant n v count e limit (cond b (N.Voice i (distance n v e i)) N.Nobody)) (sym t)
+          (λ t. subst (λ (b : Bool). Meant n v count e limit (cond b (voice i (distance n v e i)) nobody)) (sym t)
           (z, i-is, refl, near_finite (distance n v e i) limit nearest_signless (accepted n v count e limit refl z).limit_finite t, t))
-          (λ t. subst (λ (b : Bool). Meant n v count e limit (cond b (N.Voice i (distance n v e i)) N.Nobody)) (sym t)
+          (λ t. subst (λ (b : Bool). Meant n v count e limit (cond b (voice i (distance n v e i)) nobody)) (sym t)
           (z, λ j l. by-test (le (distance n v e j) limit) (λ u. absurd (false≢true (sym t ∙ so_nearest j l u))) (λ u. u)))
 
   judged : (r : ℕ) → r ≡ voice_refusal n v count e limit
-      → Meant n v count e limit (taken r (within_limit (distance n v e) (least (distance n v e) (count - 1)) limit) (N.Refused r))
+      → Meant n v count e limit (taken r (within_limit (distance n v e) (least (distance n v e) (count - 1)) limit) (Err r))
   judged zero h = within_meant (sym h) (least (distance n v e) (count - 1)) (nearest_is (sym h))
   judged (suc r) h = (h, λ x. absurd (omega (arith, x)))
 

@@ -1,24 +1,24 @@
 -- The test that code makes of an f32's bits, and what a list of bits that passes it gives.
-use mathlib.Core.Path.{◌≡◌, ap, ◌∙◌}
-use mathlib.Core.Bool.{true, false, not}
+use mathlib.Core.Path.{◌≡◌, refl, sym, ap, ◌∙◌}
+use mathlib.Core.Bool.{Bool, true, false, not}
 use mathlib.Core.List.{List}
 use Prim.Native.Nat.{ℕ, ◌/◌, ◌%◌, ◌<◌}
 use lib.ListN.{length, get_or}
-use lib.Dec.{T}
+use lib.Dec.{T, eqb}
 use lib.Ieee.{binary32, nan_bits}
 use lib.Ieee.Scale.{finite}
-use borrow.Author.Tests.{not-false, eq-eqb, ne_eqb}
+use borrow.Author.Tests.{not-false}
 use Rattle.loops.proofs.Tests.{none_at}
 use Rattle.floats.specs.Operators.{f32}
 use Rattle.floats.proofs.Finite.{finite-field, finite-pattern}
 use Rattle.nearest_voice.specs.Voice.{any_not_finite}
 
-module _ (b : ℕ) where
-  pub bits_bad : b % 2147483648 / 8388608 ≡ 255 → not (finite (f32 b)) ≡ true
-  bits_bad e = ap not (finite-field binary32 b ∙ ap not (eq-eqb _ _ e))
-
-  pub bits_good : (b % 2147483648 / 8388608 ≡ 255 → ⊥) → not (finite (f32 b)) ≡ false
-  bits_good e = ap not (finite-field binary32 b ∙ ap not (ne_eqb _ _ e))
+pub fault_is : (b : ℕ) → eqb (b % 2147483648 / 8388608) 255 ≡ not (finite (f32 b))
+fault_is b = sym (ap not (finite-field binary32 b) ∙ not-twice (eqb (b % 2147483648 / 8388608) 255))
+  where
+    not-twice : (t : Bool) → not (not t) ≡ t
+    not-twice true = refl
+    not-twice false = refl
 
 -- of a list without a fault, each is finite, and may become a float
 pub finite-at : (xs : List ℕ) (i : ℕ) → any_not_finite xs ≡ false → i < length xs → finite (f32 (get_or xs i 0)) ≡ true

@@ -4,13 +4,12 @@ use Rattle.std.specs.List.{zip, fold}
 use Rattle.std.proofs.lemmas.List.Folds.{fold-map}
 use mathlib.Core.Path.{◌≡◌, refl, sym, ap, ◌∙◌}
 use mathlib.Core.List.{List, [], ◌∷◌, foldl, map}
-use Prim.Native.Nat.{ℕ, zero, suc, ◌≤◌}
+use Prim.Native.Nat.{ℕ, zero, suc}
 use native.Mathlib.Omega.{arith}
 use lib.ListN.{length, get_or}
 use lib.Ieee.{Float, Format, nan, add, mul}
 use Rattle.loops.specs.Loop.{iter}
 use Rattle.loops.specs.Lists.{build}
-use Rattle.loops.proofs.Build.{map-build}
 use Rattle.loops.proofs.Folds.{iter_foldl}
 
 pub fold_is : {A B : Type 0} (f : B → A → B) (b : B) (xs : List A) → fold f b xs ≡ foldl f b xs

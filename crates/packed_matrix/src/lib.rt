@@ -25,7 +25,8 @@ pub fn packed_index(i: usize, j: usize) -> usize
     }
 }
 
-// Column i of the matrix: before the diagonal it is row i, which begins at `start`; below, each element stands a row further on.
+// Column i of the matrix: before the diagonal it is row i, which begins at `start`; below, each element stands a row further on. By index there: the places lie
+// ever further apart.
 pub fn column(a: &[f64], start: usize, i: usize, out: &mut [f64])
     requires { (start ≡ triangle i) × (i < length out.old) × (length out.old ≤ 65536) × (triangle (length out.old) ≤ length a.now) }
     ensures { out.new ≡ build (length out.old) (λ j. at a.now (packed j i)) }
@@ -48,7 +49,7 @@ pub struct Symmetric<'a> {
 }
 
 impl Symmetric<'_> {
-    // The matrix laid out square.
+    // The matrix laid out square, by index.
     pub fn lay_out(self, square: &mut [f64])
         requires few { self.n ≤ 65536 }
         requires room { length square.old ≡ self.n * self.n }
@@ -56,7 +57,7 @@ impl Symmetric<'_> {
     {
         let n = self.n;
         let mut start = 0;
-        // No `chunks_exact_mut`: the matrix may have no rows, and a part of no places is refused.
+        // By index, no `chunks_exact_mut`: the matrix may have no rows, and a part of no places is refused.
         for i in 0..n {
             let from = i * n;
             let end = from + n;
@@ -67,6 +68,8 @@ impl Symmetric<'_> {
 }
 
 // Four rows, each times its number, one after the other. By index: of what a loop over `iter_mut().zip` writes, an invariant names no element (tried).
+// Rows and numbers are arguments of their own, here and in `set_four`, and that each row is as long as the sums is a clause: a struct of a row and its number
+// would be made for these two functions alone, and a word for the clause would be no shorter.
 #[tactic(auto, using(loops::proofs::Fill::fills))]
 fn add_four(
     r0: &[f64],
@@ -108,7 +111,7 @@ fn set_four(
     }
 }
 
-// The first w numbers of row k of a table whose rows stand s apart.
+// The first w numbers of row k of a table whose rows stand s apart. By index: four rows in a pass begin where the last pass ended.
 fn row_at(table: &[f64], s: usize, w: usize, k: usize) -> &[f64]
     requires { k * s + w ≤ length table.now }
     ensures { (result.now ≡ table_row s w table.now k) × (length result.now ≡ w) }
@@ -118,7 +121,8 @@ fn row_at(table: &[f64], s: usize, w: usize, k: usize) -> &[f64]
     &table[start..end]
 }
 
-// The sums over the first four rows, or, where x has fewer numbers, over none; and over how many.
+// The sums over the first four rows, or, where x has fewer numbers, over none; and over how many. Here and below s goes beside the rows, which stand s apart
+// and have no length of their own: four at a time are cut out as they come.
 fn begin_sums(rows: &[f64], s: usize, x: &[f64], out: &mut [f64]) -> usize
     requires apart { length out.old ≤ s }
     requires rows_in { length x.now * s ≤ length rows.now }
@@ -139,7 +143,8 @@ fn begin_sums(rows: &[f64], s: usize, x: &[f64], out: &mut [f64]) -> usize
 }
 
 // As many numbers as the sums have of each row, where rows stand s apart, the row times its element of x, added up, four in a pass over the sums:
-// each sum is added in the order of the rows. Of a matrix that is laid out square, and of a vector, that is their product.
+// each sum is added in the order of the rows. Of a matrix that is laid out square, and of a vector, that is their product. Rows of s numbers, four at a time: s goes
+// beside them, as above.
 pub fn weighted_rows(rows: &[f64], s: usize, x: &[f64], out: &mut [f64])
     requires apart { length out.old ≤ s }
     requires rows_in { length x.now * s ≤ length rows.now }
@@ -147,7 +152,7 @@ pub fn weighted_rows(rows: &[f64], s: usize, x: &[f64], out: &mut [f64])
 {
     let w = out.len();
     let mut k = begin_sums(rows, s, x, out);
-    // No `for`: the last fewer than four rows begin where k is.
+    // No `for`: four at a time, and the last fewer than four rows begin where k is.
     while x.len() - k >= 4 {
         let r0 = row_at(rows, s, w, k);
         let r1 = row_at(rows, s, w, k + 1);
@@ -156,6 +161,7 @@ pub fn weighted_rows(rows: &[f64], s: usize, x: &[f64], out: &mut [f64])
         add_four(r0, r1, r2, r3, x[k], x[k + 1], x[k + 2], x[k + 3], out);
         k += 4;
     }
+    // by index: those that are left, each place that of a number and of a row
     for i in k..x.len() {
         let r = row_at(rows, s, w, i);
         add_scaled(x[i], r, out);

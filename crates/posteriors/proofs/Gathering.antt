@@ -8,7 +8,7 @@ use native.Mathlib.Omega.{arith}
 use borrow.Author.Count.{below_more}
 use lib.ListN.{length, get_or, take, drop}
 use lib.Seq.{take_all, take-nil, take-add}
-use lib.Ieee.{Float, nan, lt}
+use lib.Ieee.{Float, nan}
 use Rattle.loops.specs.Lists.{those}
 use Rattle.loops.proofs.Choose.{or_fails}
 use Rattle.loops.proofs.Build.{length_build, at_build}

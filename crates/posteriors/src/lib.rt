@@ -1,4 +1,7 @@
-// The posteriors of the most likely Gaussians, from the log-likelihoods of all.
+// The posteriors of the most likely Gaussians, from the log-likelihoods of all. The chosen and their posteriors go as `Chosen`; each function that is lent it
+// says by a word that its rooms are long enough, and by another that they are still those that were lent. In the struct's type these would be no plainer: a
+// ghost field beside a `&mut` is not covered. That `ln` is the logarithm of the floor is said where each is taken: a struct of the two would be made for that.
+// That at most num_gselect are held is one comparison of each count: a name for it would be no shorter.
 #![tactic(auto)]
 
 ghost use Rattle.std.specs.Prelude.{◌≡◌, IfSome, ◌||◌, true, false, List, [], ◌∷◌, ℕ, ◌+◌, ◌-◌, ◌*◌, ◌<◌, ◌≤◌, length, take, drop, if◌then◌else◌};
@@ -8,9 +11,13 @@ ghost use Rattle.loops.specs.Steps.{fill};
 ghost use Rattle.floats.specs.Operators.{◌*₃₂◌, f32, zero₃₂, at, sum₃₂};
 ghost use Rattle.floats.specs.Exp.{exp_of};
 ghost use Rattle.floats.specs.Ln.{ln_narrow};
-ghost use Rattle.definition.specs.Posteriors.{pruned, every, max_like, ranked, best_of, select_posteriors, nan_count};
+ghost use Rattle.definition.specs.Posteriors.{pruned, every, max_like, ranked, best_of, renormalised, nan_count};
 ghost use Rattle.leading.specs.Steps.{held};
-ghost use Rattle.posteriors.specs.Steps.{Fair, Next, passes, place_or, above as above_of, least, top, joined};
+ghost use Rattle.leading.specs.Rooms.{Places, SameChosen};
+ghost use Rattle.posteriors.specs.Rooms.{Selected};
+ghost use Rattle.posteriors.specs.Steps.{Next, passes, place_or, above as above_of, least, top, joined};
+
+use leading::Chosen;
 
 // The likelihood of a difference d from the largest log-likelihood; the largest itself has one of the two zeros.
 fn likelihood(d: f32) -> f32
@@ -60,6 +67,7 @@ fn next(cutoff: Option<f32>, g: usize, loglikes: &[f32]) -> Option<usize>
     let Some(cutoff) = cutoff else {
         return (g < loglikes.len()).then_some(g);
     };
+    // By index: the place is the answer.
     for k in skip(cutoff, g, loglikes)..loglikes.len() {
         if loglikes[k] > cutoff {
             return Some(k);
@@ -75,11 +83,12 @@ fn gather(
     max_like: f32,
     loglikes: &[f32],
     num_gselect: usize,
-    chosen: &mut [usize],
-    posts: &mut [f32],
+    chosen: &mut Chosen<'_>,
 ) -> usize
-    requires { (num_gselect ≤ length chosen.old) × (num_gselect ≤ length posts.old) }
-    ensures { (held result chosen.new posts.new ≡ ranked num_gselect max_like (those (λ p. passes cutoff p.1) (every loglikes.now))) × (result ≤ num_gselect) }
+    requires { Places num_gselect chosen.old }
+    ensures gathered { held result chosen.new.gauss.now chosen.new.posts.now ≡ ranked num_gselect max_like (those (λ p. passes cutoff p.1) (every loglikes.now)) }
+    ensures most { result ≤ num_gselect }
+    ensures loans { SameChosen chosen.old chosen.new }
 {
     let Some(first) = next(cutoff, 0, loglikes) else {
         return 0;
@@ -87,13 +96,14 @@ fn gather(
     let mut g = first;
     let mut p = likelihood(loglikes[g] - max_like);
     let mut n = 0;
+    // No `for`, which would be no plainer: a turn finds the next while it puts in the one before.
     while let Some(after) = next(cutoff, g + 1, loglikes) {
         let q = likelihood(loglikes[after] - max_like);
-        n = leading::insert(g, p, n, num_gselect, chosen, posts);
+        n = leading::insert(g, p, n, num_gselect, chosen);
         g = after;
         p = q;
     }
-    leading::insert(g, p, n, num_gselect, chosen, posts)
+    leading::insert(g, p, n, num_gselect, chosen)
 }
 
 // The larger of m and l; m, which is no NaN, where l is one.
@@ -106,7 +116,7 @@ fn above(m: f32, l: f32) -> f32
     m
 }
 
-// Part k of the parts that are h long.
+// Part k of the parts that are h long. By index, here and in `behind`: parts of no numbers are none to `chunks_exact`.
 fn part(h: usize, k: usize, loglikes: &[f32]) -> &[f32]
     requires { k * h + h ≤ length loglikes.now }
     ensures { (result.now ≡ take h (drop (k * h) loglikes.now)) × (length result.now ≡ h) }
@@ -125,7 +135,8 @@ fn behind(h: usize, loglikes: &[f32]) -> &[f32]
     &loglikes[start..]
 }
 
-// The largest of each of eight parts at once, so that no comparison waits for the last; then of those, in the order of the parts.
+// The largest of each of eight parts at once, so that no comparison waits for the last; then of those, in the order of the parts. Eight slices, and that each is
+// as long as the first: as an array of them they would be no plainer, since each has its own place in the order.
 fn eight(
     a: &[f32],
     b: &[f32],
@@ -198,21 +209,23 @@ fn best(
     num_gselect: usize,
     min_post: f32,
     ln: f32,
-    chosen: &mut [usize],
-    posts: &mut [f32],
+    chosen: &mut Chosen<'_>,
 ) -> usize
-    requires { (num_gselect ≤ length chosen.old) × (num_gselect ≤ length posts.old) × (ln ≡ ln_narrow min_post) }
-    ensures { (held result chosen.new posts.new ≡ best_of loglikes.now num_gselect min_post) × (result ≤ num_gselect) }
+    requires places { Places num_gselect chosen.old }
+    requires log { ln ≡ ln_narrow min_post }
+    ensures best { held result chosen.new.gauss.now chosen.new.posts.now ≡ best_of loglikes.now num_gselect min_post }
+    ensures most { result ≤ num_gselect }
+    ensures loans { SameChosen chosen.old chosen.new }
 {
     let max_like = largest(loglikes);
     if min_post != 0.0 {
         let cutoff = Some(max_like + ln);
-        let n = gather(cutoff, max_like, loglikes, num_gselect, chosen, posts);
+        let n = gather(cutoff, max_like, loglikes, num_gselect, chosen);
         if n > 0 {
             return n;
         }
     }
-    gather(None, max_like, loglikes, num_gselect, chosen, posts)
+    gather(None, max_like, loglikes, num_gselect, chosen)
 }
 
 fn total(posts: &[f32]) -> f32
@@ -228,13 +241,15 @@ struct Left {
     tot: f32,
 }
 
+// The last of the first n are left out while they are below the cutoff, and their total with them. The room goes with n, as in `renormalize`, which says why a
+// part of it is no plainer.
 fn prune(n: usize, posts: &[f32], cutoff: f32, tot: f32) -> Left
     requires { n ≤ length posts.now }
     ensures { ((chosen : List ℕ) → n ≤ length chosen → (result.count, result.tot) ≡ pruned (held n chosen posts.now) cutoff n tot) × (result.count ≤ n) }
 {
     let mut count = n;
     let mut left = tot;
-    // No `for`: how many are left is the answer.
+    // No `for`, which would be no plainer: how many are left is the answer.
     while count > 1 {
         let last = posts[count - 1];
         if last < cutoff {
@@ -247,14 +262,26 @@ fn prune(n: usize, posts: &[f32], cutoff: f32, tot: f32) -> Left
     Left { count, tot: left }
 }
 
-#[tactic(auto, using(loops::proofs::Loop::loops))]
-fn scale(v: f32, n: usize, posts: &mut [f32])
-    requires { n ≤ length posts.old }
-    ensures { posts.new ≡ fill n (λ k. at posts.old k *₃₂ v) posts.old }
+// All times v.
+fn scale(v: f32, posts: &mut [f32])
+    ensures { posts.new ≡ fill (length posts.old) (λ k. at posts.old k *₃₂ v) posts.old }
 {
-    for i in 0..n {
-        posts[i] *= v;
+    for p in posts.iter_mut() {
+        *p *= v;
     }
+}
+
+// Of the first n likelihoods those of at least min_post of their total, renormalised to one; the answer is how many they are. Here and above the room goes with
+// n: what is held in the first places of the whole is what is spoken of, and a part of it would be no plainer.
+fn renormalize(n: usize, min_post: f32, posts: &mut [f32]) -> usize
+    requires { n ≤ length posts.old }
+    ensures scaled { (chosen : List ℕ) → n ≤ length chosen → held result chosen posts.new ≡ renormalised min_post (held n chosen posts.old) }
+    ensures most { result ≤ n }
+{
+    let tot = total(&posts[..n]);
+    let left = prune(n, posts, min_post * tot, tot);
+    scale(1.0 / left.tot, &mut posts[..left.count]);
+    left.count
 }
 
 // The num_gselect most likely Gaussians as posteriors, pruned below min_post of the total, renormalised to one. The rooms hold as many as
@@ -264,17 +291,15 @@ fn select(
     num_gselect: usize,
     min_post: f32,
     ln: f32,
-    chosen: &mut [usize],
-    posts: &mut [f32],
+    chosen: &mut Chosen<'_>,
 ) -> usize
-    requires { (num_gselect ≤ length chosen.old) × (num_gselect ≤ length posts.old) × (ln ≡ ln_narrow min_post) }
-    ensures { (held result chosen.new posts.new ≡ select_posteriors loglikes.now num_gselect min_post) × (result ≤ num_gselect) × Fair (length loglikes.now) result chosen.new }
+    requires places { Places num_gselect chosen.old }
+    requires log { ln ≡ ln_narrow min_post }
+    ensures selected { Selected loglikes.now num_gselect min_post result chosen.new }
+    ensures loans { SameChosen chosen.old chosen.new }
 {
-    let n = best(loglikes, num_gselect, min_post, ln, chosen, posts);
-    let tot = total(&posts[..n]);
-    let left = prune(n, posts, min_post * tot, tot);
-    scale(1.0 / left.tot, left.count, posts);
-    left.count
+    let n = best(loglikes, num_gselect, min_post, ln, chosen);
+    renormalize(n, min_post, chosen.posts)
 }
 
 // How many of the log-likelihoods are NaN. One pass of its own with no branch in it, so that it is compiled to vector instructions. By index: with a
@@ -303,14 +328,15 @@ pub fn select_by(
     num_gselect: usize,
     min_post: f32,
     ln: f32,
-    chosen: &mut [usize],
-    posts: &mut [f32],
+    chosen: &mut Chosen<'_>,
 ) -> Selection
-    requires { (num_gselect ≤ length chosen.old) × (num_gselect ≤ length posts.old) × (ln ≡ ln_narrow min_post) }
-    ensures { (held result.count chosen.new posts.new ≡ select_posteriors loglikes.now num_gselect min_post) × (result.count ≤ num_gselect)
-        × Fair (length loglikes.now) result.count chosen.new × (result.nans ≡ nan_count loglikes.now) }
+    requires places { Places num_gselect chosen.old }
+    requires log { ln ≡ ln_narrow min_post }
+    ensures selected { Selected loglikes.now num_gselect min_post result.count chosen.new }
+    ensures nans { result.nans ≡ nan_count loglikes.now }
+    ensures loans { SameChosen chosen.old chosen.new }
 {
-    let count = select(loglikes, num_gselect, min_post, ln, chosen, posts);
+    let count = select(loglikes, num_gselect, min_post, ln, chosen);
     let nans = count_nans(loglikes);
     Selection { count, nans }
 }
@@ -320,13 +346,13 @@ pub fn select_posteriors(
     loglikes: &[f32],
     num_gselect: usize,
     min_post: f32,
-    chosen: &mut [usize],
-    posts: &mut [f32],
+    chosen: &mut Chosen<'_>,
 ) -> Selection
-    requires { (num_gselect ≤ length chosen.old) × (num_gselect ≤ length posts.old) }
-    ensures { (held result.count chosen.new posts.new ≡ select_posteriors loglikes.now num_gselect min_post) × (result.count ≤ num_gselect)
-        × Fair (length loglikes.now) result.count chosen.new × (result.nans ≡ nan_count loglikes.now) }
+    requires { Places num_gselect chosen.old }
+    ensures selected { Selected loglikes.now num_gselect min_post result.count chosen.new }
+    ensures nans { result.nans ≡ nan_count loglikes.now }
+    ensures loans { SameChosen chosen.old chosen.new }
 {
     let ln = floats::ln_f32(min_post);
-    select_by(loglikes, num_gselect, min_post, ln, chosen, posts)
+    select_by(loglikes, num_gselect, min_post, ln, chosen)
 }

@@ -1,4 +1,5 @@
 -- A fresh stream matches a fresh machine: `Inv` at the start.
+use Rattle.std.specs.Prelude.{Ok, Err}
 use mathlib.Core.Path.{◌≡◌, refl, ap, ap₂, ◌∙◌}
 use Prim.Native.Nat.{ℕ, zero, suc, ◌+◌, ◌≤◌, ◌<◌}
 use native.Mathlib.Nat.{zero-mul, one-mul, mul-le-mul_right, div-mul-le_self, zero-mod}
@@ -19,7 +20,6 @@ use Rattle.definition.specs.declared.IvectorInfo.{IvectorInfo}
 use Rattle.definition.specs.declared.StreamCall.{StreamCall}
 use Rattle.definition.specs.declared.EstimateLengths.{EstimateLengths}
 use Rattle.definition.specs.declared.RoomLengths.{RoomLengths}
-use Rattle.definition.specs.declared.NewStream.TheVariants as N
 use Rattle.definition.specs.Kaldi.{triangle}
 use Rattle.definition.specs.Model.{Tables, table_lengths_of, model_in}
 use Rattle.definition.specs.Statistics.{new_stats}
@@ -43,7 +43,7 @@ place-zero n w = rw (zero-mod (rows_in n w)) (zero-mul w)
 one-row : (n w : ℕ) → 1 ≤ rows_in n w → w ≤ n
 one-row n w h = omega (arith, div-mul-le_self n w, mul-le-mul_right w h, one-mul w)
 
-pub made-stream : (r : ℕ) (s s' : StreamCall) → taken r (N.Stream s) (N.Refused r) ≡ N.Stream s' → (r ≡ 0) × (s ≡ s')
+pub made-stream : (r : ℕ) (s s' : StreamCall) → taken r (Ok s) (Err r) ≡ Ok s' → (r ≡ 0) × (s ≡ s')
 made-stream zero s s' e = (refl, cc)
 made-stream (suc r) s s' e = let w : ◌≡◌ {A = ℕ} 0 1 = cc in absurd (omega arith)
 

@@ -1,5 +1,6 @@
 -- `keeps`: the program's answers to any list of calls on a fresh stream are the keeping machine's; `held_after`: what the program holds after it;
 -- `never-18`: none of them is 18.
+use Rattle.std.specs.Prelude.{Ok}
 use mathlib.Core.Path.{◌≡◌, sym, ap, ap₂, ◌∙◌}
 use Prim.Native.Nat.{ℕ, ◌-◌}
 use native.Mathlib.Omega.{arith}
@@ -10,7 +11,6 @@ use lib.Ieee.{Float}
 use Rattle.loops.specs.Lists.{any_of}
 use Rattle.definition.specs.declared.IvectorInfo.{IvectorInfo}
 use Rattle.definition.specs.declared.StreamCall.{StreamCall}
-use Rattle.definition.specs.declared.NewStream.TheVariants as N
 use Rattle.definition.specs.Model.{Tables, Model, table_lengths_of, model_in}
 use Rattle.definition.specs.Statistics.{new_stats}
 use Rattle.definition.specs.Stream.{new_refusal}
@@ -24,7 +24,7 @@ use Rattle.program.proofs.Sound.{stream_of, Made, Inv}
 use Rattle.program.proofs.Moves.{keeps_from, inv_after, history_is}
 use Rattle.program.proofs.Fresh.{made-stream, fresh_made, fresh_inv}
 
-module _ (i : IvectorInfo) (t : Tables) (z : Rooms) (n : ℕ) (c : StreamCall) (e : new_answer i (table_lengths_of t) (room_lengths_of z n) ≡ N.Stream c) where
+module _ (i : IvectorInfo) (t : Tables) (z : Rooms) (n : ℕ) (c : StreamCall) (e : new_answer i (table_lengths_of t) (room_lengths_of z n) ≡ Ok c) where
   abbrev M : Model
   M = model_in i t
 

@@ -1,6 +1,7 @@
 -- Request 10's example: a quiet frame's own view depends on the fetches before it. P9's model and options (`min_energy` 50), frames of c0 60 and 0.6:
 -- frame 1's view is -0.048 where frame 0 was fetched before, 0.1 where it was not. With 51 in the place of 0.6 both are 49.955. Computed from the
 -- definitions, on the program's rooms.
+use Rattle.std.specs.Prelude.{Ok}
 use mathlib.Core.Path.{◌≡◌, refl, sym, ap, ◌∙◌}
 use Prim.Native.Nat.{ℕ}
 use native.Mathlib.Omega.{arith}
@@ -9,7 +10,6 @@ use lib.ListN.{replicate, get_or}
 use lib.Ieee.{Float}
 use Rattle.floats.specs.Operators.{f32, as_f64, zero₃₂, zero₆₄}
 use Rattle.definition.specs.declared.IvectorInfo.{IvectorInfo}
-use Rattle.definition.specs.declared.NewStream.TheVariants as N
 use Rattle.definition.specs.Model.{Tables, Model, table_lengths_of}
 use Rattle.definition.specs.Machine.{Call, push, fetch, bits_of}
 use Rattle.definition.proofs.Computed.{computed}
@@ -33,7 +33,7 @@ t = M.tables
 abbrev room : Rooms
 room = rooms_from (rings_from (replicate 2 zero₃₂) (replicate 3 zero₆₄) (0 ∷ []) (zero₃₂ ∷ [])) (estimate_from (replicate 2 zero₆₄) (zero₆₄ ∷ []) (zero₆₄ ∷ []) (zero₆₄ ∷ []))
 
-pub made-there : new_answer i (table_lengths_of t) (room_lengths_of room 1) ≡ N.Stream (call_of 0 (fresh_stream i (room_lengths_of room 1)) 0 0)
+pub made-there : new_answer i (table_lengths_of t) (room_lengths_of room 1) ≡ Ok (call_of 0 (fresh_stream i (room_lengths_of room 1)) 0 0)
 unfolding computed new_answer fresh_stream answer_of
 made-there = refl
 

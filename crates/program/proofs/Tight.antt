@@ -1,6 +1,7 @@
 -- The rules of specs/Habit.antt are exact: contexts 1 and 1, window 2, utterances of 2 frames, each begun by a fetch of the last ready frame and a forget.
 -- With F = 2 + 1 + 1 = 4 and R = 4 + 2 = 6 every call is taken; with a frame less a push is 14, with a row less 15. Computed from the definitions, on
 -- the program's rooms.
+use Rattle.std.specs.Prelude.{Ok}
 use mathlib.Core.Path.{◌≡◌, refl}
 use mathlib.Core.Bool.{true}
 use Prim.Native.Nat.{ℕ}
@@ -8,7 +9,6 @@ use mathlib.Core.List.{List, [], ◌∷◌, map}
 use lib.ListN.{replicate}
 use Rattle.floats.specs.Operators.{f32, f64, as_f64, zero₃₂, zero₆₄, one₃₂}
 use Rattle.definition.specs.declared.IvectorInfo.{IvectorInfo}
-use Rattle.definition.specs.declared.NewStream.TheVariants as N
 use Rattle.definition.specs.Model.{Tables, tables_from, table_lengths_of}
 use Rattle.definition.specs.Machine.{Call, push, forget, fetch}
 use Rattle.definition.proofs.Computed.{computed}
@@ -54,7 +54,7 @@ abbrev calls : List Call
 calls = next ∷ next ∷ fetch 0 1 ∷ forget 2 ∷ next ∷ next ∷ fetch 2 1 ∷ forget 4 ∷ next ∷ next ∷ []
 
 abbrev Made : ℕ → ℕ → Type 0
-Made F R = new_answer i (table_lengths_of t) (room_lengths_of (room F R) 1) ≡ N.Stream (call_of 0 (fresh_stream i (room_lengths_of (room F R) 1)) 0 0)
+Made F R = new_answer i (table_lengths_of t) (room_lengths_of (room F R) 1) ≡ Ok (call_of 0 (fresh_stream i (room_lengths_of (room F R) 1)) 0 0)
 
 abbrev session : (F R : ℕ) → Made F R → Played i t
 session F R e = record { lent = room F R; scratch = 1; made = call_of 0 (fresh_stream i (room_lengths_of (room F R) 1)) 0 0; made_is = e; calls = calls }

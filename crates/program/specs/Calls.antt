@@ -1,6 +1,6 @@
 -- The calls on a stream as functions on values: the record, and what the lent rooms hold. Each call is here once: the contract of the code, that
 -- of the exported call and the claim over lists of calls cite it.
-use Rattle.std.specs.Prelude.{ℕ, ◌+◌, max, Bool, true, false, not, List, [], ◌∷◌, ◌++◌, length, take, replicate, eqb, leb, Float, if◌then◌else◌}
+use Rattle.std.specs.Prelude.{ℕ, ◌+◌, max, Bool, true, false, not, List, [], ◌∷◌, ◌++◌, length, take, replicate, eqb, leb, Float, if◌then◌else◌, Result, Ok, Err}
 use Rattle.loops.specs.Lists.{build, over}
 use Rattle.loops.specs.Refusal.{first_of, taken}
 use Rattle.loops.specs.Ring.{place, put}
@@ -9,8 +9,6 @@ use Rattle.definition.specs.declared.IvectorInfo.{IvectorInfo}
 use Rattle.definition.specs.declared.TableLengths.{TableLengths}
 use Rattle.definition.specs.declared.RoomLengths.{RoomLengths}
 use Rattle.definition.specs.declared.IvectorStream.{IvectorStream}
-use Rattle.definition.specs.declared.NewStream.{NewStream}
-use Rattle.definition.specs.declared.NewStream.TheVariants as N
 use Rattle.definition.specs.declared.StreamAnswer.{StreamAnswer}
 use Rattle.definition.specs.declared.StreamCall.{StreamCall}
 use Rattle.definition.specs.Model.{Tables, in_force, table_lengths_of, model_in}
@@ -64,8 +62,8 @@ unfoldable pub fresh_stream : IvectorInfo → RoomLengths → IvectorStream
 fresh_stream i z = stream_from i z 0 0 0 0 0 false false zero₆₄ 0 i.opts.cmn_window i.opts.cmn_window
 
 -- on tables and rooms of these lengths
-unfoldable pub new_answer : IvectorInfo → TableLengths → RoomLengths → NewStream
-new_answer i t z = let r = new_refusal i t z in taken r (N.Stream (call_of 0 (fresh_stream i z) 0 0)) (N.Refused r)
+unfoldable pub new_answer : IvectorInfo → TableLengths → RoomLengths → Result StreamCall ℕ
+new_answer i t z = let r = new_refusal i t z in taken r (Ok (call_of 0 (fresh_stream i z) 0 0)) (Err r)
 
 -- the rooms of a fresh stream: prefix row 0, the CMVN state, the statistics, the current vector
 unfoldable pub fresh_rooms : IvectorInfo → Rooms → Rooms

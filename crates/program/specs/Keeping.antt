@@ -1,11 +1,10 @@
 -- The claim over every list of calls: the program's answers are the keeping machine's, and what the program holds after any list.
-use Rattle.std.specs.Prelude.{◌≡◌, ℕ, ◌+◌, ◌-◌, ◌≤◌, ◌<◌, false, List, [], ◌∷◌, length, get_or, eqb, Float}
+use Rattle.std.specs.Prelude.{◌≡◌, ℕ, ◌+◌, ◌-◌, ◌≤◌, ◌<◌, false, List, [], ◌∷◌, length, get_or, eqb, Float, Ok}
 use Rattle.loops.specs.Lists.{any_of}
 use Rattle.loops.specs.Refusal.{taken}
 use Rattle.floats.specs.Operators.{zero₆₄, at, sum₆₄}
 use Rattle.definition.specs.declared.IvectorInfo.{IvectorInfo}
 use Rattle.definition.specs.declared.StreamCall.{StreamCall}
-use Rattle.definition.specs.declared.NewStream.TheVariants as N
 use Rattle.definition.specs.Model.{Tables, table_lengths_of, model_in}
 use Rattle.definition.specs.Machine.{Call, push, finish, change, forget, set_window, fetch, Answer, Machine, frames_held, fresh, told_by, machine_after, answers}
 use Rattle.program.specs.Rooms.{Rooms, ring_lengths_of, room_lengths_of, ring_at}
@@ -17,7 +16,7 @@ use Rattle.program.specs.Session.{Program, program, program_after, program_answe
 abbrev pub Keeps : Type 0
 Keeps =
     (i : IvectorInfo) (t : Tables) (z : Rooms) (n : ℕ) (c : StreamCall)
-    → new_answer i (table_lengths_of t) (room_lengths_of z n) ≡ N.Stream c
+    → new_answer i (table_lengths_of t) (room_lengths_of z n) ≡ Ok c
     → (cs : List Call)
     → let M = model_in i t in
     (c.answer ≡ told_by M 0 (fresh M) 0 0)
@@ -27,7 +26,7 @@ Keeps =
 abbrev pub Never18 : Type 0
 Never18 =
     (i : IvectorInfo) (t : Tables) (z : Rooms) (n : ℕ) (c : StreamCall)
-    → new_answer i (table_lengths_of t) (room_lengths_of z n) ≡ N.Stream c
+    → new_answer i (table_lengths_of t) (room_lengths_of z n) ≡ Ok c
     → (cs : List Call)
     → any_of (λ a. eqb a.told.refusal 18) (program_answers t n (program c.stream (fresh_rooms i z)) cs) ≡ false
 
@@ -62,7 +61,7 @@ pub record Holds (dim : ℕ) (p : Program) (took : List (List Float)) : Type 0 w
 abbrev pub HeldAfter : Type 0
 HeldAfter =
     (i : IvectorInfo) (t : Tables) (z : Rooms) (n : ℕ) (c : StreamCall)
-    → new_answer i (table_lengths_of t) (room_lengths_of z n) ≡ N.Stream c
+    → new_answer i (table_lengths_of t) (room_lengths_of z n) ≡ Ok c
     → (cs : List Call)
     → let M = model_in i t in
     let p = program c.stream (fresh_rooms i z) in

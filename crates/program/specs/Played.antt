@@ -1,9 +1,8 @@
 -- A stream from its making on: over a model's record and tables, in rooms of its own, with the calls that were played on it, refused ones among
 -- them. The theorems about single frames and about the rooms' lengths speak of any two, or of any one, of these.
-use Rattle.std.specs.Prelude.{◌≡◌, ℕ, List, Float}
+use Rattle.std.specs.Prelude.{◌≡◌, ℕ, List, Float, Ok}
 use Rattle.definition.specs.declared.IvectorInfo.{IvectorInfo}
 use Rattle.definition.specs.declared.StreamCall.{StreamCall}
-use Rattle.definition.specs.declared.NewStream.TheVariants as N
 use Rattle.definition.specs.Model.{Tables, table_lengths_of}
 use Rattle.definition.specs.Machine.{Call, Answer}
 use Rattle.program.specs.Rooms.{Rooms, room_lengths_of}
@@ -17,7 +16,7 @@ module _ (i : IvectorInfo) (t : Tables) where
     pub lent : Rooms
     pub scratch : ℕ
     pub made : StreamCall
-    pub made_is : new_answer i (table_lengths_of t) (room_lengths_of lent scratch) ≡ N.Stream made
+    pub made_is : new_answer i (table_lengths_of t) (room_lengths_of lent scratch) ≡ Ok made
     pub calls : List Call
 
   abbrev pub begun : Played → Program

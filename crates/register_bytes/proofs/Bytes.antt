@@ -1,15 +1,14 @@
 -- The block's bytes and bits: the interrupt, the flags of a call, and eleven stores that rewrite a block.
-use mathlib.Core.Path.{◌≡◌, refl, sym, ap, ◌∙◌}
-use mathlib.Core.Bool.{Bool, true, false, ◌&&◌, ◌||◌}
+use mathlib.Core.Path.{◌≡◌, refl, ap, ◌∙◌}
+use mathlib.Core.Bool.{Bool, true, false, ◌&&◌}
 use mathlib.Core.List.{List, [], ◌∷◌}
 use Prim.Native.Nat.{ℕ, zero, suc, ◌+◌, ◌*◌, ◌/◌, ◌%◌, ◌<◌}
 use native.Mathlib.Nat.{mod-add-div', add-mul-div_right, div-eq_of_lt}
 use Rattle.std.proofs.Math.Nat.{div-div-eq-div-mul}
 use mir.Val.{bool_byte}
 use native.Mathlib.Omega.{arith}
-use borrow.Author.Tests.{eq-eqb, ne_eqb}
-use Rattle.loops.proofs.Choose.{or_first, or_second, or_none, and_first}
-use Rattle.register_bytes.specs.Board.{byte, little_endian, bytes_of, bit, odd, interrupt_of, call_flags, rewritten}
+use borrow.Author.Tests.{ne_eqb}
+use Rattle.register_bytes.specs.Board.{byte, little_endian, bytes_of, bit, interrupt_of, call_flags, rewritten}
 
 -- ---- bits
 

@@ -1,6 +1,6 @@
 -- Request 11, a board with registers: sixteen bytes between a host and a stream.
 --   0 command   1 flags   2 mask   3 interrupt   4 to 7 frame number   8 to 11 frames held   12 refusal number   13 to 15 zero
-use Rattle.std.specs.Prelude.{◌≡◌, ◌↔◌, ℕ, zero, suc, ◌+◌, ◌*◌, ◌/◌, ◌%◌, Bool, true, not, ◌&&◌, ◌||◌, List, [], ◌∷◌, ◌++◌, length, get_or, drop, replicate, eqb, Float, if◌then◌else◌}
+use Rattle.std.specs.Prelude.{◌≡◌, ◌↔◌, ℕ, zero, suc, ◌+◌, ◌*◌, ◌/◌, ◌%◌, Bool, true, not, ◌&&◌, ◌||◌, List, [], ◌∷◌, ◌++◌, length, get_or, drop, replicate, eqb, Float, if◌then◌else◌, Ok}
 use Rattle.std.specs.Float.Ieee.Scale.{finite}
 use Rattle.loops.specs.Lists.{all_of, over}
 use Rattle.loops.specs.Refusal.{first_of, taken}
@@ -8,7 +8,6 @@ use Rattle.floats.specs.Operators.{zero₃₂}
 use Rattle.definition.specs.declared.IvectorInfo.{IvectorInfo}
 use Rattle.definition.specs.declared.IvectorStream.{IvectorStream}
 use Rattle.definition.specs.declared.StreamCall.{StreamCall}
-use Rattle.definition.specs.declared.NewStream.TheVariants as N
 use Rattle.definition.specs.Model.{Tables, table_lengths_of, model_in}
 use Rattle.definition.specs.Machine.{Call, push, finish, forget, fetch, Answer, answers, frames_held, bits_of}
 use Rattle.program.specs.Rooms.{Rings, Rooms, ring_lengths_of, room_lengths_of}
@@ -161,7 +160,7 @@ BoardKeeps =
 abbrev pub BoardMachine : Type 0
 BoardMachine =
     (i : IvectorInfo) (t : Tables) (z : Rooms) (n : ℕ) (c : StreamCall)
-    → new_answer i (table_lengths_of t) (room_lengths_of z n) ≡ N.Stream c
+    → new_answer i (table_lengths_of t) (room_lengths_of z n) ≡ Ok c
     → (hs : List HostStep)
     → board_vectors t n (program c.stream (fresh_rooms i z)) hs ≡ vectors_of hs (answers (model_in i t) (ring_lengths_of z.rings) (commands hs))
 

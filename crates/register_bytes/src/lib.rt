@@ -1,5 +1,6 @@
 //! The block of a board with registers, sixteen bytes: read, rewritten, and what it tells of a stream. In a crate of its own, below the step, so that
-//! a check of it stays short. What each byte is: specs/Board.antt.
+//! a check of it stays short. What each byte is: specs/Board.antt. A block goes as a slice, as C lends it, and each function asks that it has sixteen
+//! bytes; a bit of it is a `bool`, as the definition has it: an enum of two would be translated back in each clause.
 #![tactic(auto)]
 
 ghost use Rattle.std.specs.Prelude.{◌≡◌, ◌&&◌, ◌||◌, ◌/◌, ◌<◌, nat_eq, length};
@@ -11,7 +12,8 @@ use definition::{IvectorStream, LentFrames, LentWaiting, StreamAnswer};
 
 // ---- what a block asks for
 
-/// What byte 0 of a block asks for. A byte that is no command's asks for nothing.
+/// What byte 0 of a block asks for. A byte that is no command's asks for nothing. (With a value of its own for that: by an `Option` the match of a step
+/// is no plainer, since it has as many arms, each but one in a `Some`.)
 #[derive(Clone, Copy, Debug, PartialEq, Eq)]
 pub enum Command {
     Push,
@@ -47,6 +49,7 @@ pub fn frame_number(block: &[u8]) -> usize
 
 // ---- what a block tells
 
+// Whether bit 0 is 1 in both bytes: no comparison of the two, and plainer with a name than three times over.
 fn both_odd(a: u8, b: u8) -> bool
     ensures { result ≡ (odd a && odd b) }
 {
@@ -63,7 +66,7 @@ fn interrupt(flags: u8, mask: u8) -> u8
     )
 }
 
-// Bits 0 and 1 after a command: whether it was a fetch, and its refusal number.
+// Bits 0 and 1 after a command: whether it was a fetch, and its refusal number, as the definition has them.
 #[tactic(auto, unfolding(crate::specs::Board::call_flags))]
 fn call_flags(fetch: bool, refusal: usize) -> u8
     ensures flags { result ≡ call_flags fetch refusal }
@@ -72,7 +75,7 @@ fn call_flags(fetch: bool, refusal: usize) -> u8
     if refusal == 0 { u8::from(fetch) } else { 2 }
 }
 
-// The bytes that a step rewrites.
+// The bytes that a step rewrites. `room` is a bit of them, as the definition has it.
 #[tactic(auto, unfolding(crate::specs::Board::rewritten, crate::specs::Board::bytes_of))]
 fn rewrite(block: &mut [u8], low: u8, number: u8, held: usize, room: bool)
     requires long { length block.old ≡ 16 }
@@ -111,14 +114,8 @@ fn push_room(s: &IvectorStream, frames: LentFrames<'_>, waiting: LentWaiting<'_>
     ensures held { result.0 ≡ held_count s.now (rings_in frames.entry waiting.entry) }
     ensures room { result.1 ≡ room_for_push s.now (rings_in frames.entry waiting.entry) }
 {
-    let c = ivector_stream::set_input_finished(
-        *s,
-        frames.frames,
-        frames.rows,
-        waiting.frames,
-        waiting.weights,
-    );
-    let a = c.answer;
+    let a = ivector_stream::set_input_finished(*s, frames, waiting).answer;
+    // by number, as the answer has it for C
     if a.refusal != 0 {
         return (0, false);
     }
@@ -146,7 +143,8 @@ pub fn settle(
     rewrite(block, low, number, held, room);
 }
 
-/// Rewrites the block after a command, s being the record that its call left and the number its refusal's.
+/// Rewrites the block after a command, s being the record that its call left and the number its refusal's: as C gets it, and byte 12 tells it. `fetch` is
+/// bit 0 of a command that is taken.
 pub fn told(
     fetch: bool,
     refusal: usize,

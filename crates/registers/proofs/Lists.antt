@@ -17,7 +17,8 @@ use Rattle.definition.specs.Machine.{Call, push, finish, forget, fetch, bits_of}
 use Rattle.program.specs.Calls.{Step, fresh_rooms}
 use Rattle.program.specs.Session.{Program, program, stepped, reply, step_of, program_after, program_answers}
 use Rattle.program.proofs.Keeps.{keeps}
-use Rattle.register_bytes.specs.Board.{byte, frame_number, bit, held_count, room_for_push, command_of, call_flags, rewritten, Board, settled, block_refusal, performed, board_step, HostStep, lent_to, calls_of, commands, buffer_of, vectors_of, board_after, board_vectors, BoardKeeps, RoomExact, BoardMachine}
+use Rattle.register_bytes.specs.Board.{byte, frame_number, bit, held_count, room_for_push, command_of, call_flags, rewritten, Board, settled, block_refusal, performed, board_step}
+use Rattle.register_bytes.specs.Board.{HostStep, lent_to, calls_of, commands, buffer_of, vectors_of, board_after, board_vectors, BoardKeeps, RoomExact, BoardMachine}
 use Rattle.register_bytes.proofs.Bytes.{flags_low, third-bit}
 use Rattle.register_bytes.proofs.Room.{room_taken, taken_room}
 

@@ -1,12 +1,18 @@
 // The calls of the library: each is lent the fronts of the program's rooms that the script wants.
 use super::rooms::{Lengths, Rooms, Tables};
 use definition::{
-    IvectorInfo, IvectorOptions, IvectorStream, Loaded, NewStream, Refusal, StreamCall,
+    FrameRooms, IvectorInfo, IvectorOptions, IvectorStream, LentEstimate, LentFrames, LentWaiting,
+    Refusal, StreamCall, WaitingRooms,
 };
 use script::{Files, front, lend};
 
 impl Tables {
-    pub(crate) fn load(&mut self, z: &Lengths, opts: IvectorOptions, files: Files<'_>) -> Loaded {
+    pub(crate) fn load(
+        &mut self,
+        z: &Lengths,
+        opts: IvectorOptions,
+        files: Files<'_>,
+    ) -> Result<IvectorInfo, Refusal> {
         ivector_info::load(
             opts,
             files.gmm,
@@ -32,39 +38,38 @@ impl Rooms {
         z: &Lengths,
         tables: &Tables,
         info: IvectorInfo,
-    ) -> NewStream {
-        let t = tables.lent(z);
+    ) -> Result<StreamCall, Refusal> {
+        let waiting = LentWaiting {
+            frames: front(&self.waiting_frames, z.0[10]),
+            weights: front(&self.waiting_weights, z.0[11]),
+        };
+        let mut estimate = LentEstimate {
+            cmvn_stats: lend(&mut self.cmvn_stats, z.0[12]),
+            linear: lend(&mut self.linear, z.0[13]),
+            quadratic: lend(&mut self.quadratic, z.0[14]),
+            current: lend(&mut self.current, z.0[15]),
+        };
         ivector_stream::new(
             info,
-            t.gconsts,
-            t.means_invvars_t,
-            t.inv_vars_t,
-            t.sigma_inv_m,
-            t.u,
-            t.lda_t,
-            t.lda_offset,
-            t.global_mean_stats,
+            tables.lent(z),
             front(&self.frames, z.0[8]),
             lend(&mut self.rows, z.0[9]),
-            front(&self.waiting_frames, z.0[10]),
-            front(&self.waiting_weights, z.0[11]),
-            lend(&mut self.cmvn_stats, z.0[12]),
-            lend(&mut self.linear, z.0[13]),
-            lend(&mut self.quadratic, z.0[14]),
-            lend(&mut self.current, z.0[15]),
+            waiting,
+            &mut estimate,
             front(&self.scratch, z.0[16]),
         )
     }
 
     pub(crate) fn push(&mut self, z: &Lengths, s: IvectorStream, frame: &[f32]) -> StreamCall {
-        ivector_stream::push_frame(
-            s,
-            frame,
-            lend(&mut self.frames, z.0[8]),
-            lend(&mut self.rows, z.0[9]),
-            front(&self.waiting_frames, z.0[10]),
-            front(&self.waiting_weights, z.0[11]),
-        )
+        let waiting = LentWaiting {
+            frames: front(&self.waiting_frames, z.0[10]),
+            weights: front(&self.waiting_weights, z.0[11]),
+        };
+        let mut held = FrameRooms {
+            frames: lend(&mut self.frames, z.0[8]),
+            rows: lend(&mut self.rows, z.0[9]),
+        };
+        ivector_stream::push_frame(s, frame, &mut held, waiting)
     }
 
     pub(crate) fn change(
@@ -74,33 +79,27 @@ impl Rooms {
         frames: &[usize],
         weights: &[f32],
     ) -> StreamCall {
-        ivector_stream::update_frame_weights(
-            s,
-            frames,
-            weights,
-            front(&self.frames, z.0[8]),
-            front(&self.rows, z.0[9]),
-            lend(&mut self.waiting_frames, z.0[10]),
-            lend(&mut self.waiting_weights, z.0[11]),
-        )
+        let held = LentFrames {
+            frames: front(&self.frames, z.0[8]),
+            rows: front(&self.rows, z.0[9]),
+        };
+        let mut waiting = WaitingRooms {
+            frames: lend(&mut self.waiting_frames, z.0[10]),
+            weights: lend(&mut self.waiting_weights, z.0[11]),
+        };
+        ivector_stream::update_frame_weights(s, frames, weights, held, &mut waiting)
     }
 
     pub(crate) fn finish(&self, z: &Lengths, s: IvectorStream) -> StreamCall {
-        let f = self.lent_frames(z);
-        let w = self.lent_waiting(z);
-        ivector_stream::set_input_finished(s, f.frames, f.rows, w.frames, w.weights)
+        ivector_stream::set_input_finished(s, self.lent_frames(z), self.lent_waiting(z))
     }
 
     pub(crate) fn set_window(&self, z: &Lengths, s: IvectorStream, window: usize) -> StreamCall {
-        let f = self.lent_frames(z);
-        let w = self.lent_waiting(z);
-        ivector_stream::set_cmn_window(s, window, f.frames, f.rows, w.frames, w.weights)
+        ivector_stream::set_cmn_window(s, window, self.lent_frames(z), self.lent_waiting(z))
     }
 
     pub(crate) fn forget(&self, z: &Lengths, s: IvectorStream, frame: usize) -> StreamCall {
-        let f = self.lent_frames(z);
-        let w = self.lent_waiting(z);
-        ivector_stream::forget_before(s, frame, f.frames, f.rows, w.frames, w.weights)
+        ivector_stream::forget_before(s, frame, self.lent_frames(z), self.lent_waiting(z))
     }
 
     pub(crate) fn fetch(
@@ -111,27 +110,29 @@ impl Rooms {
         frame: usize,
         out: &mut [u32],
     ) -> StreamCall {
-        let t = tables.lent(z);
+        let held = LentFrames {
+            frames: front(&self.frames, z.0[8]),
+            rows: front(&self.rows, z.0[9]),
+        };
+        let mut waiting = WaitingRooms {
+            frames: lend(&mut self.waiting_frames, z.0[10]),
+            weights: lend(&mut self.waiting_weights, z.0[11]),
+        };
+        let mut estimate = LentEstimate {
+            cmvn_stats: lend(&mut self.cmvn_stats, z.0[12]),
+            linear: lend(&mut self.linear, z.0[13]),
+            quadratic: lend(&mut self.quadratic, z.0[14]),
+            current: lend(&mut self.current, z.0[15]),
+        };
+        let scratch = lend(&mut self.scratch, z.0[16]);
         ivector_fetch::get_frame(
             s,
             frame,
-            t.gconsts,
-            t.means_invvars_t,
-            t.inv_vars_t,
-            t.sigma_inv_m,
-            t.u,
-            t.lda_t,
-            t.lda_offset,
-            t.global_mean_stats,
-            front(&self.frames, z.0[8]),
-            front(&self.rows, z.0[9]),
-            lend(&mut self.waiting_frames, z.0[10]),
-            lend(&mut self.waiting_weights, z.0[11]),
-            lend(&mut self.cmvn_stats, z.0[12]),
-            lend(&mut self.linear, z.0[13]),
-            lend(&mut self.quadratic, z.0[14]),
-            lend(&mut self.current, z.0[15]),
-            lend(&mut self.scratch, z.0[16]),
+            tables.lent(z),
+            held,
+            &mut waiting,
+            &mut estimate,
+            scratch,
             out,
         )
     }
@@ -145,20 +146,30 @@ impl Rooms {
         frame: &[f32],
         out: &mut [u32],
     ) -> Result<(), Refusal> {
+        let mut held = FrameRooms {
+            frames: lend(&mut self.frames, z.0[8]),
+            rows: lend(&mut self.rows, z.0[9]),
+        };
+        let mut waiting = WaitingRooms {
+            frames: lend(&mut self.waiting_frames, z.0[10]),
+            weights: lend(&mut self.waiting_weights, z.0[11]),
+        };
+        let mut estimate = LentEstimate {
+            cmvn_stats: lend(&mut self.cmvn_stats, z.0[12]),
+            linear: lend(&mut self.linear, z.0[13]),
+            quadratic: lend(&mut self.quadratic, z.0[14]),
+            current: lend(&mut self.current, z.0[15]),
+        };
+        let scratch = lend(&mut self.scratch, z.0[16]);
         registers::step(
             s,
             block,
             frame,
             tables.lent(z),
-            lend(&mut self.frames, z.0[8]),
-            lend(&mut self.rows, z.0[9]),
-            lend(&mut self.waiting_frames, z.0[10]),
-            lend(&mut self.waiting_weights, z.0[11]),
-            lend(&mut self.cmvn_stats, z.0[12]),
-            lend(&mut self.linear, z.0[13]),
-            lend(&mut self.quadratic, z.0[14]),
-            lend(&mut self.current, z.0[15]),
-            lend(&mut self.scratch, z.0[16]),
+            &mut held,
+            &mut waiting,
+            &mut estimate,
+            scratch,
             out,
         )
     }

@@ -1,4 +1,5 @@
-// The lines that forge what the next call is told: a length, a field of the record, the waiting frames.
+// The lines that forge what the next call is told: a length, a field of the record, the waiting frames. Each of these writes one field of what stands, by the
+// name that a script has for it: another record in its place is no plainer.
 use super::session::Session;
 use definition::{IvectorInfo, IvectorStream};
 use script::{Held, Words};

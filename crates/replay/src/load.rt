@@ -1,7 +1,8 @@
 // A model's files, as the text has them, and the dimensions of their model.
-use definition::Dimensions;
-use kaldi_files::{Extractor, Gmm};
-use kaldi_io::Matrix;
+use definition::{Dimensions, Refusal};
+use kaldi_files::checks::{check_extractor, check_gmm, check_lda};
+use kaldi_io::reader::KaldiReader;
+use kaldi_text::check_cmvn;
 use script::{Files, Words};
 use std::alloc::{AllocError, Global};
 
@@ -36,53 +37,22 @@ pub(crate) fn file_bytes(texts: Files<'_>) -> usize {
     )
 }
 
+fn read_dimensions(files: Files<'_>) -> Result<Dimensions, Refusal> {
+    let gmm = check_gmm(&mut KaldiReader::new(files.gmm))?;
+    let extractor = check_extractor(&mut KaldiReader::new(files.extractor))?;
+    let lda = check_lda(&mut KaldiReader::new(files.lda))?;
+    let row = check_cmvn(files.cmvn)?;
+    Ok(Dimensions {
+        num_gauss: gmm.inv_vars.rows,
+        ext_gauss: extractor.num_gauss,
+        feat_dim: gmm.inv_vars.cols,
+        ivector_dim: extractor.ivector_dim,
+        base_dim: row.len.saturating_sub(1),
+        lda_cols: lda.cols,
+    })
+}
+
 /// The dimensions of a model whose four files are in order; 0 each for another.
 pub(crate) fn dimensions(files: Files<'_>) -> Dimensions {
-    let Gmm::Is {
-        num_gauss,
-        dim,
-        weights: _,
-        weights_double: _,
-        means_invvars: _,
-        means_double: _,
-        inv_vars: _,
-        vars_double: _,
-        next: _,
-    } = kaldi_files::check_gmm(files.gmm)
-    else {
-        return Dimensions::default();
-    };
-    let Extractor::Is {
-        num_gauss: ext_gauss,
-        feat_dim: _,
-        ivector_dim,
-        m: _,
-        sigma_inv: _,
-        prior_offset: _,
-        next: _,
-    } = kaldi_files::check_extractor(files.extractor)
-    else {
-        return Dimensions::default();
-    };
-    let Matrix::Is {
-        rows: _,
-        cols,
-        double: _,
-        from: _,
-        next: _,
-    } = kaldi_files::check_lda(files.lda)
-    else {
-        return Dimensions::default();
-    };
-    let Ok(row) = kaldi_text::check_cmvn(files.cmvn) else {
-        return Dimensions::default();
-    };
-    Dimensions {
-        num_gauss,
-        ext_gauss,
-        feat_dim: dim,
-        ivector_dim,
-        base_dim: row.len.saturating_sub(1),
-        lda_cols: cols,
-    }
+    read_dimensions(files).unwrap_or_default()
 }

@@ -71,7 +71,7 @@ impl Lengths {
 
     /// The lengths of some rooms, moved by a number each.
     pub(crate) fn read(&mut self, words: &mut Words<'_>, from: usize, to: usize) {
-        // by index: a script names its rooms by their numbers
+        // by index: `move_by` takes a room by its number, as a script names it, and a chain over the lengths would move them a second way
         for room in from..to {
             let by = words.signed();
             self.move_by(room, by);

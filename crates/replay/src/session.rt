@@ -1,7 +1,9 @@
-// What stands between two lines of a script, and what a line does.
+// What stands between two lines of a script, and what a line does. A line is known by its letter: an enum of the letters, matched once more in each of these
+// functions, is no plainer.
 use super::load::{FILE_BYTES, dimensions, file, file_bytes};
 use super::rooms::{Lengths, Rooms, Tables};
-use definition::{IvectorOptions, IvectorStream, Loaded, NewStream, StreamCall};
+use definition::{IvectorOptions, IvectorStream, Refusal, StreamCall};
+use register_bytes::Command;
 use script::{
     Files, Held, Item, NO_FILES, Words, front, lend, not_here, print, print_answer, print_list,
 };
@@ -60,7 +62,7 @@ impl<'a> Session<'a> {
         self.hold(CLOSED);
     }
 
-    /// This is open, and nothing forged.
+    /// This is open, and nothing forged. The rooms stay, so another session in place of this one would be no plainer.
     fn hold(&mut self, open: Open) {
         self.open = open;
         self.told = open;
@@ -138,15 +140,16 @@ impl<'a> Session<'a> {
         let fits = lengths.fit(0, 8);
         let loaded = self.tables.load(&lengths, self.opts, files);
         match loaded {
-            Loaded::Model(info) if fits => {
+            Ok(info) if fits => {
                 writeln!(writer, "0")?;
                 self.hold(Open {
                     held: Held::Model(info),
                     lengths,
                 });
             }
-            Loaded::Refused(n) if fits || n != 8 => {
-                writeln!(writer, "{n}")?;
+            Err(refusal) if fits || refusal != Refusal::ShortRoom => {
+                let number = refusal.number();
+                writeln!(writer, "{number}")?;
                 self.hold_in_place(Held::Nothing);
             }
             _ => {
@@ -157,7 +160,7 @@ impl<'a> Session<'a> {
         Ok(())
     }
 
-    /// `k`
+    /// `k`. The tables are printed by their bits, which no `Display` has: one around them would be no plainer.
     fn print_tables(&self, writer: &mut impl Write) -> io::Result<()> {
         let Some(info) = self.open.held.model() else {
             return not_here(writer);
@@ -198,7 +201,7 @@ impl<'a> Session<'a> {
             return Ok(());
         }
         match self.rooms.new_stream(&lengths, &self.tables, info) {
-            NewStream::Stream(call) => {
+            Ok(call) => {
                 print_answer(writer, call.answer)?;
                 writeln!(writer)?;
                 self.hold(Open {
@@ -206,8 +209,9 @@ impl<'a> Session<'a> {
                     lengths,
                 });
             }
-            NewStream::Refused(n) => {
-                writeln!(writer, "{n}")?;
+            Err(refusal) => {
+                let number = refusal.number();
+                writeln!(writer, "{number}")?;
                 self.close_stream();
             }
         }
@@ -319,7 +323,7 @@ impl<'a> Session<'a> {
         let frame = words.list(&mut frame);
         let mut block = [0u8; 64];
         let n = words.bytes(&mut block).len();
-        let command = block[0];
+        let command = Command::from(block[0]);
         let mut out = [0u32; 160];
         let mut stream = s;
         let done = self.rooms.step(
@@ -340,7 +344,7 @@ impl<'a> Session<'a> {
         for byte in block {
             write!(writer, "{byte:02x}")?;
         }
-        if command == 4 && script::byte_at(block, 1) % 2 == 1 {
+        if matches!(command, Command::Fetch) && script::byte_at(block, 1) % 2 == 1 {
             print_list(writer, front(&out, m))?;
         }
         writeln!(writer)?;

@@ -3,8 +3,8 @@ use super::rooms::{Rooms, Tables};
 use super::round::Asked;
 use super::session::Session;
 use definition::{
-    EstimateLengths, IvectorInfo, IvectorOptions, IvectorStream, Loaded, NewStream, RingLengths,
-    SilenceWeighting, StreamCall,
+    EstimateLengths, FrameRooms, IvectorInfo, IvectorOptions, IvectorStream, LentEstimate,
+    LentWaiting, Refusal, RingLengths, SilenceWeighting, StreamCall, WaitingRooms,
 };
 use script::{Files, Words, front, lend};
 use silence_weighting::SilenceRooms;
@@ -18,7 +18,11 @@ pub(crate) fn estimate_lengths(info: IvectorInfo) -> EstimateLengths {
 
 impl Tables {
     /// The tables are lent whole.
-    pub(crate) fn load(&mut self, opts: IvectorOptions, files: Files<'_>) -> Loaded {
+    pub(crate) fn load(
+        &mut self,
+        opts: IvectorOptions,
+        files: Files<'_>,
+    ) -> Result<IvectorInfo, Refusal> {
         let mut gmm = [0u8; 1024];
         let mut extractor = [0u8; 1024];
         let mut lda = [0u8; 1024];
@@ -57,42 +61,36 @@ impl Rooms {
         tables: &Tables,
         info: IvectorInfo,
         z: RingLengths,
-    ) -> NewStream {
-        let t = tables.lent();
+    ) -> Result<StreamCall, Refusal> {
+        let waiting = LentWaiting {
+            frames: front(&self.waiting_frames, z.waiting_frames),
+            weights: front(&self.waiting_weights, z.waiting_weights),
+        };
+        let mut estimate = LentEstimate {
+            cmvn_stats: &mut self.cmvn_stats,
+            linear: &mut self.linear,
+            quadratic: &mut self.quadratic,
+            current: &mut self.current,
+        };
         ivector_stream::new(
             info,
-            t.gconsts,
-            t.means_invvars_t,
-            t.inv_vars_t,
-            t.sigma_inv_m,
-            t.u,
-            t.lda_t,
-            t.lda_offset,
-            t.global_mean_stats,
+            tables.lent(),
             front(&self.frames, z.frames),
             lend(&mut self.rows, z.rows),
-            front(&self.waiting_frames, z.waiting_frames),
-            front(&self.waiting_weights, z.waiting_weights),
-            &mut self.cmvn_stats,
-            &mut self.linear,
-            &mut self.quadratic,
-            &mut self.current,
+            waiting,
+            &mut estimate,
             &self.scratch,
         )
     }
 
     pub(crate) fn finish(&self, s: IvectorStream) -> StreamCall {
         let z = s.lengths.rings;
-        let f = self.lent_frames(z);
-        let w = self.lent_waiting(z);
-        ivector_stream::set_input_finished(s, f.frames, f.rows, w.frames, w.weights)
+        ivector_stream::set_input_finished(s, self.lent_frames(z), self.lent_waiting(z))
     }
 
     pub(crate) fn forget(&self, s: IvectorStream, frame: usize) -> StreamCall {
         let z = s.lengths.rings;
-        let f = self.lent_frames(z);
-        let w = self.lent_waiting(z);
-        ivector_stream::forget_before(s, frame, f.frames, f.rows, w.frames, w.weights)
+        ivector_stream::forget_before(s, frame, self.lent_frames(z), self.lent_waiting(z))
     }
 }
 
@@ -105,46 +103,41 @@ impl<'a> Session<'a> {
         asked: Asked<'_>,
     ) -> TriggerRound {
         let Asked {
-            start,
-            numbers,
-            path,
+            utterance,
             delta_frames,
             delta_weights,
             out,
             voices,
-            enrolled,
-            limit,
         } = asked;
         let known_phones = self.table.map_or(0, |t| t.phones);
         let z = s.lengths.rings;
-        let t = self.tables.lent();
         let mut table_rooms = SilenceRooms {
             known: lend(&mut self.silence.known, silence.table),
             is_silence: lend(&mut self.silence.is_silence, silence.table),
             current_weight: lend(&mut self.silence.current_weight, silence.table),
         };
+        let mut held = FrameRooms {
+            frames: lend(&mut self.rooms.frames, z.frames),
+            rows: lend(&mut self.rooms.rows, z.rows),
+        };
+        let mut waiting = WaitingRooms {
+            frames: lend(&mut self.rooms.waiting_frames, z.waiting_frames),
+            weights: lend(&mut self.rooms.waiting_weights, z.waiting_weights),
+        };
+        let mut estimate = LentEstimate {
+            cmvn_stats: &mut self.rooms.cmvn_stats,
+            linear: &mut self.rooms.linear,
+            quadratic: &mut self.rooms.quadratic,
+            current: &mut self.rooms.current,
+        };
         trigger::round(
             s,
             silence,
-            start,
-            numbers,
-            path,
-            t.gconsts,
-            t.means_invvars_t,
-            t.inv_vars_t,
-            t.sigma_inv_m,
-            t.u,
-            t.lda_t,
-            t.lda_offset,
-            t.global_mean_stats,
-            lend(&mut self.rooms.frames, z.frames),
-            lend(&mut self.rooms.rows, z.rows),
-            lend(&mut self.rooms.waiting_frames, z.waiting_frames),
-            lend(&mut self.rooms.waiting_weights, z.waiting_weights),
-            &mut self.rooms.cmvn_stats,
-            &mut self.rooms.linear,
-            &mut self.rooms.quadratic,
-            &mut self.rooms.current,
+            utterance,
+            self.tables.lent(),
+            &mut held,
+            &mut waiting,
+            &mut estimate,
             &mut self.rooms.scratch,
             front(&self.silence.phones, known_phones),
             &mut table_rooms,
@@ -152,8 +145,6 @@ impl<'a> Session<'a> {
             delta_weights,
             out,
             voices,
-            enrolled,
-            limit,
         )
     }
 }

@@ -1,48 +1,46 @@
-// The line of a round.
+// The line of a round. What these functions print is words and numbers on one line, of lists beside the result: a `Display` would be no plainer.
 use super::session::{Session, print_changes};
 use script::{Held, Item, Words, front, lend, not_here, print, print_list};
 use silence_weighting::LentPath;
 use std::io::{self, Write};
-use trigger_steps::RoundResult;
+use trigger::{LentUtterance, LentVoices};
+use trigger_steps::{Halt, RoundEnd};
 
 /// What a line asks of a round: an utterance, the rooms for changes and a vector, the voices that are known, and how far one may be.
 #[derive(Drop)]
 pub(crate) struct Asked<'a> {
-    pub(crate) start: usize,
-    pub(crate) numbers: &'a [f32],
-    pub(crate) path: LentPath<'a>,
+    pub(crate) utterance: LentUtterance<'a>,
     pub(crate) delta_frames: &'a mut [usize],
     pub(crate) delta_weights: &'a mut [f32],
     pub(crate) out: &'a mut [u32],
-    pub(crate) voices: usize,
-    pub(crate) enrolled: &'a [u32],
-    pub(crate) limit: f32,
+    pub(crate) voices: LentVoices<'a>,
 }
 
 /// How a round ended; the changes that were given, where the fourth step was done; the vector, where the sixth was.
 fn print_round(
     writer: &mut impl Write,
-    end: RoundResult,
+    end: Result<RoundEnd, Halt>,
     n: usize,
     frames: &[usize],
     weights: &[f32],
     vector: &[u32],
 ) -> io::Result<()> {
     let last_step = match end {
-        RoundResult::Voice { index, distance } => {
+        Ok(RoundEnd::Full(Some(voice))) => {
+            let index = voice.index;
             write!(writer, "4 {index}")?;
-            print(writer, distance)?;
+            print(writer, voice.distance)?;
             7
         }
-        RoundResult::Nobody => {
+        Ok(RoundEnd::Full(None)) => {
             write!(writer, "3")?;
             7
         }
-        RoundResult::NoVector => {
+        Ok(RoundEnd::NoVector) => {
             write!(writer, "2")?;
             5
         }
-        RoundResult::Refused { refusal, step } => {
+        Err(Halt { refusal, step }) => {
             write!(writer, "1 {refusal} {step}")?;
             step
         }
@@ -92,19 +90,23 @@ impl<'a> Session<'a> {
             stream,
             silence,
             Asked {
-                start,
-                numbers,
-                path: LentPath {
-                    phones,
-                    starts,
-                    ends,
+                utterance: LentUtterance {
+                    start,
+                    numbers,
+                    path: LentPath {
+                        phones,
+                        starts,
+                        ends,
+                    },
                 },
                 delta_frames: lend(&mut delta_frames, frames_lent),
                 delta_weights: lend(&mut delta_weights, weights_lent),
                 out: lend(&mut out, out_lent),
-                voices,
-                enrolled,
-                limit,
+                voices: LentVoices {
+                    count: voices,
+                    enrolled,
+                    limit,
+                },
             },
         );
         print_round(

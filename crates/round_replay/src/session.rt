@@ -1,9 +1,10 @@
-// What stands between two lines of a script, and what a line does.
+// What stands between two lines of a script, and what a line does. What these functions print is words and numbers on one line, some of them of rooms beside
+// the record: a `Display` of it would not reach them, and is no plainer. `hold` and `forge` change some fields of what stays, where a struct's update
+// would move the rooms.
 use super::calls::estimate_lengths;
 use super::rooms::{Rooms, TableRooms, Tables};
 use definition::{
-    DecoderFrame, IvectorOptions, IvectorStream, Loaded, NewStream, RingLengths, SilenceWeighting,
-    StreamCall,
+    DecoderFrame, IvectorOptions, IvectorStream, RingLengths, SilenceWeighting, StreamCall,
 };
 use script::{
     Files, Held, Item, NO_FILES, Words, front, not_here, print, print_answer, print_list,
@@ -139,12 +140,13 @@ impl<'a> Session<'a> {
     /// `m ..`: what the line says of the tables' lengths is not read.
     fn load(&mut self, writer: &mut impl Write) -> io::Result<()> {
         let held = match self.tables.load(self.opts, self.files) {
-            Loaded::Model(info) => {
+            Ok(info) => {
                 writeln!(writer, "0")?;
                 Held::Model(info)
             }
-            Loaded::Refused(n) => {
-                writeln!(writer, "{n}")?;
+            Err(refusal) => {
+                let number = refusal.number();
+                writeln!(writer, "{number}")?;
                 Held::Nothing
             }
         };
@@ -159,8 +161,11 @@ impl<'a> Session<'a> {
         };
         let rings = read_rings(words);
         match self.rooms.new_stream(&self.tables, info, rings) {
-            NewStream::Stream(call) => self.called(writer, call),
-            NewStream::Refused(n) => writeln!(writer, "{n}"),
+            Ok(call) => self.called(writer, call),
+            Err(refusal) => {
+                let number = refusal.number();
+                writeln!(writer, "{number}")
+            }
         }
     }
 

@@ -2,7 +2,7 @@
 -- `Left` of the loop over the list, which holds at first, after a call more, and says all at the end.
 use mathlib.Core.Path.{◌≡◌, refl, sym, ap, ap₂, ◌∙◌}
 use mathlib.Core.List.{List, [], ◌∷◌, ◌++◌}
-use Prim.Native.Nat.{ℕ, ◌+◌, ◌-◌, ◌*◌, ◌≤◌, ◌<◌, min, max}
+use Prim.Native.Nat.{ℕ, ◌+◌, ◌-◌, ◌*◌, ◌≤◌, ◌<◌, min}
 use native.Mathlib.Omega.{arith}
 use lib.ListN.{length, take, drop, drop_of_length-le, length-drop}
 use lib.Seq.{length-take-le}
@@ -21,7 +21,7 @@ use Rattle.program.specs.Session.{Program, program, stepped, step_of, reply, pro
 use Rattle.run_calls.specs.Listed.{part, of_kind, call_at, calls, numbers_of, Written, written, write, writes}
 use Rattle.run_calls.specs.Turns.{coded_at, decoded, ring_step_of, Turned}
 use Rattle.run_calls.specs.declared.CodedCall.{CodedCall}
-use Rattle.run_calls.proofs.Cut.{cut_ends, cut_length, put-nothing, over_nothing, lent_back}
+use Rattle.run_calls.proofs.Cut.{cut_length, put-nothing, over_nothing, lent_back}
 use Rattle.run_calls.proofs.Branches.{Called, called_rings, called_window, called_fetch}
 
 -- ---- a call as code plays it
@@ -77,45 +77,42 @@ module _ (k : CodedCall) (lists : List ℕ) (samples : List Float) (t : Tables) 
       turned t n (program st z) o this b outs r y [] [] (call_is refl refl refl refl) g
       (put-nothing start outs ∙ ap (λ (v : List ℕ). put start v outs) (sym (over_nothing _ g.output_is)))
 
-  pub fetch_turned : (from m to : ℕ) {r : StreamCall} {y : Rooms} {out : List ℕ} → let lent = take (to - from) (drop from outs) in
-      4 ≤ kind → (kind ≡ 5 → ⊥) → from ≡ start → m ≡ min c (length outs) → to ≡ max from m
+  pub fetch_turned : (from count : ℕ) {r : StreamCall} {y : Rooms} {out : List ℕ} → let lent = take (from + count - from) (drop from outs) in
+      4 ≤ kind → (kind ≡ 5 → ⊥) → from ≡ start → count ≡ min (c - b) (length outs - from)
       → length out ≡ length lent
       → fetch_call r y out ≡ fetched_on st z lent (get_frame st t z n a (length lent))
-      → Turned t n (program st z) this b outs r y (take from outs ++ (out ++ drop (to - from) (drop from outs)))
-  fetch_turned from m to {r} {y} {out} h h' f e g l q =
-      let lent : List ℕ = take (to - from) (drop from outs) in
+      → Turned t n (program st z) this b outs r y (take from outs ++ (out ++ drop (from + count - from) (drop from outs)))
+  fetch_turned from count {r} {y} {out} h h' f e l q =
+      let lent : List ℕ = take (from + count - from) (drop from outs) in
       let o : Call = of_kind kind a (part a b samples) (part a b lists) (part c d samples) (length lent) in
       let w : Called t n (program st z) o r y lent out = called_fetch a (part a b samples) (part a b lists) (part c d samples) t n st z kind lent h h' q in
       let v : List ℕ = (reply (program st z) (step_of t n (program st z) o)).vector in
-      let ends : (from ≤ to) × (to ≤ length outs) = cut_ends b c (length outs) from m to f e g in
+      let here : from + count - from ≡ count = omega arith in
       let long : length lent ≡ min (c - b) (length outs - b) =
-      length-take-le (to - from) (drop from outs) (omega (arith, length-drop from outs)) ∙ cut_length b c (length outs) from m to f e g in
+      length-take-le (from + count - from) (drop from outs) (omega (arith, e, length-drop from outs)) ∙ here ∙ cut_length b c (length outs) from f e in
       turned t n (program st z) o this b outs r y lent out (call_is refl refl refl long) w
-      (lent_back from (to - from) v outs l w.output_is ∙ ap (λ (j : ℕ). put j v outs) f)
+      (lent_back from (from + count - from) v outs l w.output_is ∙ ap (λ (j : ℕ). put j v outs) f)
 
 -- ---- call i, and its answer written
-
--- the record s and the answers after a call that returned r
-abbrev Handed : ℕ → StreamCall → List ℕ → IvectorStream → List ℕ → Type 0
-Handed i r answers s answers' = (s ≡ r.stream) × (answers' ≡ put (i * 5) (numbers_of r.answer) answers)
 
 module _ (kinds numbers lists : List ℕ) (samples : List Float) (i : ℕ) (t : Tables) (n : ℕ) (p : Program) (o : Written) where
   call_at_is : {k : CodedCall} → k ≡ coded_at kinds numbers i → decoded k lists samples (length o.outs) ≡ call_at kinds numbers lists samples (length o.outs) i
   unfolding decoded call_at
   call_at_is e = ap (λ (k : CodedCall). decoded k lists samples (length o.outs)) e
 
-  module _ {k : CodedCall} (e : k ≡ coded_at kinds numbers i) {r : StreamCall} {y : Rooms} {outs' answers' : List ℕ} {s : IvectorStream}
-      (u : Turned t n p (decoded k lists samples (length o.outs)) k.b o.outs r y outs') (a : Handed i r o.answers s answers') where
+  module _ {k : CodedCall} (e : k ≡ coded_at kinds numbers i) {r : StreamCall} {y : Rooms} {outs' : List ℕ}
+      (u : Turned t n p (decoded k lists samples (length o.outs)) k.b o.outs r y outs') where
     abbrev done : Call → Answer
     done c = reply p (step_of t n p c)
 
-    step_on : stepped p (step_of t n p (call_at kinds numbers lists samples (length o.outs) i)) ≡ program s y
-    step_on = ap (λ (c : Call). stepped p (step_of t n p c)) (sym (call_at_is e)) ∙ u.step ∙ ap (λ (s : IvectorStream). program s y) (sym a.0)
+    step_on : stepped p (step_of t n p (call_at kinds numbers lists samples (length o.outs) i)) ≡ program r.stream y
+    step_on = ap (λ (c : Call). stepped p (step_of t n p c)) (sym (call_at_is e)) ∙ u.step
 
-    wrote_on : written answers' outs' ≡ write numbers i (done (call_at kinds numbers lists samples (length o.outs) i)) o
+    wrote_on : {answers' : List ℕ} → answers' ≡ put (i * 5) (numbers_of r.answer) o.answers
+        → written answers' outs' ≡ write numbers i (done (call_at kinds numbers lists samples (length o.outs) i)) o
     unfolding write
-    wrote_on =
-        ap₂ written (a.1 ∙ ap (λ (x : StreamAnswer). put (i * 5) (numbers_of x) o.answers) (sym u.told_is)) u.outs_are
+    wrote_on a =
+        ap₂ written (a ∙ ap (λ (x : StreamAnswer). put (i * 5) (numbers_of x) o.answers) (sym u.told_is)) u.outs_are
         ∙ ap₂
         (λ (b : ℕ) (c : Call). written (put (i * 5) (numbers_of (done c).told) o.answers) (put (min b (length o.outs)) (done c).vector o.outs))
         (ap (λ (k : CodedCall). k.b) e) (call_at_is e)
@@ -159,97 +156,49 @@ module _ (t : Tables) (n : ℕ) (numbers : List ℕ) where
   unfolding program_after
   none_after p = refl
 
--- ---- the loop over a list: what is left from call i on is what was to be done at first, and no room has changed its length
+-- ---- the loop over a list: what is left from call i on is what was to be done at first
 
-pub record Kept (z : Rooms) (n : ℕ) (o : Written) (z₀ : Rooms) (n₀ : ℕ) (o₀ : Written) : Type 0 where
-  pub frames_kept : length z.rings.frames ≡ length z₀.rings.frames
-  pub rows_kept : length z.rings.rows ≡ length z₀.rings.rows
-  pub waiting_frames_kept : length z.rings.waiting_frames ≡ length z₀.rings.waiting_frames
-  pub waiting_weights_kept : length z.rings.waiting_weights ≡ length z₀.rings.waiting_weights
-  pub cmvn_kept : length z.estimate.cmvn ≡ length z₀.estimate.cmvn
-  pub linear_kept : length z.estimate.linear ≡ length z₀.estimate.linear
-  pub quadratic_kept : length z.estimate.quadratic ≡ length z₀.estimate.quadratic
-  pub current_kept : length z.estimate.current ≡ length z₀.estimate.current
-  pub scratch_kept_is : n ≡ n₀
-  pub answers-kept : length o.answers ≡ length o₀.answers
-  pub outs_kept : length o.outs ≡ length o₀.outs
-
-kept_same : (z : Rooms) (n : ℕ) (o : Written) → Kept z n o z n o
-kept_same z n o =
-    record {
-      frames_kept = refl;
-      rows_kept = refl;
-      waiting_frames_kept = refl;
-      waiting_weights_kept = refl;
-      cmvn_kept = refl;
-      linear_kept = refl;
-      quadratic_kept = refl;
-      current_kept = refl;
-      scratch_kept_is = refl;
-      answers-kept = refl;
-      outs_kept = refl;
-    }
-
-kept_again : {y z z₀ : Rooms} {m n n₀ : ℕ} {q o o₀ : Written} → Kept y m q z n o → Kept z n o z₀ n₀ o₀ → Kept y m q z₀ n₀ o₀
-kept_again a b =
-    record {
-      frames_kept = a.frames_kept ∙ b.frames_kept;
-      rows_kept = a.rows_kept ∙ b.rows_kept;
-      waiting_frames_kept = a.waiting_frames_kept ∙ b.waiting_frames_kept;
-      waiting_weights_kept = a.waiting_weights_kept ∙ b.waiting_weights_kept;
-      cmvn_kept = a.cmvn_kept ∙ b.cmvn_kept;
-      linear_kept = a.linear_kept ∙ b.linear_kept;
-      quadratic_kept = a.quadratic_kept ∙ b.quadratic_kept;
-      current_kept = a.current_kept ∙ b.current_kept;
-      scratch_kept_is = a.scratch_kept_is ∙ b.scratch_kept_is;
-      answers-kept = a.answers-kept ∙ b.answers-kept;
-      outs_kept = a.outs_kept ∙ b.outs_kept;
-    }
-
-module _ (kinds numbers lists : List ℕ) (samples : List Float) (t : Tables) (p₀ : Program) (n₀ : ℕ) (o₀ : Written) where
+module _ (kinds numbers lists : List ℕ) (samples : List Float) (t : Tables) (n : ℕ) (p₀ : Program) (o₀ : Written) where
   abbrev cs : List Call
   cs = calls kinds numbers lists samples (length o₀.outs)
 
-  -- p₀ is the program at first, with scratch of n₀ numbers, and o₀ the rooms for answers
-  pub record Left (i : ℕ) (p : Program) (n : ℕ) (o : Written) : Type 0 where
-    pub at_most : i ≤ length kinds
-    pub kept : Kept p.rooms n o p₀.rooms n₀ o₀
-    pub same : rest t n₀ numbers i p (drop i cs) o ≡ rest t n₀ numbers 0 p₀ cs o₀
-    pub there : program_after t n₀ p (drop i cs) ≡ program_after t n₀ p₀ cs
+  -- p₀ is the program at first, with scratch of n numbers, and o₀ the rooms for answers
+  pub record Left (i : ℕ) (p : Program) (o : Written) : Type 0 where
+    pub same : rest t n numbers i p (drop i cs) o ≡ rest t n numbers 0 p₀ cs o₀
+    pub there : program_after t n p (drop i cs) ≡ program_after t n p₀ cs
 
-  pub left_first : Left 0 p₀ n₀ o₀
-  left_first = record { at_most = omega arith; kept = kept_same p₀.rooms n₀ o₀; same = refl; there = refl }
+  pub left_first : Left 0 p₀ o₀
+  left_first = record { same = refl; there = refl }
 
-  module _ (i : ℕ) (p : Program) (n m : ℕ) (o : Written) {k : CodedCall} {r : StreamCall} {y : Rooms} {outs' answers' : List ℕ} {s : IvectorStream} where
-    pub left_again : Left i p n o → i < length kinds → k ≡ coded_at kinds numbers i
-        → Turned t n p (decoded k lists samples (length o.outs)) k.b o.outs r y outs' → Handed i r o.answers s answers'
-        → Kept y m (written answers' outs') p.rooms n o → Left (i + 1) (program s y) m (written answers' outs')
-    left_again l h e u a w =
+  module _ (i : ℕ) (p : Program) (o : Written) {k : CodedCall} {r : StreamCall} {y : Rooms} {outs' answers' : List ℕ} where
+    -- a turn, over scratch and outputs that are as long as they were
+    pub left_again : {m : ℕ} → Left i p o → i < length kinds → m ≡ n → length o.outs ≡ length o₀.outs → k ≡ coded_at kinds numbers i
+        → Turned t m p (decoded k lists samples (length o.outs)) k.b o.outs r y outs' → answers' ≡ put (i * 5) (numbers_of r.answer) o.answers
+        → Left (i + 1) (program r.stream y) (written answers' outs')
+    left_again {m} l h same long e u a =
         let c : Call = call_at kinds numbers lists samples (length o₀.outs) i in
         let d : drop i cs ≡ c ∷ drop (i + 1) cs = calls_next kinds numbers lists samples (length o₀.outs) i h in
-        let c-is : call_at kinds numbers lists samples (length o.outs) i ≡ c = ap (λ (j : ℕ). call_at kinds numbers lists samples j i) l.kept.outs_kept in
-        let next : stepped p (step_of t n₀ p c) ≡ program s y =
-        ap₂ (λ (j : ℕ) (c : Call). stepped p (step_of t j p c)) (sym l.kept.scratch_kept_is) (sym c-is) ∙ step_on kinds numbers lists samples i t n p o e u a in
-        let wrote : written answers' outs' ≡ write numbers i (reply p (step_of t n₀ p c)) o =
-        wrote_on kinds numbers lists samples i t n p o e u a ∙ ap₂ (λ (j : ℕ) (c : Call). write numbers i (reply p (step_of t j p c)) o) l.kept.scratch_kept_is c-is in
+        let c-is : call_at kinds numbers lists samples (length o.outs) i ≡ c = ap (λ (j : ℕ). call_at kinds numbers lists samples j i) long in
+        let next : stepped p (step_of t n p c) ≡ program r.stream y =
+        ap₂ (λ (j : ℕ) (c : Call). stepped p (step_of t j p c)) (sym same) (sym c-is) ∙ step_on kinds numbers lists samples i t m p o e u in
+        let wrote : written answers' outs' ≡ write numbers i (reply p (step_of t n p c)) o =
+        wrote_on kinds numbers lists samples i t m p o e u a ∙ ap₂ (λ (j : ℕ) (c : Call). write numbers i (reply p (step_of t j p c)) o) same c-is in
         record {
-          at_most = omega arith;
-          kept = kept_again w l.kept;
           same =
-              ap₂ (λ (q : Program) (o : Written). rest t n₀ numbers (i + 1) q (drop (i + 1) cs) o) (sym next) wrote
-              ∙ sym (ap (λ (ds : List Call). rest t n₀ numbers i p ds o) d ∙ one t n₀ numbers i p c o (drop (i + 1) cs))
+              ap₂ (λ (q : Program) (o : Written). rest t n numbers (i + 1) q (drop (i + 1) cs) o) (sym next) wrote
+              ∙ sym (ap (λ (ds : List Call). rest t n numbers i p ds o) d ∙ one t n numbers i p c o (drop (i + 1) cs))
               ∙ l.same;
           there =
-              ap (λ (q : Program). program_after t n₀ q (drop (i + 1) cs)) (sym next)
-              ∙ sym (ap (program_after t n₀ p) d ∙ one_after t n₀ numbers p c (drop (i + 1) cs))
+              ap (λ (q : Program). program_after t n q (drop (i + 1) cs)) (sym next)
+              ∙ sym (ap (program_after t n p) d ∙ one_after t n numbers p c (drop (i + 1) cs))
               ∙ l.there;
         }
 
-  pub left_last : (i : ℕ) (p : Program) (n : ℕ) (o : Written) → Left i p n o → length kinds ≤ i
-      → (o ≡ rest t n₀ numbers 0 p₀ cs o₀) × (p.rooms ≡ (program_after t n₀ p₀ cs).rooms)
-  left_last i p n o l h =
+  pub left_last : (i : ℕ) (p : Program) (o : Written) → Left i p o → length kinds ≤ i
+      → (o ≡ rest t n numbers 0 p₀ cs o₀) × (p.rooms ≡ (program_after t n p₀ cs).rooms)
+  left_last i p o l h =
       let past : length cs ≤ i = omega (arith, length_calls kinds numbers lists samples (length o₀.outs)) in
       let d : drop i cs ≡ [] = drop_of_length-le cs past in (
-        sym (ap (λ (ds : List Call). rest t n₀ numbers i p ds o) d ∙ none t n₀ numbers i p o) ∙ l.same,
-        ap (λ (p : Program). p.rooms) (sym (ap (program_after t n₀ p) d ∙ none_after t n₀ numbers p) ∙ l.there),
+        sym (ap (λ (ds : List Call). rest t n numbers i p ds o) d ∙ none t n numbers i p o) ∙ l.same,
+        ap (λ (p : Program). p.rooms) (sym (ap (program_after t n p) d ∙ none_after t n numbers p) ∙ l.there),
       )

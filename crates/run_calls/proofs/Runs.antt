@@ -1,5 +1,6 @@
 -- What a run leaves, by its three ways out: a list that is refused, a stream that is not made, and a list that is played. There the program's answers
 -- are the keeping machine's by `keeps`.
+use Rattle.std.specs.Prelude.{ℕ, Result, Ok, Err}
 use mathlib.Core.Path.{◌≡◌, sym, ap, ap₂, ◌∙◌}
 use mathlib.Core.List.{List}
 use Prim.Native.Nat.{ℕ, zero, suc, ◌*◌, ◌/◌, ◌≤◌, ◌<◌}
@@ -10,8 +11,6 @@ use Rattle.loops.specs.Refusal.{taken}
 use Rattle.loops.proofs.Refusal.{taken_new, taken_old, first_is, first-none, none_first}
 use Rattle.definition.specs.declared.IvectorInfo.{IvectorInfo}
 use Rattle.definition.specs.declared.StreamCall.{StreamCall}
-use Rattle.definition.specs.declared.NewStream.{NewStream}
-use Rattle.definition.specs.declared.NewStream.TheVariants as N
 use Rattle.definition.specs.Model.{Tables, table_lengths_of, model_in}
 use Rattle.definition.specs.Machine.{Call, Answer, answers}
 use Rattle.definition.specs.Stream.{new_refusal}
@@ -49,7 +48,7 @@ module _ (n a b : ℕ) where
 
 -- ---- the ways out
 
-made_refused : (q : ℕ) (s : StreamCall) (r : ℕ) → taken q (N.Stream s) (N.Refused q) ≡ N.Refused r → (r ≡ q) × (r ≡ 0 → ⊥)
+made_refused : (q : ℕ) (s : StreamCall) (r : ℕ) → taken q (Ok s) (Err q) ≡ Err r → (r ≡ q) × (r ≡ 0 → ⊥)
 made_refused zero s r e = let w : ◌≡◌ {A = ℕ} 0 1 = cc in absurd (omega arith)
 made_refused (suc q) s r e = let w : r ≡ suc q = cc in (w, λ z. omega arith)
 
@@ -74,16 +73,16 @@ module _ (i : IvectorInfo) (t : Tables) (z : Rooms) (n : ℕ) (numbers : List �
   unfolding run_refusal
   run_listed {r} e h = (e ∙ sym (taken_old listed _ listed (λ z. h (e ∙ z))), sym (taken_old r _ o h), sym (taken_old r _ z h))
 
-  module _ (a : NewStream) (y : Rooms) (e : listed ≡ 0) (New-is : a ≡ new_answer i (table_lengths_of t) (room_lengths_of z n)) (y-is : y ≡ taken fresh (fresh_rooms i z) z) where
+  module _ (a : Result StreamCall ℕ) (y : Rooms) (e : listed ≡ 0) (New-is : a ≡ new_answer i (table_lengths_of t) (room_lengths_of z n)) (y-is : y ≡ taken fresh (fresh_rooms i z) z) where
     -- a stream that is not made
-    pub run_refused : {r : ℕ} → a ≡ N.Refused r → Ran r o y × (r ≡ 0 → ⊥)
+    pub run_refused : {r : ℕ} → a ≡ Err r → Ran r o y × (r ≡ 0 → ⊥)
     unfolding run_refusal new_answer
     run_refused {r} b =
         let h = made_refused fresh (call_of 0 (fresh_stream i (room_lengths_of z n)) 0 0) r (sym New-is ∙ b) in
         ((h.0 ∙ sym (taken_new listed _ listed e), sym (taken_old r _ o h.1), y-is ∙ taken_old fresh _ z (λ x. h.1 (h.0 ∙ x)) ∙ sym (taken_old r _ z h.1)), h.1)
 
     -- a stream that is made: the program is the fresh one
-    module _ (s : StreamCall) (b : a ≡ N.Stream s) where
+    module _ (s : StreamCall) (b : a ≡ Ok s) where
       made : (fresh ≡ 0) × (call_of 0 (fresh_stream i (room_lengths_of z n)) 0 0 ≡ s)
       unfolding new_answer
       made = made-stream fresh (call_of 0 (fresh_stream i (room_lengths_of z n)) 0 0) s (sym New-is ∙ b)

@@ -1,5 +1,5 @@
 -- What the inner functions leave. Not for readers.
-use Rattle.std.specs.Prelude.{◌≡◌, List, ℕ, ◌+◌, ◌-◌, ◌*◌, min, length, get_or, Float}
+use Rattle.std.specs.Prelude.{◌≡◌, List, ℕ, ◌≤◌, ◌+◌, ◌-◌, ◌*◌, min, length, get_or, Float}
 use Rattle.loops.specs.Ring.{put}
 use Rattle.definition.specs.declared.IvectorStream.{IvectorStream}
 use Rattle.definition.specs.declared.StreamCall.{StreamCall}
@@ -10,6 +10,17 @@ use Rattle.program.specs.Calls.{RingStep, push_frame, set_input_finished, update
 use Rattle.program.specs.Session.{Program, program, stepped, step_of, reply}
 use Rattle.run_calls.specs.Listed.{part, of_kind}
 use Rattle.run_calls.specs.declared.CodedCall.{CodedCall}
+use Rattle.run_calls.specs.declared.Kind.{Kind}
+use Rattle.run_calls.specs.declared.Kind.TheVariants as K
+
+-- what a number has to be that tells a kind
+abbrev pub Means : ℕ → Kind → Type 0
+Means n K.Push = n ≡ 0
+Means n K.Finish = n ≡ 1
+Means n K.Change = n ≡ 2
+Means n K.Forget = n ≡ 3
+Means n K.Fetch = (4 ≤ n) × (n ≡ 5 → ⊥)
+Means n K.Window = n ≡ 5
 
 -- a call that gets the rings alone; a fetch is none
 unfoldable pub ring_step_of : IvectorStream → Rings → Call → RingStep

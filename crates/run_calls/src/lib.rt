@@ -1,93 +1,58 @@
 // A list of calls on a stream, given as slices and played on lent rooms from the first to the last: its answers are the keeping machine's.
+//
+// Each of these two functions says of the structs of rooms that it writes that their slices stay the ones that were lent: a caller knows it by that
+// clause alone, and in the struct's type it would be no plainer, since a ghost field beside a `&mut` is not covered.
+// A `let` in a clause is a name, and states nothing.
 #![tactic(auto)]
 
-ghost use Rattle.std.specs.Prelude.{◌≡◌, List, ℕ, ◌+◌, ◌*◌, ◌≤◌, ◌<◌, length};
+ghost use Rattle.std.specs.Prelude.{◌≡◌, List, ℕ, IfErr, ◌+◌, ◌*◌, ◌≤◌, ◌<◌, length};
 ghost use Rattle.loops.specs.Refusal.{taken};
-ghost use Rattle.loops.specs.Ring.{put};
-ghost use Rattle.definition.specs.Model.{Tables, tables_from, model_in};
+ghost use Rattle.definition.specs.Lent.{tables_in, SameRings, SameWaiting, SameEstimate};
+ghost use Rattle.definition.specs.Number.{number_of as refusal_number, refused_by};
+ghost use Rattle.definition.specs.Model.{Tables, model_in};
 ghost use Rattle.definition.specs.Machine as M;
 ghost use Rattle.definition.specs.Machine.{Call};
-ghost use Rattle.program.specs.Rooms.{Rings, rings_from, estimate_from, Rooms, rooms_from, ring_lengths_of, room_lengths_of};
-ghost use Rattle.program.specs.Calls.{fresh_stream, fresh_rooms, ring_call, done_on};
+ghost use Rattle.program.specs.Lent.{estimate_of, rooms_of};
+ghost use Rattle.program.specs.Rooms.{rings_from, Rooms, rooms_from, ring_lengths_of, room_lengths_of};
+ghost use Rattle.program.specs.Calls.{fresh_stream, fresh_rooms};
 ghost use Rattle.program.specs.Session.{program, program_after};
-ghost use Rattle.run_calls.specs.Listed.{part, of_kind, calls, numbers_of, Written, written, writes, run_refusal, list_refusal};
-ghost use Rattle.run_calls.specs.Turns.{coded_at, decoded, ring_step_of, Turned};
+ghost use Rattle.run_calls.specs.Listed.{part, calls, numbers_of, Written, written, writes, run_refusal, list_refusal};
+ghost use Rattle.run_calls.specs.Turns.{Means, coded_at, decoded, Turned};
 
-use definition::{IvectorInfo, IvectorStream, NewStream, StreamCall};
+use definition::{
+    FrameRooms, IvectorInfo, IvectorStream, LentEstimate, LentTables, Refusal, StreamAnswer,
+    StreamCall, WaitingRooms, need,
+};
 
-// The numbers from index a to index b: none where a is past the end, cut where b is.
-fn sample_part(samples: &[f32], a: usize, b: usize) -> &[f32]
-    ensures { result.now ≡ part a b samples.now }
-{
-    let from = basics::smaller(a, samples.len());
-    let to = basics::larger(from, basics::smaller(b, samples.len()));
-    &samples[from..to]
+/// What a call does.
+#[derive(Clone, Copy, Debug, PartialEq, Eq)]
+pub enum Kind {
+    Push,
+    Finish,
+    Change,
+    Forget,
+    Fetch,
+    Window,
 }
 
-fn frame_part(lists: &[usize], a: usize, b: usize) -> &[usize]
-    ensures { result.now ≡ part a b lists.now }
-{
-    let from = basics::smaller(a, lists.len());
-    let to = basics::larger(from, basics::smaller(b, lists.len()));
-    &lists[from..to]
-}
+/// A kind is told by a number; every number that tells no other is a fetch.
+impl From<u8> for Kind {
+    ghost from_gives = { Means };
 
-// The numbers of a call's answer from index `first` on. The record that the call left is handed on.
-fn put_answer(answers: &mut [usize], first: usize, r: StreamCall) -> IvectorStream
-    requires { first + 5 ≤ length answers.old }
-    ensures { (result ≡ r.stream) × (answers.new ≡ put first (numbers_of r.answer) answers.old) }
-{
-    let a = r.answer;
-    answers[first] = a.refusal;
-    answers[first + 1] = a.frames_held;
-    answers[first + 2] = a.rows_held;
-    answers[first + 3] = a.not_finite;
-    answers[first + 4] = a.nan_likelihoods;
-    r.stream
-}
-
-// A call that gets the rings alone: kind 0 is a push of x, 1 a finish, 2 a change, 3 a forget.
-fn ring_call(
-    s: IvectorStream,
-    kind: u8,
-    frame: usize,
-    x: &[f32],
-    delta_frames: &[usize],
-    delta_weights: &[f32],
-    frames: &mut [f32],
-    rows: &mut [f64],
-    waiting_frames: &mut [usize],
-    waiting_weights: &mut [f32],
-) -> StreamCall
-    requires { kind < 4 }
-    ensures { (
-        let z : Rings = rings_from frames.old rows.old waiting_frames.old waiting_weights.old in
-        let c : Call = of_kind kind frame x.now delta_frames.now delta_weights.now 0 in
-        ring_call result (rings_from frames.new rows.new waiting_frames.new waiting_weights.new)
-        ≡ done_on s z (ring_step_of s z c)) }
-{
-    if kind == 0 {
-        return ivector_stream::push_frame(s, x, frames, rows, waiting_frames, waiting_weights);
+    fn from(number: u8) -> Kind {
+        match number {
+            0 => Kind::Push,
+            1 => Kind::Finish,
+            2 => Kind::Change,
+            3 => Kind::Forget,
+            5 => Kind::Window,
+            _ => Kind::Fetch,
+        }
     }
-    if kind == 1 {
-        return ivector_stream::set_input_finished(s, frames, rows, waiting_frames, waiting_weights);
-    }
-    if kind == 2 {
-        return ivector_stream::update_frame_weights(
-            s,
-            delta_frames,
-            delta_weights,
-            frames,
-            rows,
-            waiting_frames,
-            waiting_weights,
-        );
-    }
-    ivector_stream::forget_before(s, frame, frames, rows, waiting_frames, waiting_weights)
 }
 
-// A call of a list: its kind and its four numbers.
-#[derive(Clone, Copy)]
+/// A call of a list: the number of its kind, and its four numbers.
+#[derive(Clone, Copy, Debug, Default, PartialEq, Eq)]
 pub struct CodedCall {
     pub kind: u8,
     pub a: usize,
@@ -96,223 +61,176 @@ pub struct CodedCall {
     pub d: usize,
 }
 
-// Call i of a list.
-fn call_at(kinds: &[u8], numbers: &[usize], i: usize) -> CodedCall
-    requires { (i < length kinds.now) × (i * 4 + 4 ≤ length numbers.now) }
-    ensures { result ≡ coded_at kinds.now numbers.now i }
-{
-    let first = i * 4;
-    let kind = kinds[i];
-    let a = numbers[first];
-    let b = numbers[first + 1];
-    let c = numbers[first + 2];
-    let d = numbers[first + 3];
-    CodedCall { kind, a, b, c, d }
+/// A list of calls: the number of each one's kind, four numbers of each, and what these are places in.
+#[derive(Clone, Copy)]
+pub struct CallList<'a> {
+    pub kinds: &'a [u8],
+    pub numbers: &'a [usize],
+    pub lists: &'a [usize],
+    pub samples: &'a [f32],
 }
 
-// A call of a list, played. The vector of a fetch goes to the part of `outs` that its numbers name.
+// What stands from index a to index b: nothing where a is past the end, cut where b is. Both are any numbers, and the two cuts are the definition's
+// `take` and `drop`.
+fn part<T>(items: &[T], a: usize, b: usize) -> &[T]
+    ensures { result.now ≡ part a b items.now }
+{
+    let rest = &items[a.min(items.len())..];
+    &rest[..b.saturating_sub(a).min(rest.len())]
+}
+
+// Call i of a list.
+fn call_at(list: CallList<'_>, i: usize) -> CodedCall
+    requires { (i < length list.kinds.now) × (i * 4 + 4 ≤ length list.numbers.now) }
+    ensures { result ≡ coded_at list.entry.kinds.now list.entry.numbers.now i }
+{
+    let numbers = &list.numbers[i * 4..i * 4 + 4];
+    CodedCall {
+        kind: list.kinds[i],
+        a: numbers[0],
+        b: numbers[1],
+        c: numbers[2],
+        d: numbers[3],
+    }
+}
+
+// An answer as it is written.
+fn numbers_of(a: StreamAnswer) -> [usize; 5]
+    ensures { result ≡ numbers_of a }
+{
+    [
+        a.refusal,
+        a.frames_held,
+        a.rows_held,
+        a.not_finite,
+        a.nan_likelihoods,
+    ]
+}
+
+/// A call of a list, played. The vector of a fetch goes to the part of `outs` that its numbers name. What is lent is parted by what a call reads and writes of
+/// it, and a struct around these parameters, which would be taken apart here again, would be no plainer.
 pub fn turn(
     k: CodedCall,
     s: IvectorStream,
     lists: &[usize],
     samples: &[f32],
-    gconsts: &[f32],
-    means_invvars_t: &[f32],
-    inv_vars_t: &[f32],
-    sigma_inv_m: &[f64],
-    u: &[f64],
-    lda_t: &[f32],
-    lda_offset: &[f32],
-    global_mean_stats: &[f64],
-    frames: &mut [f32],
-    rows: &mut [f64],
-    waiting_frames: &mut [usize],
-    waiting_weights: &mut [f32],
-    cmvn_stats: &mut [f64],
-    linear: &mut [f64],
-    quadratic: &mut [f64],
-    current: &mut [f64],
+    tables: LentTables<'_>,
+    held: &mut FrameRooms<'_>,
+    waiting: &mut WaitingRooms<'_>,
+    estimate: &mut LentEstimate<'_>,
     scratch: &mut [f64],
     outs: &mut [u32],
 ) -> StreamCall
-    ensures { (
-        let t : Tables = tables_from gconsts.now means_invvars_t.now inv_vars_t.now sigma_inv_m.now
-        u.now lda_t.now lda_offset.now global_mean_stats.now in
-        let z : Rooms = rooms_from (rings_from frames.old rows.old waiting_frames.old waiting_weights.old)
-        (estimate_from cmvn_stats.old linear.old quadratic.old current.old) in
-        let y : Rooms = rooms_from (rings_from frames.new rows.new waiting_frames.new waiting_weights.new)
-        (estimate_from cmvn_stats.new linear.new quadratic.new current.new) in
+    ensures call { (
+        let z : Rooms = rooms_of held.old waiting.old estimate.old in
+        let y : Rooms = rooms_of held.new waiting.new estimate.new in
         let c : Call = decoded k lists.now samples.now (length outs.old) in
-        Turned t (length scratch.old) (program s z) c k.b outs.old result y outs.new) }
+        Turned (tables_in tables.entry) (length scratch.old) (program s z) c k.b outs.old result y outs.new) }
+    ensures held { SameRings held.old held.new }
+    ensures waiting { SameWaiting waiting.old waiting.new }
+    ensures estimate { SameEstimate estimate.old estimate.new }
 {
-    if k.kind < 4 {
-        let x = sample_part(samples, k.a, k.b);
-        let delta_frames = frame_part(lists, k.a, k.b);
-        let delta_weights = sample_part(samples, k.c, k.d);
-        return ring_call(
-            s,
-            k.kind,
-            k.a,
-            x,
-            delta_frames,
-            delta_weights,
-            frames,
-            rows,
-            waiting_frames,
-            waiting_weights,
-        );
+    match Kind::from(k.kind) {
+        Kind::Push => {
+            let frame = part(samples, k.a, k.b);
+            ivector_stream::push_frame(s, frame, held, waiting.lent())
+        }
+        Kind::Finish => ivector_stream::set_input_finished(s, held.lent(), waiting.lent()),
+        Kind::Change => {
+            let delta_frames = part(lists, k.a, k.b);
+            let delta_weights = part(samples, k.c, k.d);
+            ivector_stream::update_frame_weights(
+                s,
+                delta_frames,
+                delta_weights,
+                held.lent(),
+                waiting,
+            )
+        }
+        Kind::Forget => ivector_stream::forget_before(s, k.a, held.lent(), waiting.lent()),
+        Kind::Window => ivector_stream::set_cmn_window(s, k.a, held.lent(), waiting.lent()),
+        Kind::Fetch => {
+            // any numbers are taken: the ends are cut to what `outs` has, where `get_mut` would give nothing, so it is no plainer
+            let from = k.b.min(outs.len());
+            let count = k.c.saturating_sub(k.b).min(outs.len() - from);
+            let out = &mut outs[from..from + count];
+            ivector_fetch::get_frame(s, k.a, tables, held.lent(), waiting, estimate, scratch, out)
+        }
     }
-    if k.kind == 5 {
-        return ivector_stream::set_cmn_window(
-            s,
-            k.a,
-            frames,
-            rows,
-            waiting_frames,
-            waiting_weights,
-        );
-    }
-    let from = basics::smaller(k.b, outs.len());
-    let to = basics::larger(from, basics::smaller(k.c, outs.len()));
-    ivector_fetch::get_frame(
-        s,
-        k.a,
-        gconsts,
-        means_invvars_t,
-        inv_vars_t,
-        sigma_inv_m,
-        u,
-        lda_t,
-        lda_offset,
-        global_mean_stats,
-        frames,
-        rows,
-        waiting_frames,
-        waiting_weights,
-        cmvn_stats,
-        linear,
-        quadratic,
-        current,
-        scratch,
-        &mut outs[from..to],
-    )
 }
 
 // 99 where the numbers of n calls, or the room for their answers, are too short.
-fn list_refusal(n: usize, numbers: usize, answers: usize) -> usize
-    ensures { result ≡ list_refusal n numbers answers }
+#[tactic(auto, unfolding(crate::specs::Listed::list_refusal, loops::specs::Refusal::first_of))]
+fn check_list(n: usize, numbers: usize, answers: usize) -> Result<(), Refusal>
+    ensures value { refused_by result ≡ list_refusal n numbers answers }
+    ensures one_number { IfErr result (λ e. refusal_number e ≡ 99) }
 {
-    if numbers / 4 < n {
-        return 99;
-    }
-    if answers / 5 < n {
-        return 99;
-    }
-    0
+    need(n <= numbers / 4, Refusal::ListTooShort)?;
+    need(n <= answers / 5, Refusal::ListTooShort)
 }
 
-// A fresh stream, and a list of calls on it. Call i has the kind kinds[i] and four numbers of `numbers`, from index 4 i on; its answer is
-// written to `answers` from index 5 i on, and the vector of a fetch to the part of `outs` that its numbers name. The result is 0, or the
-// number of what is refused: then nothing is played.
+/// A fresh stream, and a list of calls on it. Call i has the kind kinds[i] and four numbers of `numbers`, from index 4 i on; its answer is
+/// written to `answers` from index 5 i on, and the vector of a fetch to the part of `outs` that its numbers name. Where it is refused nothing is
+/// played. The rings are lent one by one, as to `ivector_stream::new`, and the other parameters as to `turn`: a struct around them would be no plainer.
 pub fn run(
     info: IvectorInfo,
-    gconsts: &[f32],
-    means_invvars_t: &[f32],
-    inv_vars_t: &[f32],
-    sigma_inv_m: &[f64],
-    u: &[f64],
-    lda_t: &[f32],
-    lda_offset: &[f32],
-    global_mean_stats: &[f64],
+    tables: LentTables<'_>,
     frames: &mut [f32],
     rows: &mut [f64],
-    waiting_frames: &mut [usize],
-    waiting_weights: &mut [f32],
-    cmvn_stats: &mut [f64],
-    linear: &mut [f64],
-    quadratic: &mut [f64],
-    current: &mut [f64],
+    waiting: &mut WaitingRooms<'_>,
+    estimate: &mut LentEstimate<'_>,
     scratch: &mut [f64],
-    kinds: &[u8],
-    numbers: &[usize],
-    lists: &[usize],
-    samples: &[f32],
+    list: CallList<'_>,
     answers: &mut [usize],
     outs: &mut [u32],
-) -> usize
-    ensures { (
-        let t : Tables = tables_from gconsts.now means_invvars_t.now inv_vars_t.now sigma_inv_m.now
-        u.now lda_t.now lda_offset.now global_mean_stats.now in
-        let z : Rooms = rooms_from (rings_from frames.old rows.old waiting_frames.old waiting_weights.old)
-        (estimate_from cmvn_stats.old linear.old quadratic.old current.old) in
+) -> Result<(), Refusal>
+    ensures run { (
+        let t : Tables = tables_in tables.entry in
+        let z : Rooms = rooms_from (rings_from frames.old rows.old waiting.old.frames.now waiting.old.weights.now) (estimate_of estimate.old) in
+        let y : Rooms = rooms_from (rings_from frames.new rows.new waiting.new.frames.now waiting.new.weights.now) (estimate_of estimate.new) in
         let n : ℕ = length scratch.old in
-        let cs : List Call = calls kinds.now numbers.now lists.now samples.now (length outs.old) in
+        let l : CallList = list.entry in
+        let cs : List Call = calls l.kinds.now l.numbers.now l.lists.now l.samples.now (length outs.old) in
         let o : Written = written answers.old outs.old in
-        (result ≡ run_refusal info t z n (length kinds.now) (length numbers.now) (length answers.old))
+        let r : ℕ = refused_by result in
+        (r ≡ run_refusal info t z n (length l.kinds.now) (length l.numbers.now) (length answers.old))
         × (written answers.new outs.new
-        ≡ taken result (writes numbers.now 0 (M.answers (model_in info t) (ring_lengths_of z.rings) cs) o) o)
-        × ((rooms_from (rings_from frames.new rows.new waiting_frames.new waiting_weights.new)
-        (estimate_from cmvn_stats.new linear.new quadratic.new current.new))
-        ≡ taken result (program_after t n (program (fresh_stream info (room_lengths_of z n)) (fresh_rooms info z)) cs).rooms z)
-        × ((result ≡ 0 → ⊥) → scratch.new ≡ scratch.old)) }
+        ≡ taken r (writes l.numbers.now 0 (M.answers (model_in info t) (ring_lengths_of z.rings) cs) o) o)
+        × (y ≡ taken r (program_after t n (program (fresh_stream info (room_lengths_of z n)) (fresh_rooms info z)) cs).rooms z)
+        × ((r ≡ 0 → ⊥) → scratch.new ≡ scratch.old)) }
+    ensures waiting { SameWaiting waiting.old waiting.new }
+    ensures estimate { SameEstimate estimate.old estimate.new }
 {
-    let refusal = list_refusal(kinds.len(), numbers.len(), answers.len());
-    if refusal != 0 {
-        return refusal;
-    }
+    check_list(list.kinds.len(), list.numbers.len(), answers.len())?;
     let made = ivector_stream::new(
         info,
-        gconsts,
-        means_invvars_t,
-        inv_vars_t,
-        sigma_inv_m,
-        u,
-        lda_t,
-        lda_offset,
-        global_mean_stats,
+        tables,
         frames,
         rows,
-        waiting_frames,
-        waiting_weights,
-        cmvn_stats,
-        linear,
-        quadratic,
-        current,
+        waiting.lent(),
+        estimate,
         scratch,
-    );
-    match made {
-        NewStream::Refused(number) => number,
-        NewStream::Stream(c) => {
-            let mut t = c.stream;
-            for i in 0..kinds.len() {
-                let k = call_at(kinds, numbers, i);
-                let r = turn(
-                    k,
-                    t,
-                    lists,
-                    samples,
-                    gconsts,
-                    means_invvars_t,
-                    inv_vars_t,
-                    sigma_inv_m,
-                    u,
-                    lda_t,
-                    lda_offset,
-                    global_mean_stats,
-                    frames,
-                    rows,
-                    waiting_frames,
-                    waiting_weights,
-                    cmvn_stats,
-                    linear,
-                    quadratic,
-                    current,
-                    scratch,
-                    outs,
-                );
-                t = put_answer(answers, i * 5, r);
-            }
-            0
-        }
+    )?;
+    let mut s = made.stream;
+    let mut held = FrameRooms { frames, rows };
+    // By index: a call's numbers and its answer stand at places of their own, and of what a loop over a zip of them writes an invariant names no
+    // element.
+    for i in 0..list.kinds.len() {
+        let k = call_at(list, i);
+        let call = turn(
+            k,
+            s,
+            list.lists,
+            list.samples,
+            tables,
+            &mut held,
+            waiting,
+            estimate,
+            scratch,
+            outs,
+        );
+        answers[i * 5..i * 5 + 5].copy_from_slice(&numbers_of(call.answer));
+        s = call.stream;
     }
+    Ok(())
 }

@@ -1,9 +1,8 @@
 -- Digits, numbers and lines, byte by byte.
 use Prim.Native.Nat.{ℕ, zero, suc, ◌+◌, ◌-◌, ◌*◌, ◌^◌, ◌≤◌, ◌<◌}
-use mathlib.Core.Path.{◌≡◌, refl, sym, ◌∙◌}
+use mathlib.Core.Path.{◌≡◌, refl, sym, ap, ◌∙◌}
 use mathlib.Core.Bool.{true, false}
 use mathlib.Core.List.{List}
-use native.Mathlib.Numerals.{unary_clauses}
 use native.Mathlib.Omega.{arith}
 use native.Mathlib.Decide.{dec_le}
 use borrow.Author.Tests.{lt-ltb, le-ltb, le-leb, lt-leb, eq-eqb, ne_eqb}
@@ -72,22 +71,28 @@ module _ (text : List ℕ) (i r : ℕ) (e : line_at (drop i text) i ≡ r) where
   unfolding line_at
   line_found l p = let g : line_at (drop i text) i ≡ i + 1 = rw (drop_next 0 text i l, eq-eqb _ 10 p) in sym g ∙ e
 
--- the last whole line, from the end: byte i - 1 ends it, or the first i - 1 bytes have it
+-- the last whole line, from the end: the last byte ends it, or the bytes before that have it
 module _ (text : List ℕ) where
-  pub end_found : (i : ℕ) → 0 < i → get_or text (i - 1) 0 ≡ 10 → i ≡ lines_end text i
+  pub end_first : 0 ≡ lines_end text 0
   unfolding lines_end
-  end_found zero p h = absurd (omega arith)
-  end_found (suc i) p h = rw (eq-eqb (get_or text i 0) 10 (simp unary_clauses at h))
+  end_first = refl
 
-  pub end_before : (i : ℕ) → 0 < i → (get_or text (i - 1) 0 ≡ 10 → ⊥) → lines_end text (i - 1) ≡ lines_end text i
+  pub end_found : (k : ℕ) → get_or text k 0 ≡ 10 → suc k ≡ lines_end text (suc k)
   unfolding lines_end
-  end_before zero p h = absurd (omega arith)
-  end_before (suc i) p h = simp unary_clauses (rw (ne_eqb (get_or text i 0) 10 (simp unary_clauses at h)))
+  end_found k h = rw (eq-eqb (get_or text k 0) 10 h)
 
-  pub end_none : (i : ℕ) → i ≤ 0 → 0 ≡ lines_end text i
+  end_step : (n : ℕ) → (get_or text n 0 ≡ 10 → ⊥) → lines_end text n ≡ lines_end text (suc n)
   unfolding lines_end
-  end_none zero p = refl
-  end_none (suc i) p = absurd (omega arith)
+  end_step n p = rw (ne_eqb (get_or text n 0) 10 p)
+
+  -- none of the bytes from k on is 10
+  pub end_above : (n k : ℕ) → k ≤ n → ((i : ℕ) → k ≤ i → i < n → get_or text i 0 ≡ 10 → ⊥) → lines_end text k ≡ lines_end text n
+  end_above zero k h p = (let e : k ≡ zero = omega (arith, h) in ap (lines_end text) e)
+  end_above (suc n) k h p = go (λ q. end_above n k q (λ i a b. p i a (omega (arith, b)))) (dec_le k n)
+    where
+      go : (k ≤ n → lines_end text k ≡ lines_end text n) → Dec (k ≤ n) → lines_end text k ≡ lines_end text (suc n)
+      go f (yes q) = f q ∙ end_step n (λ g. p n q (omega arith) g)
+      go f (no q) = let e : k ≡ suc n = omega (arith, h, q) in ap (lines_end text) e
 
 -- the place after, in the text and behind it
 pub step_in : (text : List ℕ) (at : ℕ) → at < length text → at + 1 ≡ step_at text at

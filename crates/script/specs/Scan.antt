@@ -1,8 +1,5 @@
 -- Numbers, lists and lines of a script: a line is a letter and tokens, parted by one space each, and ends with byte 10.
-use Rattle.std.specs.Prelude.{ℕ, ◌<◌, ◌≤◌, zero, suc, ◌+◌, ◌-◌, ◌*◌, ◌^◌, ◌%◌, true, false, ◌&&◌, List, [], ◌∷◌, eqb, leb, ltb, Float, length, drop, get_or, set, if◌then◌else◌}
-use Rattle.std.specs.Float.{binary32}
-use Rattle.std.specs.Float.Ieee.{of_bits}
-use Rattle.loops.specs.Loop.{iter}
+use Rattle.std.specs.Prelude.{ℕ, ◌<◌, ◌≤◌, zero, suc, ◌+◌, ◌-◌, ◌*◌, ◌^◌, true, false, ◌&&◌, List, [], ◌∷◌, eqb, leb, ltb, length, drop, get_or, if◌then◌else◌}
 use Rattle.script.specs.declared.Scan.{Scan}
 use Rattle.script.specs.declared.Signed.{Signed}
 
@@ -39,20 +36,6 @@ signed_at text at =
 -- n moved by a number that may have a minus sign; as it is where the sum does not fit in 64 bits
 unfoldable pub moved_by : ℕ → Signed → ℕ
 moved_by n by = if by.minus then n - by.size else if ltb (n + by.size) (2 ^ 64) then n + by.size else n
-
--- the place after n numbers from a place on, and number i of them
-unfoldable pub place_after : ℕ → List ℕ → ℕ → ℕ → ℕ
-place_after base text at n = iter n (λ _ p. (number_at base 0 (drop p text) p).next) at
-
-abbrev pub item_at : ℕ → List ℕ → ℕ → ℕ → ℕ
-item_at base text at i = let p = place_after base text at i in (number_at base 0 (drop p text) p).value
-
--- a room after n decimal numbers, or n floats by their bits, are read into it; what is past its end is read and not kept
-unfoldable pub numbers_read : List ℕ → ℕ → ℕ → List ℕ → List ℕ
-numbers_read text at n room = iter n (λ i l. set l i (item_at 10 text at i)) room
-
-unfoldable pub floats_read : List ℕ → ℕ → ℕ → List Float → List Float
-floats_read text at n room = iter n (λ i l. set l i (of_bits binary32 (item_at 16 text at i % 2 ^ 32))) room
 
 -- where the next line begins
 unfoldable pub line_at : List ℕ → ℕ → ℕ

@@ -1,4 +1,5 @@
 // Reads a script: its bytes from a reader, then its numbers, lists and lines, and the floats whose bits it writes. Every program that plays scripts reads with it.
+// Each room and text is cut at a place that was counted: with `split_at` it is no plainer.
 #![tactic(auto)]
 
 ghost use Rattle.std.specs.Prelude.{◌≡◌, ◌<◌, ◌≤◌, ◌%◌, length, take, drop, get_or, IfOk, ◌+◌, ◌*◌};
@@ -6,7 +7,7 @@ ghost use Rattle.std.specs.Option.{MatchOption};
 ghost use Rattle.std.specs.Io.KnownBytes.{Consumes, IsAtEnd};
 ghost use Rattle.std.specs.Float.{binary32, binary64};
 ghost use Rattle.std.specs.Float.Ieee.{of_bits, to_bits};
-ghost use Rattle.script.specs.Scan.{digit_of, GoesOn, Ends, number_at, step_at, signed_at, line_at, lines_end, whole_lines, moved_by, place_after, numbers_read, floats_read};
+ghost use Rattle.script.specs.Scan.{digit_of, GoesOn, Ends, number_at, step_at, signed_at, line_at, lines_end, whole_lines, moved_by};
 
 mod lines;
 mod pattern;
@@ -20,7 +21,6 @@ use std::io::{self, Read};
 use std::num::{
     f32_from_bits_with_nan, f32_to_bits_with_nan, f64_from_bits_with_nan, f64_to_bits_with_nan,
 };
-use words::put;
 pub use words::{Item, Words, front, lend};
 
 // A number, and the place after the byte that ends it.
@@ -48,7 +48,7 @@ pub fn read_full<R: Read>(reader: &mut R, room: &mut [u8]) -> io::Result<usize>
     ensures end { IfOk result (λ n. n < length room.new → IsAtEnd (R.remaining reader.new)) }
 {
     let mut n = 0;
-    // a `while`: what a read took is the step
+    // a `while`, and the room cut at its place: what a read took is the step, so a range is no plainer
     while n < room.len() {
         let read = reader.read(&mut room[n..])?;
         if read == 0 {
@@ -149,36 +149,6 @@ pub fn moved(n: usize, by: Signed) -> usize
     n.checked_add(by.size).unwrap_or(n)
 }
 
-// ---- lists
-
-// n decimal numbers, into a room as far as it has places; the place after them.
-pub fn read_numbers(text: &[u8], at: usize, n: usize, items: &mut [usize]) -> usize
-    ensures { (result ≡ place_after 10 text.now at n) × (items.new ≡ numbers_read text.now at n items.old) }
-{
-    let mut next = at;
-    // by index: what is past the end of the room is read too, so no chain over the room says it
-    for i in 0..n {
-        let x = number(text, next, 10);
-        put(items, i, x.value);
-        next = x.next;
-    }
-    next
-}
-
-// n floats by their bits, likewise.
-pub fn read_floats(text: &[u8], at: usize, n: usize, items: &mut [f32]) -> usize
-    ensures { (result ≡ place_after 16 text.now at n) × (items.new ≡ floats_read text.now at n items.old) }
-{
-    let mut next = at;
-    // by index: what is past the end of the room is read too, so no chain over the room says it
-    for i in 0..n {
-        let x = number(text, next, 16);
-        put(items, i, float(x.value));
-        next = x.next;
-    }
-    next
-}
-
 // ---- lines
 
 // Where the line after a place begins.
@@ -197,7 +167,7 @@ pub fn next_line(text: &[u8], at: usize) -> usize
 }
 
 // How many of the n bytes that were read into a room are lines to play: all where the room has places left, else those up to the end of the
-// last whole line.
+// last whole line. The room counts too, so n in a cut of it would be no plainer.
 pub fn whole_lines(text: &[u8], n: usize) -> usize
     ensures { (result ≡ whole_lines text.now n) × (result ≤ length text.now) }
 {
@@ -212,16 +182,12 @@ fn lines_end(text: &[u8]) -> usize
     ensures end { result ≡ lines_end text.now (length text.now) }
     ensures bound { result ≤ length text.now }
 {
-    // by index: the place is the answer; a `rposition` with a default says it no plainer
-    for last in (0..text.len()).rev() {
-        if text[last] == 10 {
-            return last + 1;
-        }
-    }
-    0
+    text.iter()
+        .rposition(|&b| b == 10)
+        .map_or(0, |last| last + 1)
 }
 
-// ---- floats and their bits
+// ---- floats and their bits: these are one for each type, by the library's function for it; a trait would want an impl for each all the same
 
 // The float of a pattern.
 pub fn float(bits: usize) -> f32

@@ -1,4 +1,4 @@
-// A script and its lines.
+// A script and its lines. Each text is cut at a place that was counted: with `split_at` it is no plainer, since one of the two parts alone is read.
 ghost use Rattle.std.specs.Prelude.{◌≡◌, ◌<◌, ℕ, List, Bool, length, take, drop, nat_lt, not, IfOk, OnOk};
 ghost use Rattle.std.specs.Io.KnownBytes.{Consumes, Appends};
 ghost use Rattle.std.specs.Iterator.{at_most};

@@ -1,4 +1,5 @@
-// What the answers to a script print of floats: the hexadecimal digits of their bits.
+// What the answers to a script print of floats: the hexadecimal digits of their bits. These are functions: a `Display` prints a float by its value, and a type
+// around each float, with a `Display` of its own, would be no plainer.
 ghost use Rattle.std.specs.Prelude.{◌≡◌, ◌∷◌, ℕ, List, length, OnOk};
 ghost use Rattle.std.specs.Io.KnownBytes.{Appends};
 ghost use Rattle.std.specs.Float.{binary32, binary64};

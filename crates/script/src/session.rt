@@ -7,7 +7,7 @@ use super::{Item, Words};
 use definition::{IvectorInfo, IvectorOptions, IvectorStream, StreamAnswer};
 use std::io::{self, Write};
 
-/// What is open: nothing, a model, or a stream over it. Three states, so no Option says it.
+/// What is open: nothing, a model, or a stream over it. Three states: an Option of a Result is no plainer.
 #[derive(Clone, Copy)]
 pub enum Held {
     Nothing,
@@ -67,7 +67,7 @@ impl Item for IvectorOptions {
     }
 }
 
-/// The number of an answer, and what is held. 10 stands alone.
+/// The number of an answer, and what is held. 10 stands alone. The record's type is the library's, so a `Display` would need a type around it, and be no plainer.
 pub fn print_answer<W: Write>(writer: &mut W, answer: StreamAnswer) -> io::Result<()>
     ensures { OnOk result (Appends (W.contents writer.old) (W.contents writer.new) (answer_text answer)) }
 {

@@ -1,4 +1,5 @@
-// What is left to read of a script, and the items that are read from its front: numbers, floats by their bits, phones, lists of them.
+// What is left to read of a script, and the items that are read from its front: numbers, floats by their bits, phones, lists of them. Each part of a
+// text or a room is cut at a place that was counted, as `take` and `drop` say it: with `split_at` it is no plainer.
 ghost use Rattle.std.specs.Prelude.{[], ◌∷◌, ◌++◌, Contains, ◌≡◌, ◌<◌, ◌*◌, ◌%◌, ◌^◌, ℕ, List, length, min, take, drop, get_or, set, slice_index};
 ghost use Rattle.std.specs.Float.{binary32, binary64};
 ghost use Rattle.std.specs.Float.Ieee.{of_bits};
@@ -204,7 +205,7 @@ pub fn lend<T>(room: &mut [T], n: usize) -> &mut [T]
 }
 
 // An item at a place that a room has; nothing at one past its end.
-pub(crate) fn put<T: Copy>(room: &mut [T], i: usize, x: T)
+fn put<T: Copy>(room: &mut [T], i: usize, x: T)
     ensures { room.new ≡ set room.old i x }
 {
     if i < room.len() {

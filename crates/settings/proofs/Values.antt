@@ -1,28 +1,16 @@
 -- Whole numbers, floats and plain texts, as the code reads them.
-use Rattle.std.specs.Prelude.{if◌then◌else◌}
-use mathlib.Core.Path.{◌≡◌, refl, sym, ap, ◌∙◌}
-use mathlib.Core.Bool.{Bool, true, false, ◌&&◌}
-use mathlib.Core.List.{List, []}
-use Rattle.std.specs.Prelude.{Option, Some, None}
+use mathlib.Core.Path.{◌≡◌, sym, ap, ◌∙◌}
+use mathlib.Core.List.{List}
+use Rattle.std.specs.Prelude.{Some, None}
 use Prim.Native.Nat.{ℕ, ◌+◌, ◌-◌, ◌*◌, ◌^◌, ◌≤◌, ◌<◌}
 use native.Mathlib.Nat.{le_trans}
-use native.Mathlib.Omega.{arith}
-use borrow.Author.Tests.{le-leb, lt-leb, lt-ltb, le-ltb, eq-eqb, ne_eqb}
-use lib.Dec.{leb, ltb, eqb}
-use lib.Ieee.{Float, Format, binary32, prec}
-use lib.ListN.{length, take, drop, get_or, drop_of_length-le, length-drop}
-use lib.Seq.{take_all}
-use Rattle.loops.specs.Lists.{all_of}
-use Rattle.loops.proofs.Choose.{by-test, and_first, and_second, and_both}
-use Rattle.loops.proofs.Parts.{drop_next}
-use Rattle.floats.specs.Decimal.{tens}
+use borrow.Author.Tests.{lt-ltb, le-ltb}
+use lib.Ieee.{Float, binary32}
+use lib.ListN.{length, drop, get_or}
 use Rattle.floats.specs.Operators.{f32}
-use Rattle.definition.specs.declared.IvectorOptions.{IvectorOptions}
-use Rattle.definition.specs.Options.{within}
-use Rattle.definition.specs.Reader.{read, refused, after, give, need, run, here}
-use Rattle.definition.specs.Text.{digits_value, to_nearest, number}
+use Rattle.definition.specs.Text.{digits_value, number}
 use Rattle.kaldi_text.proofs.Decimals.{decimal_next, decimal_end, decimal_ge}
-use Rattle.settings.specs.Settings.{plus, whole, read_or, setting, options_from, options_of}
+use Rattle.settings.specs.Settings.{whole, setting, options_from, options_of}
 use Rattle.settings.specs.Steps.{below64}
 
 -- ---- digits, place by place

@@ -1,5 +1,6 @@
 // The options from the maker's settings texts, splice.conf and online_cmvn.conf: as `conf_int`, `conf_float` and the first half of
-// `IvectorInfo::open` in the Rust.
+// `IvectorInfo::open` in the Rust. Each line and each value is cut at a place that was counted: with `split_at` it is no plainer, since one of the
+// two parts alone is read.
 #![tactic(auto)]
 
 ghost use Rattle.std.specs.Prelude.{◌≡◌, true, false, MatchOption, not, List, ℕ, ◌+◌, ◌≤◌, length, take, drop, eqb, leb};
@@ -15,6 +16,7 @@ use definition::{IvectorOptions, Refusal, need};
 use kaldi_text::{Decimal, TextReader, digit_value, is_space, spaces_len};
 
 // ---- lines
+// Each of these says that what it gives is in the text, by which callers cut: a count of a type of its own would be no plainer.
 
 // How long the first line is: up to a byte 10, or to the end.
 fn line_len(s: &[u8]) -> usize
@@ -36,6 +38,7 @@ fn trim(s: &[u8]) -> &[u8]
     ensures value { result.now ≡ trimmed s.now }
     ensures in_bounds { length result.now ≤ length s.now }
 {
+    // these are cut by hand: the library's `trim_ascii` leaves byte 11, which is a blank in the definition
     let t = &s[spaces_len(s)..];
     &t[..trim_end(t)]
 }
@@ -54,6 +57,8 @@ fn value<'a>(s: &'a [u8], key: &[u8]) -> &'a [u8]
     ensures in_bounds { length result.now ≤ length s.now }
 {
     let mut at = 0;
+    // a `while`, and the lines cut by hand: the step is a line's length, and the invariant is over the lines from a place on; over the library's `split`
+    // the definition's lines would have to be proved its parts first, which is no plainer
     while at <= s.len() {
         let end = at + line_len(&s[at..]);
         let line = trim(&s[at..end]);
@@ -66,6 +71,8 @@ fn value<'a>(s: &'a [u8], key: &[u8]) -> &'a [u8]
 }
 
 // ---- values
+// Each of these that moves a reader says that its bytes stay the same ones: a fact of its fields speaks of one state, and not of the one before, so no type is
+// plainer.
 
 // The number that digits stand for, where it is below 2^64.
 fn below_64_bits(digits: &[u8]) -> Option<usize>
@@ -90,7 +97,8 @@ fn whole(r: &mut TextReader<'_>) -> Result<usize, Refusal>
     below_64_bits(digits).ok_or(Refusal::CmvnForm)
 }
 
-// The nearest f32, where the limits are kept.
+// The nearest f32, where the limits are kept: those of its format. `Decimal::nearest` has an f64's; one function for both would be told the two
+// limits, which is no plainer.
 #[tactic(auto, unfolding(definition::specs::Text::to_nearest, loops::specs::Refusal::first_of))]
 fn nearest(d: Decimal) -> Result<f32, Refusal>
     ensures { (s : List ℕ) (at : ℕ) → given result at ≡ to_nearest binary32 d.minus d.m d.up d.down s at }
@@ -101,7 +109,7 @@ fn nearest(d: Decimal) -> Result<f32, Refusal>
     Ok(floats::decimal(d.minus, d.m, d.up, d.down))
 }
 
-fn float(r: &mut TextReader<'_>) -> Result<f32, Refusal>
+fn number(r: &mut TextReader<'_>) -> Result<f32, Refusal>
     requires { length r.old.src.now ≤ 65536 }
     ensures value { given result r.new.at ≡ number binary32 r.old.src.now r.old.at }
     ensures same_bytes { r.new.src.now ≡ r.old.src.now }
@@ -140,7 +148,7 @@ fn float_setting(s: &[u8], key: &[u8], default: f32) -> f32
 {
     let v = value(s, key);
     let mut r = TextReader::new(v);
-    let x = float(&mut r);
+    let x = number(&mut r);
     all_or(x, r.at, v.len(), default)
 }
 

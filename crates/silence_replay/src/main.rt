@@ -1,5 +1,6 @@
 // Replays a script of silence calls from standard input and prints an answer line for each. Of the script's commands it knows
-// t (make a table), b (traceback), a (weights), y (the next call's record or rooms are forged) and z (end of a session).
+// t (make a table), b (traceback), a (weights), y (the next call's record or rooms are forged) and z (end of a session). An enum of the letters, matched once
+// more in each of these functions, is no plainer; nor is another record in place of one whose fields are forged.
 #![tactic(auto)]
 
 use definition::{DecoderFrame, InputFrame, SilenceWeighting};
@@ -52,7 +53,7 @@ impl Session {
         })
     }
 
-    /// This is open, and nothing forged.
+    /// This is open, and nothing forged. The rooms stay, so another session in place of this one would be no plainer.
     fn hold(&mut self, held: Option<SilenceWeighting>) {
         self.held = held;
         self.told = held;

@@ -1,5 +1,6 @@
 -- Calls on a table chain: over every list of them, each on the record and the rooms as the last one left them, the answers that their
 -- contracts give are those of the definition run on the table alone.
+use Rattle.std.specs.Prelude.{Ok, Err}
 use Prim.Native.Nat.{ℕ, zero, suc, ◌≤◌, min, max}
 use mathlib.Core.Path.{◌≡◌, refl, sym, ap, ◌∙◌}
 use mathlib.Core.Bool.{Bool, false, not, ◌||◌}
@@ -20,7 +21,6 @@ use Rattle.definition.specs.declared.InputFrame.{InputFrame}
 use Rattle.definition.specs.declared.DecoderFrame.{DecoderFrame}
 use Rattle.definition.specs.declared.SilenceWeighting.{SilenceWeighting}
 use Rattle.definition.specs.declared.SilenceAnswer.{SilenceAnswer}
-use Rattle.definition.specs.declared.NewTable.TheVariants as N
 use Rattle.definition.specs.Silence.{decoder, FrameInfo, TableRooms, Table, table_in, over_rooms, segments, traced, settings_refusal, new_table, places, table_broken, traceback_tests, wanted, asked, asked_table, delta_tests}
 use Rattle.definition.specs.Silence.{compute_current_traceback, get_delta_weights, silence_answer, TableCall, table_call, table_done}
 use Rattle.silence_weighting.proofs.Refusals.{sound, traceback_taken, delta_taken}
@@ -96,7 +96,10 @@ table_back t z =
     let d : FrameInfo = record { known = false; is_silence = false; current_weight = nan } in
     build_ext (length t) _ _
     (λ k l.
-    rw (over_at false (knowns t) z.known k (omega (arith, length-map t (λ (f : FrameInfo). f.known))), over_at false (silences t) z.is_silence k (omega (arith, length-map t (λ (f : FrameInfo). f.is_silence))), over_at nan (weights t) z.current_weight k (omega (arith, length-map t (λ (f : FrameInfo). f.current_weight))))
+    let a = over_at false (knowns t) z.known k (omega (arith, length-map t (λ (f : FrameInfo). f.known))) in
+    let b = over_at false (silences t) z.is_silence k (omega (arith, length-map t (λ (f : FrameInfo). f.is_silence))) in
+    let c = over_at nan (weights t) z.current_weight k (omega (arith, length-map t (λ (f : FrameInfo). f.current_weight))) in
+    rw (a, b, c)
     (rw (get_or-map (λ (f : FrameInfo). f.known) t k d, get_or-map (λ (f : FrameInfo). f.is_silence) t k d, get_or-map (λ (f : FrameInfo). f.current_weight) t k d)))
     ∙ build_list d t
 
@@ -117,8 +120,11 @@ module _ (s : SilenceWeighting) (z : TableRooms) (t : Table) (b : broken s z ≡
   left zero c r z' h a ez =
       let e : r.silence ≡ grown = ap (λ (x : SilenceAnswer). x.silence) a in
       let l = h refl in
-      let d = sound s _ _ _ b in (
-        rw (e, ez) (unbroken _ _ _ l (length_over (knowns t) z.known (omega (arith, length-map t (λ (f : FrameInfo). f.known)))) (length_over (silences t) z.is_silence (omega (arith, length-map t (λ (f : FrameInfo). f.is_silence)))) (length_over (weights t) z.current_weight (omega (arith, length-map t (λ (f : FrameInfo). f.current_weight))))),
+      let d = sound s _ _ _ b in
+      let ks = length_over (knowns t) z.known (omega (arith, length-map t (λ (f : FrameInfo). f.known))) in
+      let ss = length_over (silences t) z.is_silence (omega (arith, length-map t (λ (f : FrameInfo). f.is_silence))) in
+      let ws = length_over (weights t) z.current_weight (omega (arith, length-map t (λ (f : FrameInfo). f.current_weight))) in (
+        rw (e, ez) (unbroken _ _ _ l ks ss ws),
         rw (e, ez) (table_back t z),
         e,
       )
@@ -199,14 +205,14 @@ chain {s} {z} b (weighs {z' = z'} {ready = ready} {first = first} {fs = fs} {fs'
     (λ d. chain d run)
 
 -- a table that was made
-made_is : (r : ℕ) (s s' : SilenceWeighting) → taken r (N.Table s) (N.Refused r) ≡ N.Table s' → (r ≡ 0) × (s ≡ s')
+made_is : (r : ℕ) (s s' : SilenceWeighting) → taken r (Ok s) (Err r) ≡ Ok s' → (r ≡ 0) × (s ≡ s')
 made_is zero s s' e = (refl, cc)
 made_is (suc r) s s' e = let z : ◌≡◌ {A = ℕ} 0 1 = cc in absurd (omega arith)
 
 -- From a table that was made without refusal, in rooms of its length with whatever in them: every list of calls is answered as the
 -- definition answers it from the empty table. So 10 comes only for another number of silence phones.
 pub chained : (phones : ℕ) (w : Float) (subsampling n : ℕ) (s : SilenceWeighting) (z : TableRooms) (cs : List Call) (as' : List Answer)
-    → new_table phones w subsampling n ≡ N.Table s → length z.known ≡ n → length z.is_silence ≡ n → length z.current_weight ≡ n → Run s z cs as' → as' ≡ answers s [] cs
+    → new_table phones w subsampling n ≡ Ok s → length z.known ≡ n → length z.is_silence ≡ n → length z.current_weight ≡ n → Run s z cs as' → as' ≡ answers s [] cs
 unfolding new_table table_broken table_in build
 chained phones w subsampling n s z cs as' e lk ls lw run =
     let m = made_is (settings_refusal phones w subsampling) _ s e in

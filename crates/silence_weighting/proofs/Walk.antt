@@ -14,11 +14,11 @@ use lib.Ieee.{Float, nan, ne}
 use Rattle.loops.specs.Lists.{build, flat, over}
 use Rattle.loops.specs.Ring.{put}
 use Rattle.loops.proofs.Loop.{iter_none, iter_step}
-use Rattle.loops.proofs.Choose.{by-test, choose_true, choose_false, choose_map, or_first, or_second, or_none}
+use Rattle.loops.proofs.Choose.{by-test, choose_true, choose_false, choose_map}
 use Rattle.loops.proofs.Build.{length_build, map-build}
 use Rattle.loops.proofs.Flat.{flat_none, flat_more, flat_add, flat_ext, flat_most}
 use Rattle.loops.proofs.Fill.{over_none, over_put, put_past, put_fit}
-use Rattle.floats.specs.Operators.{◌-₃₂◌, zero₃₂, one₃₂}
+use Rattle.floats.specs.Operators.{◌-₃₂◌, zero₃₂}
 use Rattle.definition.specs.declared.InputFrame.{InputFrame}
 use Rattle.definition.specs.declared.DecoderFrame.{DecoderFrame}
 use Rattle.definition.specs.Changes.{Change}

@@ -1,11 +1,9 @@
 -- What a call is lent and what it answers, in the words of the definitions.
-use Rattle.std.specs.Prelude.{◌≡◌, ◌≤◌, ℕ, List, length, Result, Ok, Err}
+use Rattle.std.specs.Prelude.{◌≡◌, ◌≤◌, ℕ, length, Result, Ok, Err}
 use Rattle.definition.specs.declared.SilenceWeighting.{SilenceWeighting}
 use Rattle.definition.specs.declared.SilenceAnswer.{SilenceAnswer}
 use Rattle.definition.specs.declared.refusal.Refusal.{Refusal}
-use Rattle.definition.specs.declared.NewTable.{NewTable}
-use Rattle.definition.specs.declared.NewTable.TheVariants as N
-use Rattle.definition.specs.Number.{number_of, refused_by}
+use Rattle.definition.specs.Number.{refused_by}
 use Rattle.definition.specs.Silence.{TableRooms, table_rooms}
 use Rattle.silence_weighting.specs.declared.rooms.SilenceRooms.{SilenceRooms}
 
@@ -23,11 +21,6 @@ pub record Holds (n : ℕ) (z : TableRooms) : Type 0 where
   pub known : n ≤ length z.known
   pub is_silence : n ≤ length z.is_silence
   pub current_weight : n ≤ length z.current_weight
-
--- the answer where a table is made
-abbrev pub made : Result SilenceWeighting Refusal → NewTable
-made (Ok s) = N.Table s
-made (Err e) = N.Refused (number_of e)
 
 -- how many changes a call gave
 abbrev pub given_by : Result ℕ Refusal → ℕ

@@ -1,6 +1,7 @@
 // `SilenceWeighting`: frames that the decoder's best path calls silence enter the statistics at a small weight, and the
 // changes of weight are given by input frame. The table lies in three lent rooms with a place for each decoder frame
-// (`SilenceRooms`). Its record keeps how many of the places are in use.
+// (`SilenceRooms`). Its record keeps how many of the places are in use. Each function that writes into the rooms says that they stay those that were
+// lent: of a struct behind `&mut` a caller knows what a clause says, and no more (tried without).
 #![tactic(auto)]
 
 mod rooms;
@@ -10,11 +11,11 @@ ghost use Rattle.loops.specs.Lists.{build, any_of, over};
 ghost use Rattle.loops.specs.Refusal.{first_of};
 ghost use Rattle.loops.specs.Ring.{put};
 ghost use Rattle.floats.specs.Operators.{zero₃₂};
-ghost use Rattle.definition.specs.Number.{refused_by};
+ghost use Rattle.definition.specs.Number.{refused_by, numbered};
 ghost use Rattle.definition.specs.Silence.{decoder, FrameInfo, TableRooms, table_rooms, Table, table_in, segments, traced, before, carried, weighted, decoder_frames, input_frame, delta_weights};
 ghost use Rattle.definition.specs.Silence.{settings_refusal, new_table, active, places, table_broken, traceback_tests, compute_current_traceback, get_delta_weights, table_call, table_done};
 ghost use Rattle.silence_weighting.specs.Steps.{table_of, status_of, number, given};
-ghost use Rattle.silence_weighting.specs.Rooms.{rooms_in, SameLoans, Holds, made, answer_of, noted};
+ghost use Rattle.silence_weighting.specs.Rooms.{rooms_in, SameLoans, Holds, answer_of, noted};
 
 use definition::{DecoderFrame, InputFrame, Refusal, SilenceAnswer, SilenceWeighting, need};
 pub use rooms::{LentPath, SilenceRooms};
@@ -46,7 +47,7 @@ pub fn new(
     subsampling: usize,
     table: usize,
 ) -> Result<SilenceWeighting, Refusal>
-    ensures { made result ≡ new_table (length silence_phones.now) silence_weight subsampling table }
+    ensures { numbered result ≡ new_table (length silence_phones.now) silence_weight subsampling table }
 {
     check_settings(silence_phones.len(), silence_weight, subsampling)?;
     Ok(SilenceWeighting {
@@ -103,14 +104,16 @@ fn is_whole(s: SilenceWeighting, rooms: &SilenceRooms<'_>) -> bool
         && s.length.0 <= places(s)
 }
 
-// n places of a room from place a on, set to v.
+// n places of a room from place a on, set to v. By place and number, as the definition marks them: a part that the caller cuts is no plainer, since what is
+// promised is of the whole room. A loop, which is compiled to one fill of memory: the library's `fill` writes its last element on its own, and a round of silence
+// calls took 2,973,370 instructions with it, and 2,710,750 so (counted).
 fn fill<T: Copy>(room: &mut [T], a: usize, n: usize, v: T)
-    requires within { a + n ≤ length room.old }
-    requires clones { T.is_infallible v }
-    requires same { (y : T) → T.is_clone v y → y ≡ v }
+    requires { a + n ≤ length room.old }
     ensures { room.new ≡ put a (build n (λ i. v)) room.old }
 {
-    room[a..a + n].fill(v);
+    for i in 0..n {
+        room[a + i] = v;
+    }
 }
 
 // The places from `from` up to n more as those of frames that no path has named: unknown, of weight 0.
@@ -149,7 +152,8 @@ fn check_traceback(
     )
 }
 
-// The segments' flags, one segment after the other, in a table of at least `decoded` frames.
+// The segments' flags, one segment after the other, in a table of at least `decoded` frames. The two rooms that it writes, and not all three: what the loop
+// would have to say of the third and of the struct is no plainer.
 fn mark_segments(
     silence_phones: &[i32],
     known: &mut [bool],
@@ -167,7 +171,7 @@ fn mark_segments(
         (known.new ≡ over (map (λ f. f.known) t) known.old)
         × (is_silence.new ≡ over (map (λ f. f.is_silence) t) is_silence.old) }
 {
-    // by index: three lists in step, of which two zips would say no more
+    // By index: three lists in step, of which two zips would say no more.
     for i in 0..path.phones.len() {
         let stop = path.ends[i].min(decoded.0);
         let start = path.starts[i].min(stop);
@@ -178,6 +182,7 @@ fn mark_segments(
 }
 
 /// Records the silence status of every decoded frame from the best path's phone segments.
+#[inline(always)]
 pub fn compute_current_traceback(
     s: &mut SilenceWeighting,
     silence_phones: &[i32],
@@ -258,7 +263,8 @@ fn before_weight(s: SilenceWeighting, rooms: &SilenceRooms<'_>) -> f32
     rooms.weight(s.length, DecoderFrame(begin.0 - 1))
 }
 
-// The new weight of a frame of this status, p being that of the frame before it.
+// The new weight of a frame of this status, p being that of the frame before it. `blind` is the definition's: whether the walk began at an unknown frame.
+// An enum of two for it would be translated back in the clause.
 #[tactic(auto, unfolding(definition::specs::Silence::carried))]
 fn next_weight(silence_weight: f32, blind: bool, status: Option<bool>, p: f32) -> f32
     ensures { (f : FrameInfo) → status ≡ status_of f → result ≡ carried silence_weight blind f p }
@@ -270,7 +276,8 @@ fn next_weight(silence_weight: f32, blind: bool, status: Option<bool>, p: f32) -
     }
 }
 
-// How many changes a frame gives.
+// How many changes a frame gives, `last` being the definition's test of the table's last frame: an enum of two would be translated back in each clause, here
+// and in `give`.
 #[tactic(auto, unfolding(crate::specs::Steps::number))]
 fn number_of(subsampling: usize, diff: f32, last: bool) -> usize
     ensures { result ≡ number subsampling diff last }
@@ -291,7 +298,7 @@ fn count_changes(s: SilenceWeighting, rooms: &SilenceRooms<'_>, n: DecoderFrame)
     let mut weight = before_weight(s, rooms);
     let mut count = 0;
     let frames_out = n.0 - begin.0;
-    // by number: a step is of frame `begin + offset`, and looks at places of three rooms
+    // By index: a step is of frame `begin + offset`, and looks at places of three rooms.
     for offset in 0..frames_out {
         let frame = DecoderFrame(begin.0 + offset);
         let w = next_weight(
@@ -307,7 +314,7 @@ fn count_changes(s: SilenceWeighting, rooms: &SilenceRooms<'_>, n: DecoderFrame)
     count
 }
 
-// The changes of decoder frame k, from place `at` of the answer on. Returns the place after them.
+// The changes of decoder frame k, from place `at` of the answer on. Returns the place after them. `last` is the definition's, as in `number_of`.
 fn give(
     frames: &mut [usize],
     weights: &mut [f32],
@@ -325,7 +332,7 @@ fn give(
     ensures weights { weights.new ≡ put at (map (λ x. x.1) (given clock.subsampling clock.first k diff last)) weights.old }
 {
     let n = number_of(clock.subsampling, diff, last);
-    // by number: input frame j of a decoder frame is reckoned from j
+    // By index: input frame j of a decoder frame is reckoned from j.
     for j in 0..n {
         frames[at + j] = clock.input_frame(k, j).0;
     }
@@ -333,7 +340,8 @@ fn give(
     at + n
 }
 
-// The walk to a table that is to have n frames: the new weights, and the changes. Returns how many.
+// The walk to a table that is to have n frames: the new weights, and the changes. Returns how many. n is of the table, as the definition has it, and no
+// length of a slice.
 fn give_changes(
     s: SilenceWeighting,
     rooms: &mut SilenceRooms<'_>,
@@ -360,7 +368,7 @@ fn give_changes(
     let mut weight = before_weight(s, rooms);
     let mut at = 0;
     let frames_out = n.0 - begin.0;
-    // by number, as in `count_changes`
+    // By index, as in `count_changes`.
     for offset in 0..frames_out {
         let frame = DecoderFrame(begin.0 + offset);
         let w = next_weight(
@@ -410,6 +418,7 @@ fn check_deltas(
 }
 
 /// The weight changes by input frame, Kaldi's `GetDeltaWeights`, and how many they are. Decoder frame 0 begins at input frame `first_decoder_frame`.
+#[inline(always)]
 pub fn get_delta_weights(
     s: &mut SilenceWeighting,
     rooms: &mut SilenceRooms<'_>,

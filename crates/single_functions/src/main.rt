@@ -1,10 +1,14 @@
 // Runs single functions on the vectors of standard input, and prints what each gives. A line is a function's letter and its arguments as
 // hexadecimal numbers, parted by one space each: l ln, n ln_f32, e exp, r narrow, f min_post_for, s select_posteriors, g linear_cgd,
 // c cholesky_solve, t a text number (its bytes), v nearest_voice, o the options of two settings texts.
+//
+// Each number is printed by its bits, which no `Display` has: a type around it, for these lines alone, is no plainer. Each list and matrix stands in a room
+// for the longest, and is cut by hand to the length that its line says, which the functions that are called want: it was compared with the room before, so that an
+// Option by `get` is no plainer.
 #![tactic(auto)]
 
 use definition::IvectorOptions;
-use nearest_voice::NearestVoice;
+use leading::Chosen;
 use packed_matrix::Symmetric;
 use script::{Item, Pattern, Script, Words, front, lend, print, print_list};
 use std::io::{self, Write};
@@ -73,16 +77,20 @@ fn select(writer: &mut impl Write, words: &mut Words<'_>) -> io::Result<()> {
     let Some(loglikes) = list(words, &mut loglikes) else {
         return too_large(writer);
     };
-    let mut chosen = [0; 32];
+    let mut gauss = [0; 32];
     let mut posts = [0.0; 32];
-    if chosen.len() < most {
+    if gauss.len() < most {
         return too_large(writer);
     }
-    let selected = posteriors::select_posteriors(loglikes, most, floor, &mut chosen, &mut posts);
+    let mut chosen = Chosen {
+        gauss: &mut gauss,
+        posts: &mut posts,
+    };
+    let selected = posteriors::select_posteriors(loglikes, most, floor, &mut chosen);
     let count = selected.count;
     let nans = selected.nans;
     write!(writer, "{count}")?;
-    for (gauss, post) in chosen.iter().zip(&posts).take(count) {
+    for (gauss, post) in gauss.iter().zip(&posts).take(count) {
         write!(writer, " {gauss}")?;
         print(writer, *post)?;
     }
@@ -172,13 +180,17 @@ fn voice(writer: &mut impl Write, words: &mut Words<'_>) -> io::Result<()> {
     };
     let limit = f32::read(words);
     match nearest_voice::nearest_voice(dim, vector, count, enrolled, limit) {
-        NearestVoice::Voice { index, distance } => {
+        Ok(Some(voice)) => {
+            let index = voice.index;
             write!(writer, "0 {index}")?;
-            print(writer, distance)?;
+            print(writer, voice.distance)?;
             writeln!(writer)
         }
-        NearestVoice::Nobody => writeln!(writer, "0 nobody"),
-        NearestVoice::Refused(refusal) => writeln!(writer, "{refusal}"),
+        Ok(None) => writeln!(writer, "0 nobody"),
+        Err(refusal) => {
+            let number = refusal.number();
+            writeln!(writer, "{number}")
+        }
     }
 }
 

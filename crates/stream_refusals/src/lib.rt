@@ -1,4 +1,6 @@
 // What the calls on a stream refuse, but for the fetch, and the stores of a push: in a crate of their own, so that a check of either stays short.
+// Each says how far a stream goes in the definition's own words, and takes a ring beside the place or the count of frames that its rows are told by, as
+// the definition does: these numbers are the record's, of which a copy would be slower.
 #![tactic(auto)]
 
 ghost use Rattle.std.specs.Prelude.{◌≡◌, false, not, ◌||◌, ◌⊎◌, List, ◌+◌, ◌-◌, ◌<◌, ◌≤◌, length, leb, ltb, Float};
@@ -66,7 +68,8 @@ pub fn new_refusal(
 
 // ---- push
 
-// Whether there was one that is not finite, or x is not.
+// Whether there was one that is not finite, or x is not. `bad` is what the loop has found so far: a function of its own, so that the loop has no branch.
+// By index and four at a time it takes 16 instructions (counted).
 #[inline(always)]
 fn or_not_finite(bad: bool, x: f32) -> bool
     ensures { result ≡ (bad || not (finite x)) }
@@ -197,6 +200,7 @@ fn has_places(own: RingLengths, waiting: usize, n: usize) -> bool
     n <= room && waiting <= room - n
 }
 
+// The changes are two lists, as C lends them and the definition takes them.
 #[tactic(auto, unfolding(loops::specs::Refusal::first_of, program::specs::Calls::update_frame_weights, definition::specs::Machine::change_tests))]
 pub fn change_refusal(
     s: &IvectorStream,

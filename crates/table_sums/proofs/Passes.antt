@@ -4,13 +4,13 @@ use mathlib.Core.Path.{◌≡◌, sym, ap, ◌∙◌}
 use mathlib.Core.List.{List}
 use Prim.Native.Nat.{ℕ, ◌+◌, ◌-◌, ◌*◌, ◌≤◌, ◌<◌}
 use native.Mathlib.Omega.{arith}
-use lib.ListN.{length, get_or}
+use lib.ListN.{length, length-set, get_or, set}
 use lib.Ieee.{Float, nan}
 use Rattle.loops.specs.Loop.{iter}
 use Rattle.loops.specs.Lists.{build}
 use Rattle.loops.specs.Steps.{fill, from}
 use Rattle.loops.proofs.Build.{length_build, at_build, build_ext}
-use Rattle.loops.proofs.Fill.{fill_ext, fill_at, fill_whole, fill_again, fill_over, over_self}
+use Rattle.loops.proofs.Fill.{fill_ext, fill_at, fill_whole, fill_again, fill_over, over_self, fill_turn, fill_ahead}
 use Rattle.loops.proofs.Loop.{iter_more}
 use Rattle.loops.proofs.From.{from-after}
 use Rattle.loops.proofs.Parts.{at_part}
@@ -29,6 +29,12 @@ module _ {A : Type 0} (d : A) (n : ℕ) (f : ℕ → ℕ → A → A) (x : List 
       h ∙ ap (λ (s : List A). fill n (λ m. from k r (f m) (get_or s m d)) s) e
       ∙ fill_again n n _ _ x (omega arith)
       ∙ fill_ext n _ _ x (λ m p. ap (from k r (f m)) (fill_at d _ n x m p) ∙ from-after k (f m) (get_or x m d) r l)
+
+-- the first k places are done, each made from its old value by f, and then place k: what a loop over the places keeps
+pub place_done : (f : ℕ → Float → Float) (k : ℕ) (x : List Float) {n : ℕ} {s : List Float} → k < n → (k ≤ n) × (n ≡ length x) × (length s ≡ length x) × (s ≡ fill k (λ m. f m (at x m)) x)
+    → (k + 1 ≤ n) × (n ≡ length x) × (length (set s k (f k (at s k))) ≡ length x) × (set s k (f k (at s k)) ≡ fill (k + 1) (λ m. f m (at x m)) x)
+place_done f k x {s = s} l h =
+    (omega arith, h.1, length-set s k _ ∙ h.2, fill_turn _ k x (omega (arith, h)) h.3 (ap (f k) (fill_ahead nan _ k x h.3)))
 
 -- no turn, and one turn more
 module _ {S : Type 0} (k : ℕ) (f : ℕ → S → S) (s : S) where
@@ -61,25 +67,37 @@ module _ (n : ℕ) (table x : List Float) (times : Float → Float) (sum : List 
       → Added k j (λ m. g m +₃₂ at r m *₃₂ v)
   added_more k i j l q w e h m p = rw (w m p, term i m p e h) (sym (from_more k _ _ i j l q))
 
+  -- a pass over all places adds the rows from k to i
+  abbrev Passed : ℕ → ℕ → List Float → Type 0
+  Passed k i y = y ≡ fill n (λ m. from k i (λ i a. a +₃₂ at table (i * n + m) *₃₂ times (at x i)) (at sum m)) sum
+
+  passed : (k i : ℕ) {g : ℕ → Float} {y : List Float} → Added k i g → y ≡ fill n g sum → Passed k i y
+  passed k i w h = h ∙ fill_ext n _ _ sum w
+
   module _ (k : ℕ) {r0 : List Float} {v0 : Float} (e0 : r0 ≡ row n table k) (h0 : v0 ≡ times (at x k)) where
-    pub one-row : Added k (k + 1) (λ m. at sum m +₃₂ at r0 m *₃₂ v0)
-    one-row = added_more k k (k + 1) (omega arith) (omega arith) (added_none k) e0 h0
+    one-added : Added k (k + 1) (λ m. at sum m +₃₂ at r0 m *₃₂ v0)
+    one-added = added_more k k (k + 1) (omega arith) (omega arith) (added_none k) e0 h0
+
+    pub one-row : {y : List Float} → y ≡ fill n (λ m. at sum m +₃₂ at r0 m *₃₂ v0) sum → Passed k (k + 1) y
+    one-row = passed k (k + 1) one-added
 
     module _ {r1 : List Float} {v1 : Float} (e1 : r1 ≡ row n table (k + 1)) (h1 : v1 ≡ times (at x (k + 1))) where
-      pub two_rows : Added k (k + 2) (λ m. at sum m +₃₂ at r0 m *₃₂ v0 +₃₂ at r1 m *₃₂ v1)
-      two_rows = added_more k (k + 1) (k + 2) (omega arith) (omega arith) one-row e1 h1
+      two_added : Added k (k + 2) (λ m. at sum m +₃₂ at r0 m *₃₂ v0 +₃₂ at r1 m *₃₂ v1)
+      two_added = added_more k (k + 1) (k + 2) (omega arith) (omega arith) one-added e1 h1
+
+      pub two_rows : {y : List Float} → y ≡ fill n (λ m. at sum m +₃₂ at r0 m *₃₂ v0 +₃₂ at r1 m *₃₂ v1) sum → Passed k (k + 2) y
+      two_rows = passed k (k + 2) two_added
 
       module _ {r2 : List Float} {v2 : Float} (e2 : r2 ≡ row n table (k + 2)) (h2 : v2 ≡ times (at x (k + 2))) where
-        pub three_rows : Added k (k + 3) (λ m. at sum m +₃₂ at r0 m *₃₂ v0 +₃₂ at r1 m *₃₂ v1 +₃₂ at r2 m *₃₂ v2)
-        three_rows = added_more k (k + 2) (k + 3) (omega arith) (omega arith) two_rows e2 h2
+        three_added : Added k (k + 3) (λ m. at sum m +₃₂ at r0 m *₃₂ v0 +₃₂ at r1 m *₃₂ v1 +₃₂ at r2 m *₃₂ v2)
+        three_added = added_more k (k + 2) (k + 3) (omega arith) (omega arith) two_added e2 h2
+
+        pub three_rows : {y : List Float} → y ≡ fill n (λ m. at sum m +₃₂ at r0 m *₃₂ v0 +₃₂ at r1 m *₃₂ v1 +₃₂ at r2 m *₃₂ v2) sum → Passed k (k + 3) y
+        three_rows = passed k (k + 3) three_added
 
         pub four_rows : {r3 : List Float} {v3 : Float} → r3 ≡ row n table (k + 3) → v3 ≡ times (at x (k + 3))
-            → Added k (k + 4) (λ m. at sum m +₃₂ at r0 m *₃₂ v0 +₃₂ at r1 m *₃₂ v1 +₃₂ at r2 m *₃₂ v2 +₃₂ at r3 m *₃₂ v3)
-        four_rows = added_more k (k + 3) (k + 4) (omega arith) (omega arith) three_rows
-
-  -- a pass over all places
-  pub pass_is : (k i : ℕ) {g : ℕ → Float} {y : List Float} → Added k i g → y ≡ fill n g sum → y ≡ fill n (λ m. from k i (λ i a. a +₃₂ at table (i * n + m) *₃₂ times (at x i)) (at sum m)) sum
-  pass_is k i w h = h ∙ fill_ext n _ _ sum w
+            → {y : List Float} → y ≡ fill n (λ m. at sum m +₃₂ at r0 m *₃₂ v0 +₃₂ at r1 m *₃₂ v1 +₃₂ at r2 m *₃₂ v2 +₃₂ at r3 m *₃₂ v3) sum → Passed k (k + 4) y
+        four_rows e h = passed k (k + 4) (added_more k (k + 3) (k + 4) (omega arith) (omega arith) three_added e h)
 
   -- the rows below k are added, then those from k to r
   pub rows_turn : (k r : ℕ) {y z : List Float} → k ≤ r → length y ≡ n

@@ -1,7 +1,9 @@
 // Sums over the rows of a table, each row times a number. Each column's sum goes in the order of the rows. A pass over the sums takes as
 // many rows as are left, at most four, so that the sums are read and written a quarter as often: of a large fetch that took 75,608,238 instructions down
 // to 65,881,709. There is a function for each number of rows, since the check does not cover an array of K rows with K a const parameter; and each goes
-// by index, since through `iter_mut().zip(..)` a proof knows no element of the sums.
+// by index, since through `iter_mut().zip(..)` a proof knows no element of the sums. That each row is as long as the sums stands in each of their contracts:
+// they are plain slices, and a word for it would be no shorter. A row and its number are two arguments: a struct of the two would be made at each row for these
+// functions alone.
 #![tactic(auto)]
 
 ghost use Rattle.std.specs.Prelude.{◌≡◌, ◌+◌, ◌*◌, ◌<◌, ◌≤◌, length, Float};
@@ -10,6 +12,7 @@ ghost use Rattle.floats.specs.Operators.{◌+₃₂◌, ◌*₃₂◌, at, sum�
 ghost use Rattle.table_sums.specs.Factor.{Gives, row};
 
 // A row times v.
+#[tactic(auto, using(loops::proofs::Fill::fills))]
 fn add_one(row: &[f32], v: f32, sum: &mut [f32])
     requires { length row.now ≡ length sum.old }
     ensures { sum.new ≡ fill (length sum.old) (λ m. at sum.old m +₃₂ at row.now m *₃₂ v) sum.old }
@@ -20,6 +23,7 @@ fn add_one(row: &[f32], v: f32, sum: &mut [f32])
 }
 
 // Two rows, each times its number, one after the other.
+#[tactic(auto, using(loops::proofs::Fill::fills))]
 fn add_two(r0: &[f32], r1: &[f32], v0: f32, v1: f32, sum: &mut [f32])
     requires { (length r0.now ≡ length sum.old) × (length r1.now ≡ length sum.old) }
     ensures { sum.new ≡ fill (length sum.old) (λ m. at sum.old m +₃₂ at r0.now m *₃₂ v0 +₃₂ at r1.now m *₃₂ v1) sum.old }
@@ -30,6 +34,7 @@ fn add_two(r0: &[f32], r1: &[f32], v0: f32, v1: f32, sum: &mut [f32])
 }
 
 // Three.
+#[tactic(auto, using(loops::proofs::Fill::fills))]
 fn add_three(r0: &[f32], r1: &[f32], r2: &[f32], v0: f32, v1: f32, v2: f32, sum: &mut [f32])
     requires { (length r0.now ≡ length sum.old) × (length r1.now ≡ length sum.old) × (length r2.now ≡ length sum.old) }
     ensures { sum.new ≡ fill (length sum.old) (λ m. at sum.old m +₃₂ at r0.now m *₃₂ v0 +₃₂ at r1.now m *₃₂ v1 +₃₂ at r2.now m *₃₂ v2) sum.old }
@@ -40,6 +45,7 @@ fn add_three(r0: &[f32], r1: &[f32], r2: &[f32], v0: f32, v1: f32, v2: f32, sum:
 }
 
 // Four.
+#[tactic(auto, using(loops::proofs::Fill::fills))]
 fn add_four(
     r0: &[f32],
     r1: &[f32],
@@ -59,7 +65,7 @@ fn add_four(
     }
 }
 
-// Row k.
+// Row k of a table of rows of n numbers. Cut out by hand: `chunks_exact` refuses rows of no numbers.
 fn row_at(table: &[f32], n: usize, k: usize) -> &[f32]
     requires { k * n + n ≤ length table.now }
     ensures { (result.now ≡ row n table.now k) × (length result.now ≡ n) }

@@ -1,12 +1,12 @@
 -- Numbers cut into frames: the first frame and what is left behind it, as code goes through them.
 use mathlib.Core.Path.{◌≡◌, sym, ap, ◌∙◌}
-use mathlib.Core.List.{List, [], ◌∷◌}
+use mathlib.Core.List.{List, [], ◌∷◌, ◌++◌}
 use Prim.Native.Nat.{ℕ, suc, ◌+◌, ◌-◌, ◌*◌, ◌/◌, ◌≤◌, ◌<◌, min}
 use native.Mathlib.Nat.{div-eq_of_lt, div-eq-sub-div, suc-mul, zero-mul, add_comm}
 use native.Mathlib.Omega.{arith}
 use native.Mathlib.Decide.{dec_le}
 use lib.ListN.{length, take, drop, length-drop, drop_of_length-le}
-use lib.Seq.{take_all, drop-drop}
+use lib.Seq.{take_all, drop-drop, take-append_seam, drop-append_seam}
 use Rattle.loops.specs.Lists.{build}
 use Rattle.loops.proofs.Build.{build_ext}
 use Rattle.trigger_steps.specs.Round.{cut}
@@ -32,7 +32,7 @@ module _ {A : Type 0} (n : ℕ) (some : 0 < n) where
           let e : length xs + (n - 1) - n ≡ length (drop n xs) + (n - 1) = omega (arith, length-drop n xs) in
           ap (λ (k : ℕ). k / n) e
 
-  pub cut_next : (xs : List A) → 0 < length xs → cut n xs ≡ take n xs ∷ cut n (drop n xs)
+  cut_next : (xs : List A) → 0 < length xs → cut n xs ≡ take n xs ∷ cut n (drop n xs)
   unfolding cut build
   cut_next xs h =
       let m = (length (drop n xs) + (n - 1)) / n in
@@ -44,21 +44,24 @@ module _ {A : Type 0} (n : ℕ) (some : 0 < n) where
       ∙ ap (λ (x : List A). x ∷ build m (λ k. take n (drop (suc k * n) xs))) first
       ∙ ap (λ (ys : List (List A)). take n xs ∷ ys) rest
 
--- ---- the part of a list that code lends: n numbers from a on, or what is left
-module _ {A : Type 0} (n a : ℕ) (l : List A) (e : ℕ) (end : e ≡ a + min n (length l - a)) where
-  pub lent_frame : take (e - a) (drop a l) ≡ take n (drop a l)
-  lent_frame = go (dec_le n (length l - a))
+-- ---- the front of a list as code is lent it: n numbers, or what is left
+module _ {A : Type 0} (n : ℕ) (some : 0 < n) (l x y : List A) (l-is : l ≡ x ++ y) (long : length x ≡ min n (length l)) where
+  front_is : x ≡ take n l
+  front_is = sym (take-append_seam x y) ∙ ap (take (length x)) (sym l-is) ∙ go (dec_le n (length l))
     where
-      go : Dec (n ≤ length l - a) → take (e - a) (drop a l) ≡ take n (drop a l)
-      go (yes h) = let g : e - a ≡ n = omega arith in ap (λ (k : ℕ). take k (drop a l)) g
-      go (no h) = take_all (e - a) (drop a l) (omega (arith, length-drop a l)) ∙ sym (take_all n (drop a l) (omega (arith, length-drop a l)))
+      go : Dec (n ≤ length l) → take (length x) l ≡ take n l
+      go (yes h) = let g : length x ≡ n = omega (arith, long) in ap (λ (k : ℕ). take k l) g
+      go (no h) = take_all (length x) l (omega (arith, long)) ∙ sym (take_all n l (omega arith))
 
-  pub left_behind : drop e l ≡ drop n (drop a l)
-  left_behind = go (dec_le n (length l - a))
+  left_is : y ≡ drop n l
+  left_is = sym (drop-append_seam x y) ∙ ap (drop (length x)) (sym l-is) ∙ go (dec_le n (length l))
     where
-      go : Dec (n ≤ length l - a) → drop e l ≡ drop n (drop a l)
-      go (yes h) = let g : e ≡ a + n = omega arith in ap (λ (k : ℕ). drop k l) g ∙ sym (drop-drop n a l)
+      go : Dec (n ≤ length l) → drop (length x) l ≡ drop n l
+      go (yes h) = let g : length x ≡ n = omega (arith, long) in ap (λ (k : ℕ). drop k l) g
       go (no h) =
-          let past : length l ≤ e = omega arith in
-          let over : length (drop a l) ≤ n = omega (arith, length-drop a l) in
-          drop_of_length-le l past ∙ sym (drop_of_length-le (drop a l) over)
+          let past : length l ≤ length x = omega (arith, long) in
+          let over : length l ≤ n = omega arith in
+          drop_of_length-le l past ∙ sym (drop_of_length-le l over)
+
+  pub cut_front : 0 < length l → cut n l ≡ x ∷ cut n y
+  cut_front h = cut_next n some l h ∙ ap (λ (z : List A). z ∷ cut n (drop n l)) (sym front_is) ∙ ap (λ (z : List A). x ∷ cut n z) (sym left_is)

@@ -2,10 +2,10 @@
 use Rattle.std.specs.Prelude.{if◌then◌else◌, Result, Ok, Err, IfOk, IfErr}
 use mathlib.Core.Path.{◌≡◌, refl, sym, ap, ◌∙◌}
 use mathlib.Core.Bool.{true}
-use mathlib.Core.List.{List, [], ◌∷◌}
-use Prim.Native.Nat.{ℕ, ◌+◌, ◌-◌, ◌≤◌, ◌<◌, min}
+use mathlib.Core.List.{List, [], ◌∷◌, ◌++◌}
+use Prim.Native.Nat.{ℕ, zero, suc, ◌-◌, ◌≤◌, ◌<◌, min}
 use native.Mathlib.Omega.{arith}
-use lib.ListN.{length, take, drop, length-drop}
+use lib.ListN.{length, take}
 use lib.Dec.{eqb}
 use lib.IntN.{ℤ}
 use lib.Ieee.{Float}
@@ -27,16 +27,14 @@ use Rattle.program.specs.Rooms.{Rings, EstimateRooms, Rooms, rooms_from}
 use Rattle.program.specs.Calls.{answer_from, answer_of, ring_call, done_on, fetch_call, fetched_on, push_frame, update_frame_weights, forget_before, get_frame}
 use Rattle.silence_weighting.specs.Rooms.{given_by}
 use Rattle.silence_weighting.proofs.Refusals.{numbered}
-use Rattle.nearest_voice.specs.declared.NearestVoice.{NearestVoice}
-use Rattle.nearest_voice.specs.declared.NearestVoice.TheVariants as N
-use Rattle.nearest_voice.specs.Voice.{nearest_voice}
+use Rattle.nearest_voice.specs.Voice.{NearestVoice, nearest_voice}
 use Rattle.trigger_steps.specs.declared.Halt.{Halt}
 use Rattle.trigger_steps.specs.declared.Step.TheVariants as S
-use Rattle.trigger_steps.specs.Halts.{number_of, halted, step_in, refusal_in, given_in}
-use Rattle.trigger_steps.specs.declared.RoundResult.{RoundResult}
-use Rattle.trigger_steps.specs.declared.RoundResult.TheVariants as R
-use Rattle.trigger_steps.specs.Round.{Utterance, Voices, Bench, bench, with_rings, with_table, with_fetch, Round, round_from, done, ended, after, forgets, cut, pushed, push_all, frame_length, pushes, decoded, notes, ready, weighs, changes, fetches, result_of, finds, last_steps, round, worked}
-use Rattle.trigger_steps.proofs.Frames.{cut_none, cut_next, lent_frame, left_behind}
+use Rattle.trigger_steps.specs.Halts.{stopped, halted, step_in, refusal_in, given_in}
+use Rattle.trigger_steps.specs.declared.RoundEnd.TheVariants as E
+use Rattle.trigger_steps.specs.Round.{RoundResult, refused_at, Utterance, Voices, Bench, bench, with_rings, with_table, with_fetch, Round, round_from, done, ended, after}
+use Rattle.trigger_steps.specs.Round.{forgets, cut, pushed, push_all, frame_length, pushes, decoded, notes, ready, weighs, changes, fetches, result_of, finds, last_steps, round, worked}
+use Rattle.trigger_steps.proofs.Frames.{cut_none, cut_front}
 
 -- ---- going on, and not
 
@@ -45,11 +43,36 @@ module _ (k r : ℕ) (b : Bench) (next : Bench → Round) where
   unfolding ended
   goes_on e = sym (choose_true _ (eq-eqb r 0 e) refl)
 
-  pub stops : (r ≡ 0 → ⊥) → ended k r b next ≡ round_from (R.Refused r k) b
+  pub stops : (r ≡ 0 → ⊥) → ended k r b next ≡ round_from (refused_at r k) b
   unfolding ended
   stops h = sym (choose_false _ (ne_eqb r 0 h) refl)
 
+-- a call that answers by number: what its halt is, and that it had none
+pub stopped_err : (k r : ℕ) (h : Halt) → Err h ≡ stopped k r → (h ≡ record { refusal = r; step = k }) × (r ≡ 0 → ⊥)
+stopped_err k zero h e = let z : ◌≡◌ {A = ℕ} 0 1 = cc in absurd (omega arith)
+stopped_err k (suc r) h e = let q : Err h ≡ Err (record { refusal = suc r; step = k }) = e ∙ sym (choose_false _ (ne_eqb (suc r) 0 (λ z. absurd (omega (arith, z)))) refl) in (cc, λ z. absurd (omega (arith, z)))
+
+pub stopped_ok : (k r : ℕ) (u : Unit) → Ok u ≡ stopped k r → r ≡ 0
+stopped_ok k zero u e = refl
+stopped_ok k (suc r) u e =
+    let q : ◌≡◌ {A = Result Unit Halt} (Ok u) (Err (record { refusal = suc r; step = k })) = e ∙ sym (choose_false _ (ne_eqb (suc r) 0 (λ z. absurd (omega (arith, z)))) refl) in
+    let z : ◌≡◌ {A = ℕ} 0 1 = cc in
+    absurd (omega arith)
+
+pub stopped_halt : (k r : ℕ) (h : Halt) → Err h ≡ stopped k r → 0 < h.refusal
+stopped_halt k r h e = let q = stopped_err k r h e in let n : h.refusal ≡ r = ap (λ (h : Halt). h.refusal) q.0 in rw n (omega (arith, q.1))
+
+pub stopped_step : (k r : ℕ) (h : Halt) → Err h ≡ stopped k r → h.step ≡ k
+stopped_step k r h e = ap (λ (h : Halt). h.step) (stopped_err k r h e).0
+
 -- ---- 1 and 2
+
+-- the pushes' halts are of step 2
+pub ends_at : {A : Type 0} (k : ℕ) (r : Result A Halt) → IfErr r (λ h. (0 < h.refusal) × (h.step ≡ k)) → (b : Bench) (next : Bench → Round)
+    → ended k (refusal_in r) b next ≡ ended (step_in r) (refusal_in r) b next
+unfolding ended
+ends_at k (Ok a) h b next = refl
+ends_at k (Err d) h b next = ap (λ (j : ℕ). ended j d.refusal b next) (sym h.1)
 
 module _ (s : IvectorStream) (z : Rings) where
   pub forget_is : (start : ℕ) (r : StreamCall) (b : Bench) → ring_call r z ≡ done_on s z (forget_before s z start) → forgets start (with_rings b s z) ≡ done r.answer.refusal (with_rings b r.stream z)
@@ -74,35 +97,44 @@ module _ (s : IvectorStream) (z : Rings) (start : ℕ) (xs : List Float) (r : St
   forgotten : after 1 (forgets start (with_rings b s z)) (λ c. after 2 (pushes xs c) next) ≡ ended 1 r.answer.refusal (with_rings b r.stream z) (λ c. after 2 (pushes xs c) next)
   forgotten = ap (λ d. after 1 d (λ c. after 2 (pushes xs c) next)) (forget_is s z start r b e)
 
-  pub not_forgotten : (r.answer.refusal ≡ 0 → ⊥) → after 1 (forgets start (with_rings b s z)) (λ c. after 2 (pushes xs c) next) ≡ ended 1 r.answer.refusal (with_rings b r.stream z) next
-  not_forgotten h = forgotten ∙ stops _ _ _ _ h ∙ sym (stops _ _ _ next h)
+  pub not_forgotten : (h : Halt) → Err h ≡ stopped 1 r.answer.refusal
+      → after 1 (forgets start (with_rings b s z)) (λ c. after 2 (pushes xs c) next) ≡ ended h.step h.refusal (with_rings b r.stream z) next
+  not_forgotten h e =
+      let q = stopped_err 1 r.answer.refusal h e in
+      forgotten ∙ stops _ _ _ _ q.1 ∙ sym (stops _ _ _ next q.1) ∙ ap (λ (h : Halt). ended h.step h.refusal (with_rings b r.stream z) next) (sym q.0)
 
   pub then_pushed :
-      r.answer.refusal ≡ 0 → (q : ℕ) (t : IvectorStream) (y : Rings) → pushed q t y ≡ push_all r.stream z (cut (frame_length r.stream) xs)
-      → after 1 (forgets start (with_rings b s z)) (λ c. after 2 (pushes xs c) next) ≡ ended 2 q (with_rings b t y) next
-  then_pushed h q t y p =
-      forgotten ∙ goes_on 1 r.answer.refusal (with_rings b r.stream z) (λ c. after 2 (pushes xs c) next) h ∙ ap (λ d. after 2 d next) (pushes_are r.stream z q t y xs b p)
+      (u : Unit) → Ok u ≡ stopped 1 r.answer.refusal → (p : Result Unit Halt) → IfErr p (λ h. (0 < h.refusal) × (h.step ≡ 2)) → (t : IvectorStream) (y : Rings)
+      → pushed (refusal_in p) t y ≡ push_all r.stream z (cut (frame_length r.stream) xs)
+      → after 1 (forgets start (with_rings b s z)) (λ c. after 2 (pushes xs c) next) ≡ ended (step_in p) (refusal_in p) (with_rings b t y) next
+  then_pushed u o p halts t y e =
+      forgotten ∙ goes_on 1 r.answer.refusal (with_rings b r.stream z) (λ c. after 2 (pushes xs c) next) (stopped_ok 1 r.answer.refusal u o)
+      ∙ ap (λ d. after 2 d next) (pushes_are r.stream z (refusal_in p) t y xs b e)
+      ∙ ends_at 2 p halts (with_rings b t y) next
 
--- a frame of an utterance pushed, as code lends it
-module _ (n : ℕ) (some : 0 < n) (xs : List Float) (a e : ℕ) (end : e ≡ a + min n (length xs - a)) (more : a < length xs)
-    (s : IvectorStream) (z : Rings) (r : StreamCall) (y : Rings) (call : ring_call r y ≡ done_on s z (push_frame s z (take (e - a) (drop a xs)))) where
-  turn : push_all s z (cut n (drop a xs)) ≡ (if eqb r.answer.refusal 0 then push_all r.stream y (cut n (drop e xs)) else pushed r.answer.refusal r.stream y)
-  turn =
-      let left : 0 < length (drop a xs) = omega (arith, length-drop a xs) in
-      ap (push_all s z) (cut_next n some (drop a xs) left)
-      ∙ push_is s z _ r y (cut n (drop n (drop a xs))) (call ∙ ap (λ (x : List Float). done_on s z (push_frame s z x)) (lent_frame n a xs e end))
-      ∙ ap (λ (l : List Float). if eqb r.answer.refusal 0 then push_all r.stream y (cut n l) else pushed r.answer.refusal r.stream y) (sym (left_behind n a xs e end))
+-- of the halts of both, that each has a number
+pub pushes_halt : (p : Result Unit Halt) → IfErr p (λ h. (0 < h.refusal) × (h.step ≡ 2)) → IfErr p (λ h. 0 < h.refusal)
+pushes_halt (Ok u) h = tt
+pushes_halt (Err d) h = h.0
 
-  pub push_refused : (r.answer.refusal ≡ 0 → ⊥) → pushed r.answer.refusal r.stream y ≡ push_all s z (cut n (drop a xs))
-  push_refused h = choose_false _ (ne_eqb _ 0 h) refl ∙ sym turn
+-- a frame of an utterance pushed: l is what is left of the numbers, x the frame, l' what is left behind it
+module _ (n : ℕ) (some : 0 < n) (l x l' : List Float) (l-is : l ≡ x ++ l') (long : length x ≡ min n (length l)) (more : 0 < length l)
+    (s : IvectorStream) (z : Rings) (r : StreamCall) (y : Rings) (call : ring_call r y ≡ done_on s z (push_frame s z x)) where
+  turn : push_all s z (cut n l) ≡ (if eqb r.answer.refusal 0 then push_all r.stream y (cut n l') else pushed r.answer.refusal r.stream y)
+  turn = ap (push_all s z) (cut_front n some l x l' l-is long more) ∙ push_is s z x r y (cut n l') call
 
-  pub push_taken : r.answer.refusal ≡ 0 → push_all r.stream y (cut n (drop e xs)) ≡ push_all s z (cut n (drop a xs))
-  push_taken h = choose_true _ (eq-eqb _ 0 h) refl ∙ sym turn
+  pub push_refused : (h : Halt) → Err h ≡ stopped 2 r.answer.refusal → pushed h.refusal r.stream y ≡ push_all s z (cut n l)
+  push_refused h e =
+      let q = stopped_err 2 r.answer.refusal h e in
+      ap (λ (h : Halt). pushed h.refusal r.stream y) q.0 ∙ choose_false _ (ne_eqb _ 0 q.1) refl ∙ sym turn
+
+  pub push_taken : (u : Unit) → Ok u ≡ stopped 2 r.answer.refusal → push_all r.stream y (cut n l') ≡ push_all s z (cut n l)
+  push_taken u e = choose_true _ (eq-eqb _ 0 (stopped_ok 2 r.answer.refusal u e)) refl ∙ sym turn
 
 -- none is left
-pub push-none : (n : ℕ) → 0 < n → (xs : List Float) (a : ℕ) → length xs ≤ a → (s : IvectorStream) (z : Rings) → pushed 0 s z ≡ push_all s z (cut n (drop a xs))
+pub push-none : (n : ℕ) → 0 < n → (l : List Float) → length l ≡ 0 → (s : IvectorStream) (z : Rings) → pushed 0 s z ≡ push_all s z (cut n l)
 unfolding push_all
-push-none n some xs a h s z = sym (ap (push_all s z) (cut_none n some (drop a xs) (omega (arith, length-drop a xs))))
+push-none n some l h s z = sym (ap (push_all s z) (cut_none n some l h))
 
 -- ---- 3 and 4
 
@@ -155,15 +187,15 @@ module _ (q : SilenceWeighting) (t : TableRooms) (fs : List ℕ) (ws : List Floa
 
 -- the same by what the code has of the two calls: r and w, each at its step
 pub note_stopped : (r : Result Unit Refusal) (h : Halt) (b : Bench) (next next' : Bench → Round) → Err h ≡ halted S.Note r
-    → ended 3 (refused_by r) b next ≡ ended (number_of h.step) h.refusal b next'
+    → ended 3 (refused_by r) b next ≡ ended h.step h.refusal b next'
 note_stopped (Ok u) h b next next' e = let z : ◌≡◌ {A = ℕ} 0 1 = cc in absurd (omega arith)
 note_stopped (Err d) h b next next' e =
-    let q : h ≡ record { refusal = refusal_number d; step = S.Note } = cc in
-    stops 3 (refusal_number d) b next (numbered d) ∙ sym (stops 3 (refusal_number d) b next' (numbered d)) ∙ ap (λ (h : Halt). ended (number_of h.step) h.refusal b next') (sym q)
+    let q : h ≡ record { refusal = refusal_number d; step = 3 } = cc in
+    stops 3 (refusal_number d) b next (numbered d) ∙ sym (stops 3 (refusal_number d) b next' (numbered d)) ∙ ap (λ (h : Halt). ended h.step h.refusal b next') (sym q)
 
 pub note_halt : (r : Result Unit Refusal) (h : Halt) → Err h ≡ halted S.Note r → 0 < h.refusal
 note_halt (Ok u) h e = let z : ◌≡◌ {A = ℕ} 0 1 = cc in absurd (omega arith)
-note_halt (Err d) h e = let q : h ≡ record { refusal = refusal_number d; step = S.Note } = cc in rw q (omega (arith, numbered d))
+note_halt (Err d) h e = let q : h ≡ record { refusal = refusal_number d; step = 3 } = cc in rw q (omega (arith, numbered d))
 
 pub note_went_on : (r : Result Unit Refusal) (u : Unit) → Ok u ≡ halted S.Note r → refused_by r ≡ 0
 note_went_on (Ok u) v e = refl
@@ -198,7 +230,7 @@ unfolding answer_of
 told-number q s n m = choose_map (λ (a : StreamAnswer). a.refusal) (eqb q 10) (answer_from q 0 0 0 0) (answer_from q (frames_held s.accepted s.mark) (rows_held s.longest s.accepted s.mark) n m) ∙ choose_same (eqb q 10) q
 
 module _ (t : Tables) (n : ℕ) (v : Voices) (s : IvectorStream) (z : Rooms) (out : List ℕ) (k : ℕ) (k-is : k ≡ ready s) where
-  pub no_vector : k ≡ 0 → (b : Bench) → round_from R.NoVector (with_fetch b s z out) ≡ last_steps t n v (with_fetch b s z out)
+  pub no_vector : k ≡ 0 → (b : Bench) → round_from (Ok E.NoVector) (with_fetch b s z out) ≡ last_steps t n v (with_fetch b s z out)
   unfolding last_steps
   no_vector h b = choose_true _ (eq-eqb _ 0 (sym k-is ∙ h)) refl
 
@@ -213,15 +245,18 @@ module _ (t : Tables) (n : ℕ) (v : Voices) (s : IvectorStream) (z : Rooms) (ou
     unfolding last_steps
     last_is b = sym (choose_false _ (ne_eqb _ 0 (λ h. some (k-is ∙ h))) refl) ∙ ap (λ d. after 6 d (finds v)) (fetch_is b)
 
-    pub fetch_refused : (r.answer.refusal ≡ 0 → ⊥) → (b : Bench) → round_from (R.Refused r.answer.refusal 6) (with_fetch b r.stream y out') ≡ last_steps t n v (with_fetch b s z out)
-    fetch_refused h b = sym (stops _ _ _ (finds v) h) ∙ sym (last_is b)
+    pub fetch_refused : (h : Halt) → Err h ≡ stopped 6 r.answer.refusal → (b : Bench) → round_from (Err h) (with_fetch b r.stream y out') ≡ last_steps t n v (with_fetch b s z out)
+    fetch_refused h g b =
+        let q = stopped_err 6 r.answer.refusal h g in
+        ap (λ (h : Halt). round_from (Err h) (with_fetch b r.stream y out')) q.0 ∙ sym (stops _ _ _ (finds v) q.1) ∙ sym (last_is b)
 
     pub fetch_taken :
-        r.answer.refusal ≡ 0 → (x : RoundResult) → x ≡ result_of (nearest_voice r.stream.info.dims.ivector_dim out' v.count v.enrolled v.limit)
+        (u : Unit) → Ok u ≡ stopped 6 r.answer.refusal → (x : RoundResult) → x ≡ result_of (nearest_voice r.stream.info.dims.ivector_dim out' v.count v.enrolled v.limit)
         → (b : Bench) → round_from x (with_fetch b r.stream y out') ≡ last_steps t n v (with_fetch b s z out)
     unfolding finds
-    fetch_taken h x x-is b =
-        ap (λ (q : RoundResult). round_from q (with_fetch b r.stream y out')) x-is ∙ sym (goes_on 6 r.answer.refusal (with_fetch b r.stream y out') (finds v) h) ∙ sym (last_is b)
+    fetch_taken u g x x-is b =
+        ap (λ (q : RoundResult). round_from q (with_fetch b r.stream y out')) x-is
+        ∙ sym (goes_on 6 r.answer.refusal (with_fetch b r.stream y out') (finds v) (stopped_ok 6 r.answer.refusal u g)) ∙ sym (last_is b)
 
     -- the number that the fetch's own contract tells scratch by
     pub fetch_number : r.answer.refusal ≡ (get_frame s t z n (k - 1) (length out)).refusal
@@ -239,9 +274,8 @@ unfolding result_of worked
 found-worked a x e = ap worked e ∙ all a
   where
     all : (a : NearestVoice) → worked (result_of a) ≡ true
-    all (N.Voice i d) = refl
-    all N.Nobody = refl
-    all (N.Refused r) = refl
+    all (Ok v) = refl
+    all (Err r) = refl
 
 -- ---- the round: where it ends
 
@@ -266,7 +300,7 @@ module _ (t : Tables) (n : ℕ) (ps : List ℤ) (v : Voices) (start : ℕ) (xs :
     unfolding round
     begun = heard lent weighing
 
-    pub ends_hearing : (r ≡ 0 → ⊥) → round_from (R.Refused r k) (with_rings lent s₁ z₁) ≡ round t n ps spoken v lent
+    pub ends_hearing : (r ≡ 0 → ⊥) → round_from (refused_at r k) (with_rings lent s₁ z₁) ≡ round t n ps spoken v lent
     ends_hearing h = sym (stops k r (with_rings lent s₁ z₁) weighing h) ∙ sym begun
 
     module _ (none : r ≡ 0) (m : ℕ) (m_is : m ≡ ready s₁) (k' r' : ℕ) (q' : SilenceWeighting) (w' : TableRooms) (fs' : List ℕ) (ws' : List Float) (g : ℕ)
@@ -281,7 +315,7 @@ module _ (t : Tables) (n : ℕ) (ps : List ℤ) (v : Voices) (start : ℕ) (xs :
       weighed_on : round t n ps spoken v lent ≡ ended k' r' weighed_bench changing
       weighed_on = begun ∙ goes_on k r (with_rings lent s₁ z₁) weighing none ∙ weighed (with_rings lent s₁ z₁) xs changing (sym m_is)
 
-      pub ends_weighing : (r' ≡ 0 → ⊥) → round_from (R.Refused r' k') weighed_bench ≡ round t n ps spoken v lent
+      pub ends_weighing : (r' ≡ 0 → ⊥) → round_from (refused_at r' k') weighed_bench ≡ round t n ps spoken v lent
       ends_weighing h = sym (stops k' r' weighed_bench changing h) ∙ sym weighed_on
 
       module _ (none' : r' ≡ 0) (c : StreamCall) (z₂ : Rings) (e : ring_call c z₂ ≡ done_on s₁ z₁ (update_frame_weights s₁ z₁ (take g fs') (take g ws'))) where
@@ -291,11 +325,14 @@ module _ (t : Tables) (n : ℕ) (ps : List ℤ) (v : Voices) (start : ℕ) (xs :
         changed_on : round t n ps spoken v lent ≡ ended 5 c.answer.refusal changed_bench (last_steps t n v)
         changed_on = weighed_on ∙ goes_on k' r' weighed_bench changing none' ∙ ap (λ d. after 5 d (last_steps t n v)) (change_is s₁ z₁ c z₂ weighed_bench e)
 
-        pub ends_changing : (c.answer.refusal ≡ 0 → ⊥) → round_from (R.Refused c.answer.refusal 5) changed_bench ≡ round t n ps spoken v lent
-        ends_changing h = sym (stops 5 c.answer.refusal changed_bench (last_steps t n v) h) ∙ sym changed_on
+        pub ends_changing : (h : Halt) → Err h ≡ stopped 5 c.answer.refusal → round_from (Err h) changed_bench ≡ round t n ps spoken v lent
+        ends_changing h o =
+            let p = stopped_err 5 c.answer.refusal h o in
+            ap (λ (h : Halt). round_from (Err h) changed_bench) p.0 ∙ sym (stops 5 c.answer.refusal changed_bench (last_steps t n v) p.1) ∙ sym changed_on
 
         pub ends_full :
-            c.answer.refusal ≡ 0 → (a : RoundResult) (s₃ : IvectorStream) (y : Rooms) (out' : List ℕ)
+            (u : Unit) → Ok u ≡ stopped 5 c.answer.refusal → (a : RoundResult) (s₃ : IvectorStream) (y : Rooms) (out' : List ℕ)
             → ((b : Bench) → round_from a (with_fetch b s₃ y out') ≡ last_steps t n v (with_fetch b c.stream (rooms_from z₂ x) out))
             → round_from a (bench s₃ y q' w' fs' ws' g out') ≡ round t n ps spoken v lent
-        ends_full h a s₃ y out' d = d changed_bench ∙ sym (goes_on 5 c.answer.refusal changed_bench (last_steps t n v) h) ∙ sym changed_on
+        ends_full u o a s₃ y out' d =
+            d changed_bench ∙ sym (goes_on 5 c.answer.refusal changed_bench (last_steps t n v) (stopped_ok 5 c.answer.refusal u o)) ∙ sym changed_on

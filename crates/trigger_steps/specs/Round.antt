@@ -1,6 +1,6 @@
 -- Request 13, "The trigger as a product above": a round over an utterance. Each step is a call of the stream, of the silence table or of the nearest
 -- voice on what the steps before it left; the first refusal ends the round with its number and step, and what was done remains done.
-use Rattle.std.specs.Prelude.{Bool, true, false, ℕ, ◌+◌, ◌-◌, ◌*◌, ◌/◌, max, length, take, drop, eqb, ℤ, Float, if◌then◌else◌}
+use Rattle.std.specs.Prelude.{Result, Ok, Err, Some, None, Bool, true, false, ℕ, ◌+◌, ◌-◌, ◌*◌, ◌/◌, max, length, take, drop, eqb, ℤ, Float, if◌then◌else◌}
 use mathlib.Core.List.{List, [], ◌∷◌, foldl}
 use Rattle.loops.specs.Lists.{build}
 use Rattle.floats.specs.Operators.{zero₃₂}
@@ -11,11 +11,10 @@ use Rattle.definition.specs.Machine.{frames_ready}
 use Rattle.definition.specs.Silence.{input, decoder, TableRooms, table_done, compute_current_traceback, get_delta_weights}
 use Rattle.program.specs.Rooms.{Rings, Rooms, rooms_from}
 use Rattle.program.specs.Calls.{RingCall, done_on, fetched_on, push_frame, update_frame_weights, forget_before, get_frame}
-use Rattle.nearest_voice.specs.declared.NearestVoice.{NearestVoice}
-use Rattle.nearest_voice.specs.declared.NearestVoice.TheVariants as N
-use Rattle.nearest_voice.specs.Voice.{nearest_voice}
-use Rattle.trigger_steps.specs.declared.RoundResult.{RoundResult}
-use Rattle.trigger_steps.specs.declared.RoundResult.TheVariants as R
+use Rattle.nearest_voice.specs.Voice.{NearestVoice, nearest_voice}
+use Rattle.trigger_steps.specs.declared.RoundEnd.{RoundEnd}
+use Rattle.trigger_steps.specs.declared.RoundEnd.TheVariants as E
+use Rattle.trigger_steps.specs.declared.Halt.{Halt}
 use Rattle.trigger_steps.specs.declared.RoundOutcome.{RoundOutcome}
 
 -- ---- what a round is given, and what it works on
@@ -58,7 +57,14 @@ with_table b q t fs ws n = bench b.stream b.rooms q t fs ws n b.out
 abbrev pub with_fetch : Bench → IvectorStream → Rooms → List ℕ → Bench
 with_fetch b s z out = bench s z b.silence b.table b.frames b.weights b.given out
 
--- how a round ends, and what it leaves
+-- how a round ends: full, with a voice or with nobody (`None`); with no vector; or with a refusal's number and its step
+abbrev pub RoundResult : Type 0
+RoundResult = Result RoundEnd Halt
+
+abbrev pub refused_at : ℕ → ℕ → RoundResult
+refused_at r k = Err (record { refusal = r; step = k })
+
+-- and what it leaves
 pub record Round : Type 0 where
   pub result : RoundResult
   pub bench : Bench
@@ -78,7 +84,7 @@ done r b = record { refusal = r; bench = b }
 
 -- a refusal r at step k ends the round; else it goes on
 unfoldable pub ended : ℕ → ℕ → Bench → (Bench → Round) → Round
-ended k r b next = if eqb r 0 then next b else round_from (R.Refused r k) b
+ended k r b next = if eqb r 0 then next b else round_from (refused_at r k) b
 
 -- step k, and what comes after it
 abbrev pub after : ℕ → Done → (Bench → Round) → Round
@@ -156,9 +162,8 @@ fetches t n b =
 
 -- 7: find the nearest voice
 unfoldable pub result_of : NearestVoice → RoundResult
-result_of (N.Voice i d) = R.Voice i d
-result_of N.Nobody = R.Nobody
-result_of (N.Refused r) = R.Refused r 7
+result_of (Ok v) = Ok (E.Full v)
+result_of (Err r) = refused_at r 7
 
 unfoldable pub finds : Voices → Bench → Round
 finds v b = round_from (result_of (nearest_voice b.stream.info.dims.ivector_dim b.out v.count v.enrolled v.limit)) b
@@ -167,7 +172,7 @@ finds v b = round_from (result_of (nearest_voice b.stream.info.dims.ivector_dim 
 
 -- steps 6 and 7; where no frame is ready the round ends before them, and that is no refusal
 unfoldable pub last_steps : Tables → ℕ → Voices → Bench → Round
-last_steps t n v b = if eqb (ready b.stream) 0 then round_from R.NoVector b else after 6 (fetches t n b) (finds v)
+last_steps t n v b = if eqb (ready b.stream) 0 then round_from (Ok E.NoVector) b else after 6 (fetches t n b) (finds v)
 
 unfoldable pub round : Tables → ℕ → List ℤ → Utterance → Voices → Bench → Round
 round t n silence_phones u v b =
@@ -177,14 +182,13 @@ round t n silence_phones u v b =
 
 -- whether the fetch was taken: only then is scratch used
 unfoldable pub worked : RoundResult → Bool
-worked (R.Voice i d) = true
-worked R.Nobody = true
-worked R.NoVector = false
-worked (R.Refused r k) = eqb k 7
+worked (Ok (E.Full v)) = true
+worked (Ok E.NoVector) = false
+worked (Err h) = eqb h.step 7
 
 -- the numbers of each end: index and distance are 0 beside all but a voice
 unfoldable pub round_outcome : RoundResult → RoundOutcome
-round_outcome (R.Voice i d) = record { refusal = 0; step = 0; full = true; found = true; index = i; distance = d }
-round_outcome R.Nobody = record { refusal = 0; step = 0; full = true; found = false; index = 0; distance = zero₃₂ }
-round_outcome R.NoVector = record { refusal = 0; step = 0; full = false; found = false; index = 0; distance = zero₃₂ }
-round_outcome (R.Refused r k) = record { refusal = r; step = k; full = false; found = false; index = 0; distance = zero₃₂ }
+round_outcome (Ok (E.Full (Some w))) = record { refusal = 0; step = 0; full = true; found = true; index = w.index; distance = w.distance }
+round_outcome (Ok (E.Full None)) = record { refusal = 0; step = 0; full = true; found = false; index = 0; distance = zero₃₂ }
+round_outcome (Ok E.NoVector) = record { refusal = 0; step = 0; full = false; found = false; index = 0; distance = zero₃₂ }
+round_outcome (Err h) = record { refusal = h.refusal; step = h.step; full = false; found = false; index = 0; distance = zero₃₂ }

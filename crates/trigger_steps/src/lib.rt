@@ -5,25 +5,25 @@
 ghost use Rattle.std.specs.Prelude.{◌≡◌, List, ◌<◌, ◌≤◌, length, Float, IfOk, IfErr};
 ghost use Rattle.silence_weighting.specs.Rooms.{rooms_in, SameLoans};
 ghost use Rattle.trigger_steps.specs.Round.{Utterance, Bench, with_table, Round, ended, after, decoded as decoded_of, notes, ready as ready_of, weighs, result_of, round_outcome};
-ghost use Rattle.trigger_steps.specs.Halts.{number_of, halted, step_in, refusal_in, given_in};
+ghost use Rattle.trigger_steps.specs.Halts.{number_of, halted, stopped, step_in, refusal_in, given_in};
 
-use definition::{DecoderFrame, InputFrame, Refusal, SilenceWeighting};
-use nearest_voice::NearestVoice;
+use definition::{DecoderFrame, InputFrame, Refusal, SilenceWeighting, StreamAnswer};
+use nearest_voice::Voice;
 use silence_weighting::{LentPath, SilenceRooms};
 
-// How a round ends: with the nearest voice; with no vector, no frame being ready; or with a refusal's number and its step, 1 to 7.
-#[derive(Clone, Copy)]
-pub enum RoundResult {
-    Voice { index: usize, distance: f32 },
-    Nobody,
+/// How a round ends that was not refused. An enum of its own: of an `Option` in an `Option` nobody could tell which `None` says what, so that would be no plainer.
+#[derive(Clone, Copy, Debug, PartialEq)]
+pub enum RoundEnd {
+    /// It went through all its steps: the nearest voice, `None` where nobody is near enough.
+    Full(Option<Voice>),
+    /// No frame is ready, so that there is no vector.
     NoVector,
-    Refused { refusal: usize, step: usize },
 }
 
-// How a round ends as a record, for hosts without such enums: the refusal's number and its step, 0 where none was refused; whether the round was
-// full, that is, went through all its steps; whether somebody is near enough, and who. Without a refusal a round that is not full has no vector.
+/// How a round ends as the record that C gets: the refusal's number and its step, 0 where none was refused; whether the round was
+/// full, that is, went through all its steps; whether somebody is near enough, and who. Without a refusal a round that is not full has no vector.
 #[repr(C)]
-#[derive(Clone, Copy)]
+#[derive(Clone, Copy, Debug, Default, PartialEq)]
 pub struct RoundOutcome {
     pub refusal: usize,
     pub step: usize,
@@ -46,7 +46,7 @@ pub enum Step {
 }
 
 impl Step {
-    /// The number that the C interface gives.
+    /// The number that the C interface gives. A method, as a refusal's: `usize::from` would not say which number.
     pub fn number(self) -> usize
         ensures { result ≡ number_of self }
     {
@@ -54,11 +54,11 @@ impl Step {
     }
 }
 
-/// Where a refusal ended a round.
+/// Where a refusal ended a round: its number, and that of its step, as C gets them. A stream's calls answer by number too, so a halt can have any.
 #[derive(Clone, Copy, Debug, PartialEq, Eq)]
 pub struct Halt {
     pub refusal: usize,
-    pub step: Step,
+    pub step: usize,
 }
 
 /// What a call of this step gave: its refusal ends the round there.
@@ -69,9 +69,22 @@ pub fn at_step<T>(step: Step, r: Result<T, Refusal>) -> Result<T, Halt>
         Ok(given) => Ok(given),
         Err(e) => Err(Halt {
             refusal: e.number(),
-            step,
+            step: step.number(),
         }),
     }
+}
+
+/// What a stream's call of this step answered, in the record that C gets: where it has a refusal's number, the round ends there.
+pub fn answered(step: Step, a: StreamAnswer) -> Result<(), Halt>
+    ensures { result ≡ stopped (number_of step) a.refusal }
+{
+    if a.refusal == 0 {
+        return Ok(());
+    }
+    Err(Halt {
+        refusal: a.refusal,
+        step: step.number(),
+    })
 }
 
 // The frames decoded.
@@ -82,7 +95,8 @@ fn decoded(ends: &[usize]) -> usize
     ends.iter().fold(0, |last, &end| last.max(end))
 }
 
-/// Steps 3 and 4: note the path, weigh, and how many changes that gave. `ready` is the stream's ready count.
+/// Steps 3 and 4: note the path, weigh, and how many changes that gave. `ready` is the stream's ready count. The lists for the changes are two slices, as C
+/// lends them to a weighing alone. That the table's rooms stay those that were lent is a clause, as in `silence_weighting`, whose head says why.
 pub fn weigh_path(
     silence: &mut SilenceWeighting,
     silence_phones: &[i32],
@@ -125,66 +139,42 @@ pub fn weigh_path(
     at_step(Step::Weigh, weighed)
 }
 
-// The nearest voice as the result of a full round.
-pub fn result_of(v: NearestVoice) -> RoundResult
+/// The nearest voice as the end of a full round; a refusal, by its number, is one of step 7.
+#[tactic(auto, unfolding(crate::specs::Round::result_of))]
+pub fn result_of(v: Result<Option<Voice>, usize>) -> Result<RoundEnd, Halt>
     ensures { result ≡ result_of v }
 {
     match v {
-        NearestVoice::Voice { index, distance } => {
-            return RoundResult::Voice { index, distance };
-        }
-        NearestVoice::Nobody => {
-            return RoundResult::Nobody;
-        }
-        NearestVoice::Refused(refusal) => {
-            return RoundResult::Refused { refusal, step: 7 };
-        }
+        Ok(voice) => Ok(RoundEnd::Full(voice)),
+        Err(refusal) => Err(Halt {
+            refusal,
+            step: Step::Find.number(),
+        }),
     }
 }
 
-pub fn round_outcome(a: RoundResult) -> RoundOutcome
+/// The record that C gets.
+#[tactic(auto, unfolding(crate::specs::Round::round_outcome))]
+pub fn round_outcome(a: Result<RoundEnd, Halt>) -> RoundOutcome
     ensures { result ≡ round_outcome a }
 {
     match a {
-        RoundResult::Voice { index, distance } => {
-            return RoundOutcome {
-                refusal: 0,
-                step: 0,
-                full: true,
-                found: true,
-                index,
-                distance,
-            };
-        }
-        RoundResult::Nobody => {
-            return RoundOutcome {
-                refusal: 0,
-                step: 0,
-                full: true,
-                found: false,
-                index: 0,
-                distance: 0.0,
-            };
-        }
-        RoundResult::NoVector => {
-            return RoundOutcome {
-                refusal: 0,
-                step: 0,
-                full: false,
-                found: false,
-                index: 0,
-                distance: 0.0,
-            };
-        }
-        RoundResult::Refused { refusal, step } => {
-            return RoundOutcome {
-                refusal,
-                step,
-                full: false,
-                found: false,
-                index: 0,
-                distance: 0.0,
-            };
-        }
+        Ok(RoundEnd::Full(Some(voice))) => RoundOutcome {
+            full: true,
+            found: true,
+            index: voice.index,
+            distance: voice.distance,
+            ..RoundOutcome::default()
+        },
+        Ok(RoundEnd::Full(None)) => RoundOutcome {
+            full: true,
+            ..RoundOutcome::default()
+        },
+        Ok(RoundEnd::NoVector) => RoundOutcome::default(),
+        Err(halt) => RoundOutcome {
+            refusal: halt.refusal,
+            step: halt.step,
+            ..RoundOutcome::default()
+        },
     }
 }

@@ -1,4 +1,7 @@
 // A load to try it with: a generator, the calls that it draws into lent lists, and the program's input.
+//
+// A count of calls and a base dimension are what is asked for, and no list's length: the lists may be longer, so each function here that has both needs
+// both. A limit that more than one has, as `count ≤ 10000`, is one of the definition's, and a type for it no plainer.
 #![tactic(auto)]
 
 ghost use Rattle.std.specs.Prelude.{◌≡◌, ℕ, IfErr, ◌+◌, ◌-◌, ◌*◌, ◌%◌, ◌^◌, ◌<◌, ◌≤◌, length, eqb, if◌then◌else◌};
@@ -30,7 +33,9 @@ pub fn number(r: u32) -> f32
     ((r % 2001) as f32 - 1000.0) / 8.0
 }
 
-// The frame of a call of a kind. A kind is any number: an enum of five would ask more of callers.
+// ---- a call by its kind. In these functions a kind is any number, as the definitions have it: an enum of the five would ask more of callers
+
+// The frame of a call of a kind.
 #[tactic(auto, unfolding(crate::specs::Draws::frame_of))]
 pub fn frame_of(kind: u32, s: u32, pushes: usize) -> usize
     requires { pushes ≤ 10000 }
@@ -48,32 +53,31 @@ pub fn frame_of(kind: u32, s: u32, pushes: usize) -> usize
 pub fn weight_of(kind: u32, s: u32) -> f32
     ensures { result ≡ weight_of kind s }
 {
-    if kind == 2 {
-        number(draw(draw(s)))
-    } else {
-        0.0
+    match kind {
+        2 => number(draw(draw(s))),
+        _ => 0.0,
     }
 }
 
-// The numbers of a push, from place `at` on.
-fn put_frame(s: u32, dim: usize, samples: &mut [f32], at: usize)
-    requires { at + dim ≤ length samples.old }
-    ensures { samples.new ≡ put at (build dim (λ i. number_of (draws (i + 1) s))) samples.old }
+// The numbers of a push.
+fn put_frame(s: u32, numbers: &mut [f32])
+    ensures { numbers.new ≡ build (length numbers.old) (λ i. number_of (draws (i + 1) s)) }
 {
     let mut t = s;
-    for i in 0..dim {
+    for x in numbers.iter_mut() {
         t = draw(t);
-        samples[at + i] = number(t);
+        *x = number(t);
     }
 }
 
-// The numbers of a call of a kind, from place `at` on.
-pub fn put_numbers(dim: usize, kind: u32, s: u32, frames: &mut [f32], at: usize)
-    requires { at + length (numbers_of dim kind s) ≤ length frames.old }
-    ensures { frames.new ≡ put at (numbers_of dim kind s) frames.old }
+// The numbers of a call of a kind, from place `at` on: that they fit there is asked only where there are some, so `at` stays, and a slice in place of it
+// is no plainer.
+pub fn put_numbers(dim: usize, kind: u32, state: u32, frames: &mut [f32], at: usize)
+    requires { at + length (numbers_of dim kind state) ≤ length frames.old }
+    ensures { frames.new ≡ put at (numbers_of dim kind state) frames.old }
 {
     if kind == 0 {
-        put_frame(s, dim, frames, at);
+        put_frame(state, &mut frames[at..at + dim]);
     }
 }
 
@@ -94,7 +98,10 @@ fn pushes_after(n: usize, kind: u32) -> usize
     requires { n < 10000 }
     ensures { (result ≡ n + (if eqb kind 0 then 1 else 0)) × (result ≤ n + 1) }
 {
-    if kind == 0 { n + 1 } else { n }
+    match kind {
+        0 => n + 1,
+        _ => n,
+    }
 }
 
 // The state after a call of a kind.
@@ -247,7 +254,8 @@ pub fn fill(
 
 // ---- the input
 
-// Blanks, and digits after them: 2^32 stands for every higher number.
+// Blanks, and digits after them: 2^32 stands for every higher number. That the reader's bytes stay the same ones is a clause, as of `TextReader`'s own methods:
+// a fact of its fields speaks of one state, and not of the one before, so no type is plainer.
 #[tactic(auto, unfolding(crate::specs::Input::a_number, loops::specs::Refusal::first_of))]
 fn read_number(r: &mut TextReader<'_>) -> Result<usize, Refusal>
     ensures value { given result r.new.at ≡ capped (a_number r.old.src.now r.old.at) }

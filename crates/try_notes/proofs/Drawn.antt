@@ -1,7 +1,7 @@
 -- The call that is drawn: what `draw_call` codes is the drawing's call, by its kind.
 use mathlib.Core.Path.{◌≡◌, refl, ap, ap₂, ◌∙◌}
 use mathlib.Core.List.{List, [], ◌∷◌}
-use Prim.Native.Nat.{ℕ, ◌%◌, ◌<◌}
+use Prim.Native.Nat.{ℕ, ◌%◌, ◌<◌, ◌≤◌}
 use native.Mathlib.Nat.{mod-lt, sub-zero}
 use native.Mathlib.Omega.{arith}
 use lib.ListN.{length, take, set}
@@ -15,7 +15,7 @@ use Rattle.run_calls.specs.declared.CodedCall.{CodedCall}
 use Rattle.try_load.specs.Draws.{draw, numbers_of, frame_of, weight_of, call_of, Drawing, call_in}
 use Rattle.try_load.proofs.Steps.{wide-0}
 
-abbrev coded : ℕ → ℕ → ℕ → ℕ → ℕ → CodedCall
+abbrev pub coded : ℕ → ℕ → ℕ → ℕ → ℕ → CodedCall
 coded k a b c d = record { kind = k; a = a; b = b; c = c; d = d }
 
 -- ---- a call by its kind
@@ -61,30 +61,36 @@ module _ (dim : ℕ) (d : Drawing) (s : ℕ) (s-is : s ≡ draw d.state) (lists 
   of_drawing : call_of k (numbers_of dim k s) (frame_of k s d.pushes) (weight_of k s) ≡ call_in dim d
   of_drawing = ap (λ (s : ℕ). call_of (s % 5) (numbers_of dim (s % 5) s) (frame_of (s % 5) s d.pushes) (weight_of (s % 5) s)) s-is
 
-  pub push_coded : {samples' : List Float} → k ≡ 0 → samples' ≡ put 0 (numbers_of dim k s) samples → decoded (coded 0 0 dim 0 0) lists samples' 1 ≡ call_in dim d
+  pub push_coded : {samples' : List Float} → k ≡ 0 → samples' ≡ put 0 (numbers_of dim k s) samples → decoded (coded k 0 dim 0 0) lists samples' 1 ≡ call_in dim d
   unfolding decoded of_kind
-  push_coded e g =
-      ap push (ap (part 0 dim) g ∙ front_is dim (numbers_of dim k s) samples (wide-0 dim k s e)) ∙ a_push k _ (frame_of k s d.pushes) (weight_of k s) e ∙ of_drawing
+  push_coded {samples'} e g =
+      ap (λ (k : ℕ). decoded (coded k 0 dim 0 0) lists samples' 1) e
+      ∙ ap push (ap (part 0 dim) g ∙ front_is dim (numbers_of dim k s) samples (wide-0 dim k s e)) ∙ a_push k _ (frame_of k s d.pushes) (weight_of k s) e ∙ of_drawing
 
-  pub finish_coded : k ≡ 1 → decoded (coded 1 0 0 0 0) lists samples 1 ≡ call_in dim d
+  pub finish_coded : k ≡ 1 → decoded (coded k 0 0 0 0) lists samples 1 ≡ call_in dim d
   unfolding decoded of_kind
-  finish_coded e = a_finish k (numbers_of dim k s) (frame_of k s d.pushes) (weight_of k s) e ∙ of_drawing
+  finish_coded e = ap (λ (k : ℕ). decoded (coded k 0 0 0 0) lists samples 1) e ∙ a_finish k (numbers_of dim k s) (frame_of k s d.pushes) (weight_of k s) e ∙ of_drawing
 
   pub change_coded : {f : ℕ} {w : Float} → k ≡ 2 → 0 < length lists → 0 < length samples → f ≡ frame_of k s d.pushes → w ≡ weight_of k s
-      → decoded (coded 2 0 1 0 1) (set lists 0 f) (set samples 0 w) 1 ≡ call_in dim d
+      → decoded (coded k 0 1 0 1) (set lists 0 f) (set samples 0 w) 1 ≡ call_in dim d
   unfolding decoded of_kind
   change_coded {f} {w} e a b g h =
-      ap₂ change (one-part lists f a ∙ ap (λ (x : ℕ). x ∷ []) g) (one-part samples w b ∙ ap (λ (x : Float). x ∷ []) h)
+      ap (λ (k : ℕ). decoded (coded k 0 1 0 1) (set lists 0 f) (set samples 0 w) 1) e
+      ∙ ap₂ change (one-part lists f a ∙ ap (λ (x : ℕ). x ∷ []) g) (one-part samples w b ∙ ap (λ (x : Float). x ∷ []) h)
       ∙ a_change k (numbers_of dim k s) (frame_of k s d.pushes) (weight_of k s) e ∙ of_drawing
 
-  pub forget_coded : {f : ℕ} → k ≡ 3 → f ≡ frame_of k s d.pushes → decoded (coded 3 f 0 0 0) lists samples 1 ≡ call_in dim d
+  pub forget_coded : {f : ℕ} → k ≡ 3 → f ≡ frame_of k s d.pushes → decoded (coded k f 0 0 0) lists samples 1 ≡ call_in dim d
   unfolding decoded of_kind
-  forget_coded e g = ap forget g ∙ a_forget k (numbers_of dim k s) (frame_of k s d.pushes) (weight_of k s) e ∙ of_drawing
+  forget_coded {f} e g = ap (λ (k : ℕ). decoded (coded k f 0 0 0) lists samples 1) e ∙ ap forget g ∙ a_forget k (numbers_of dim k s) (frame_of k s d.pushes) (weight_of k s) e ∙ of_drawing
 
-  pub fetch_coded : {f : ℕ} → k ≡ 4 → f ≡ frame_of k s d.pushes → decoded (coded 4 f 0 1 0) lists samples 1 ≡ call_in dim d
+  pub fetch_coded : {f : ℕ} → k ≡ 4 → f ≡ frame_of k s d.pushes → decoded (coded k f 0 1 0) lists samples 1 ≡ call_in dim d
   unfolding decoded of_kind
-  fetch_coded e g = ap (λ (f : ℕ). fetch f 1) g ∙ a_fetch k (numbers_of dim k s) (frame_of k s d.pushes) (weight_of k s) e ∙ of_drawing
+  fetch_coded {f} e g =
+      ap (λ (k : ℕ). decoded (coded k f 0 1 0) lists samples 1) e ∙ ap (λ (f : ℕ). fetch f 1) g ∙ a_fetch k (numbers_of dim k s) (frame_of k s d.pushes) (weight_of k s) e ∙ of_drawing
 
-  -- the kind that is left
-  pub last_kind : (k ≡ 0 → ⊥) → (k ≡ 1 → ⊥) → (k ≡ 2 → ⊥) → (k ≡ 3 → ⊥) → k ≡ 4
-  last_kind a b c e = omega (arith, mod-lt s {m = 5} (omega arith))
+  -- a kind is below 5
+  pub no_window : k ≡ 5 → ⊥
+  no_window e = omega (arith, e, mod-lt s {m = 5} (omega arith))
+
+  pub at_fetch : 4 ≤ k → k ≡ 4
+  at_fetch h = omega (arith, h, mod-lt s {m = 5} (omega arith))

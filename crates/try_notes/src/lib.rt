@@ -8,9 +8,10 @@ ghost use Rattle.try_load.specs.Draws.{draw as draw_of, drawing, call_in};
 ghost use Rattle.try_notes.specs.Steps.{counted, tally, noted};
 
 use definition::StreamAnswer;
-use run_calls::CodedCall;
+use run_calls::{CodedCall, Kind};
 
-// The next call, in lists of one frame number and of the numbers of a frame at least.
+// The next call, in lists of one frame number and of the numbers of a frame at least: `samples` may be longer than `dim`, so a cut of it in its place would
+// be no plainer.
 pub fn draw_call(
     dim: usize,
     state: u32,
@@ -22,73 +23,60 @@ pub fn draw_call(
     ensures { (decoded result lists.new samples.new 1 ≡ call_in dim (drawing state pushes)) × (result.kind ≡ draw_of state % 5) }
 {
     let s = try_load::draw(state);
-    let kind = s % 5;
-    let frame = try_load::frame_of(kind, s, pushes);
-    if kind == 0 {
-        try_load::put_numbers(dim, kind, s, samples, 0);
-        return CodedCall {
-            kind: 0,
-            a: 0,
-            b: dim,
-            c: 0,
-            d: 0,
-        };
-    }
-    if kind == 1 {
-        return CodedCall {
-            kind: 1,
-            a: 0,
-            b: 0,
-            c: 0,
-            d: 0,
-        };
-    }
-    if kind == 2 {
-        lists[0] = frame;
-        samples[0] = try_load::weight_of(kind, s);
-        return CodedCall {
-            kind: 2,
-            a: 0,
-            b: 1,
-            c: 0,
-            d: 1,
-        };
-    }
-    if kind == 3 {
-        return CodedCall {
-            kind: 3,
+    let drawn = s % 5;
+    let frame = try_load::frame_of(drawn, s, pushes);
+    let kind = drawn as u8;
+    match Kind::from(kind) {
+        Kind::Push => {
+            try_load::put_numbers(dim, drawn, s, samples, 0);
+            CodedCall {
+                kind,
+                b: dim,
+                ..CodedCall::default()
+            }
+        }
+        Kind::Finish => CodedCall {
+            kind,
+            ..CodedCall::default()
+        },
+        Kind::Change => {
+            lists[0] = frame;
+            samples[0] = try_load::weight_of(drawn, s);
+            CodedCall {
+                kind,
+                b: 1,
+                d: 1,
+                ..CodedCall::default()
+            }
+        }
+        Kind::Forget => CodedCall {
+            kind,
             a: frame,
-            b: 0,
-            c: 0,
-            d: 0,
-        };
-    }
-    CodedCall {
-        kind: 4,
-        a: frame,
-        b: 0,
-        c: 1,
-        d: 0,
+            ..CodedCall::default()
+        },
+        Kind::Fetch => CodedCall {
+            kind,
+            a: frame,
+            c: 1,
+            ..CodedCall::default()
+        },
+        // it is never drawn
+        Kind::Window => CodedCall::default(),
     }
 }
 
-// One more at place k.
+// One more at place k, where there is one.
 fn count(counts: &mut [usize], k: usize)
     requires { get_or counts.old k 0 < 10000 }
     ensures { counts.new ≡ counted counts.old k }
 {
     if k < counts.len() {
-        counts[k] = counts[k] + 1;
+        counts[k] += 1;
     }
 }
 
-fn wide(kind: u8) -> usize
-    ensures { result ≡ kind }
-{
-    kind as usize
-}
-
 // A call of a kind and its answer. The greatest frames held so far.
+#[tactic(auto, unfolding(crate::specs::Steps::noted))]
 pub fn note(
     calls: &mut [usize],
     refusals: &mut [usize],
@@ -99,7 +87,7 @@ pub fn note(
     requires { (get_or calls.old kind 0 < 10000) × (get_or refusals.old a.refusal 0 < 10000) }
     ensures { tally calls.new refusals.new result ≡ noted (tally calls.old refusals.old most) kind a }
 {
-    count(calls, wide(kind));
+    count(calls, usize::from(kind));
     count(refusals, a.refusal);
-    basics::larger(most, a.frames_held)
+    most.max(a.frames_held)
 }

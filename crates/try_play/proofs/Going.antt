@@ -19,51 +19,10 @@ use Rattle.try_load.specs.Draws.{draw, Drawing, drawing, call_in, drawing_at, dr
 use Rattle.try_load.specs.Steps.{Placed}
 use Rattle.try_load.specs.declared.Place.{Place}
 use Rattle.try_notes.specs.Steps.{Tally, noted}
-use Rattle.try_notes.proofs.Counted.{length-counted, counted-few}
+use Rattle.try_notes.proofs.Counted.{counted-few}
 use Rattle.try_play.specs.Totals.{kind_of}
 use Rattle.try_play.specs.Steps.{tallied}
 use Rattle.try_play.proofs.DrawnKind.{kind_of_drawn}
-
--- ---- no room has changed its length
-
-pub record Kept (z : Rooms) (n : ℕ) (z₀ : Rooms) (n₀ : ℕ) : Type 0 where
-  pub frames_kept : length z.rings.frames ≡ length z₀.rings.frames
-  pub rows_kept : length z.rings.rows ≡ length z₀.rings.rows
-  pub waiting_frames_kept : length z.rings.waiting_frames ≡ length z₀.rings.waiting_frames
-  pub waiting_weights_kept : length z.rings.waiting_weights ≡ length z₀.rings.waiting_weights
-  pub cmvn_kept : length z.estimate.cmvn ≡ length z₀.estimate.cmvn
-  pub linear_kept : length z.estimate.linear ≡ length z₀.estimate.linear
-  pub quadratic_kept : length z.estimate.quadratic ≡ length z₀.estimate.quadratic
-  pub current_kept : length z.estimate.current ≡ length z₀.estimate.current
-  pub scratch_kept_is : n ≡ n₀
-
-kept_same : (z : Rooms) (n : ℕ) → Kept z n z n
-kept_same z n =
-    record {
-      frames_kept = refl;
-      rows_kept = refl;
-      waiting_frames_kept = refl;
-      waiting_weights_kept = refl;
-      cmvn_kept = refl;
-      linear_kept = refl;
-      quadratic_kept = refl;
-      current_kept = refl;
-      scratch_kept_is = refl;
-    }
-
-kept_again : {y z z₀ : Rooms} {m n n₀ : ℕ} → Kept y m z n → Kept z n z₀ n₀ → Kept y m z₀ n₀
-kept_again a b =
-    record {
-      frames_kept = a.frames_kept ∙ b.frames_kept;
-      rows_kept = a.rows_kept ∙ b.rows_kept;
-      waiting_frames_kept = a.waiting_frames_kept ∙ b.waiting_frames_kept;
-      waiting_weights_kept = a.waiting_weights_kept ∙ b.waiting_weights_kept;
-      cmvn_kept = a.cmvn_kept ∙ b.cmvn_kept;
-      linear_kept = a.linear_kept ∙ b.linear_kept;
-      quadratic_kept = a.quadratic_kept ∙ b.quadratic_kept;
-      current_kept = a.current_kept ∙ b.current_kept;
-      scratch_kept_is = a.scratch_kept_is ∙ b.scratch_kept_is;
-    }
 
 -- ---- what is tallied, and what the program becomes, from a call on
 
@@ -103,77 +62,59 @@ module _ (dim seed times : ℕ) where
 
 -- ---- the loop
 
-module _ (dim seed times : ℕ) (t : Tables) (p₀ : Program) (n₀ : ℕ) (s₀ : Tally) where
+module _ (dim seed times : ℕ) (t : Tables) (p₀ : Program) (n : ℕ) (s₀ : Tally) where
   abbrev cs : List Call
   cs = drawn_calls dim seed times
 
-  -- p₀ is the program at first, with scratch of n₀ numbers, and s₀ the tally
-  pub record Going (i : ℕ) (p : Program) (n : ℕ) (q : Place) (s : Tally) : Type 0 where
-    pub at_most : i ≤ times
+  -- p₀ is the program at first, with scratch of n numbers, and s₀ the tally
+  pub record Going (i : ℕ) (p : Program) (q : Place) (s : Tally) : Type 0 where
     pub placed : Placed dim seed i q
-    pub kept : Kept p.rooms n p₀.rooms n₀
     pub calls_few : (k : ℕ) → get_or s.calls k 0 ≤ i
     pub refusals_few : (k : ℕ) → get_or s.refusals k 0 ≤ i
-    pub calls_kept : length s.calls ≡ length s₀.calls
-    pub refusals_kept : length s.refusals ≡ length s₀.refusals
-    pub same : rest t n₀ p (drop i cs) s ≡ rest t n₀ p₀ cs s₀
-    pub there : program_after t n₀ p (drop i cs) ≡ program_after t n₀ p₀ cs
+    pub same : rest t n p (drop i cs) s ≡ rest t n p₀ cs s₀
+    pub there : program_after t n p (drop i cs) ≡ program_after t n p₀ cs
 
-  pub going_first : (q : Place) → Placed dim seed 0 q → ((k : ℕ) → get_or s₀.calls k 0 ≤ 0) → ((k : ℕ) → get_or s₀.refusals k 0 ≤ 0) → Going 0 p₀ n₀ q s₀
-  going_first q h a b =
-      record {
-        at_most = omega arith;
-        placed = h;
-        kept = kept_same p₀.rooms n₀;
-        calls_few = a;
-        refusals_few = b;
-        calls_kept = refl;
-        refusals_kept = refl;
-        same = refl;
-        there = refl;
-      }
+  pub going_first : (q : Place) → Placed dim seed 0 q → ((k : ℕ) → get_or s₀.calls k 0 ≤ 0) → ((k : ℕ) → get_or s₀.refusals k 0 ≤ 0) → Going 0 p₀ q s₀
+  going_first q h a b = record { placed = h; calls_few = a; refusals_few = b; same = refl; there = refl }
 
-  module _ (i : ℕ) (p : Program) (n m : ℕ) (q q' : Place) (s s' : Tally) (k : CodedCall) (lists : List ℕ) (samples : List Float) (outs outs' : List ℕ) (r : StreamCall) (y : Rooms) where
-    pub going_again : Going i p n q s → i < times → decoded k lists samples 1 ≡ call_in dim (drawing q.state q.pushes) → k.kind ≡ draw q.state % 5
-        → length outs ≡ 1 → Turned t n p (decoded k lists samples (length outs)) k.b outs r y outs' → s' ≡ noted s k.kind r.answer
-        → Kept y m p.rooms n → Placed dim seed (i + 1) q' → Going (i + 1) (program r.stream y) m q' s'
-    going_again l h e f one_out u tallied-on w Placed-on =
+  module _ (i : ℕ) (p : Program) (q q' : Place) (s s' : Tally) (k : CodedCall) (lists : List ℕ) (samples : List Float) (outs outs' : List ℕ) (r : StreamCall) (y : Rooms) where
+    -- a turn, over scratch that is as long as it was
+    pub going_again : {m : ℕ} → Going i p q s → i < times → m ≡ n → decoded k lists samples 1 ≡ call_in dim (drawing q.state q.pushes) → k.kind ≡ draw q.state % 5
+        → length outs ≡ 1 → Turned t m p (decoded k lists samples (length outs)) k.b outs r y outs' → s' ≡ noted s k.kind r.answer
+        → Placed dim seed (i + 1) q' → Going (i + 1) (program r.stream y) q' s'
+    going_again {m} l h same e f one_out u tallied-on Placed-on =
         let d : Drawing = drawing_at dim seed i in
         let c : Call = call_in dim d in
         let rest_is : drop i cs ≡ c ∷ drop (i + 1) cs = drawn_next dim seed times i h in
         let c-is : decoded k lists samples (length outs) ≡ c =
         ap (decoded k lists samples) one_out ∙ e ∙ ap₂ (λ (a b : ℕ). call_in dim (drawing a b)) l.placed.state_is l.placed.pushes_are in
-        let next : stepped p (step_of t n₀ p c) ≡ program r.stream y =
-        ap₂ (λ (j : ℕ) (c : Call). stepped p (step_of t j p c)) (sym l.kept.scratch_kept_is) (sym c-is) ∙ u.step in
-        let told : (reply p (step_of t n₀ p c)).told ≡ r.answer =
-        ap₂ (λ (j : ℕ) (c : Call). (reply p (step_of t j p c)).told) (sym l.kept.scratch_kept_is) (sym c-is) ∙ u.told_is in
+        let next : stepped p (step_of t n p c) ≡ program r.stream y =
+        ap₂ (λ (j : ℕ) (c : Call). stepped p (step_of t j p c)) (sym same) (sym c-is) ∙ u.step in
+        let told : (reply p (step_of t n p c)).told ≡ r.answer =
+        ap₂ (λ (j : ℕ) (c : Call). (reply p (step_of t j p c)).told) (sym same) (sym c-is) ∙ u.told_is in
         let kind-is : k.kind ≡ kind_of c = f ∙ ap (λ (a : ℕ). draw a % 5) l.placed.state_is ∙ sym (kind_of_drawn dim d) in
-        let tally-on : s' ≡ noted s (kind_of c) (reply p (step_of t n₀ p c)).told = tallied-on ∙ ap₂ (noted s) kind-is (sym told) in
+        let tally-on : s' ≡ noted s (kind_of c) (reply p (step_of t n p c)).told = tallied-on ∙ ap₂ (noted s) kind-is (sym told) in
         record {
-          at_most = omega arith;
           placed = Placed-on;
-          kept = kept_again w l.kept;
           calls_few = λ j. rw (ap (λ (s : Tally). s.calls) tallied-on) (counted-few s.calls k.kind i l.calls_few j);
           refusals_few = λ j. rw (ap (λ (s : Tally). s.refusals) tallied-on) (counted-few s.refusals r.answer.refusal i l.refusals_few j);
-          calls_kept = ap (λ (s : Tally). length s.calls) tallied-on ∙ length-counted s.calls k.kind ∙ l.calls_kept;
-          refusals_kept = ap (λ (s : Tally). length s.refusals) tallied-on ∙ length-counted s.refusals r.answer.refusal ∙ l.refusals_kept;
           same =
-              ap₂ (λ (x : Program) (s : Tally). rest t n₀ x (drop (i + 1) cs) s) (sym next) tally-on
-              ∙ sym (ap (λ (ds : List Call). rest t n₀ p ds s) rest_is ∙ one t n₀ p c (drop (i + 1) cs) s)
+              ap₂ (λ (x : Program) (s : Tally). rest t n x (drop (i + 1) cs) s) (sym next) tally-on
+              ∙ sym (ap (λ (ds : List Call). rest t n p ds s) rest_is ∙ one t n p c (drop (i + 1) cs) s)
               ∙ l.same;
           there =
-              ap (λ (x : Program). program_after t n₀ x (drop (i + 1) cs)) (sym next)
-              ∙ sym (ap (program_after t n₀ p) rest_is ∙ one_after t n₀ p c (drop (i + 1) cs))
+              ap (λ (x : Program). program_after t n x (drop (i + 1) cs)) (sym next)
+              ∙ sym (ap (program_after t n p) rest_is ∙ one_after t n p c (drop (i + 1) cs))
               ∙ l.there;
         }
 
-  pub going_last : (i : ℕ) (p : Program) (n : ℕ) (q : Place) (s : Tally) → Going i p n q s → times ≤ i
-      → (s ≡ tallied s₀ cs (program_answers t n₀ p₀ cs)) × (p.rooms ≡ (program_after t n₀ p₀ cs).rooms)
-  going_last i p n q s l h =
+  pub going_last : (i : ℕ) (p : Program) (q : Place) (s : Tally) → Going i p q s → times ≤ i
+      → (s ≡ tallied s₀ cs (program_answers t n p₀ cs)) × (p.rooms ≡ (program_after t n p₀ cs).rooms)
+  going_last i p q s l h =
       let past : length cs ≤ i = omega (arith, length_drawn dim seed times) in
       let d : drop i cs ≡ [] = drop_of_length-le cs past in (
-        sym (ap (λ (ds : List Call). rest t n₀ p ds s) d ∙ none t n₀ p s) ∙ l.same,
-        ap (λ (p : Program). p.rooms) (sym (ap (program_after t n₀ p) d ∙ none_after t n₀ p) ∙ l.there),
+        sym (ap (λ (ds : List Call). rest t n p ds s) d ∙ none t n p s) ∙ l.same,
+        ap (λ (p : Program). p.rooms) (sym (ap (program_after t n p) d ∙ none_after t n p) ∙ l.there),
       )
 
 pub zeros_few : (n k : ℕ) → get_or (replicate n 0) k 0 ≤ 0

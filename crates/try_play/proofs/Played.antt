@@ -1,5 +1,6 @@
 -- What a play leaves, by its three ways out: sizes that are refused, a stream that is not made, and calls that are played. There the program's answers
 -- are the keeping machine's by `keeps`.
+use Rattle.std.specs.Prelude.{ℕ, Result, Ok, Err}
 use mathlib.Core.Path.{◌≡◌, refl, sym, ap, ap₂, ◌∙◌}
 use mathlib.Core.List.{List}
 use Prim.Native.Nat.{ℕ, zero, suc}
@@ -9,8 +10,6 @@ use Rattle.loops.specs.Refusal.{taken}
 use Rattle.loops.proofs.Refusal.{taken_new, taken_old}
 use Rattle.definition.specs.declared.IvectorInfo.{IvectorInfo}
 use Rattle.definition.specs.declared.StreamCall.{StreamCall}
-use Rattle.definition.specs.declared.NewStream.{NewStream}
-use Rattle.definition.specs.declared.NewStream.TheVariants as N
 use Rattle.definition.specs.Model.{Tables, table_lengths_of, model_in}
 use Rattle.definition.specs.Machine.{Call, answers}
 use Rattle.definition.specs.Stream.{new_refusal}
@@ -21,12 +20,11 @@ use Rattle.program.proofs.Fresh.{made-stream}
 use Rattle.program.proofs.Keeps.{keeps}
 use Rattle.try_load.specs.Draws.{size_refusal, drawn_calls}
 use Rattle.try_notes.specs.Steps.{Tally, tally}
-use Rattle.try_play.specs.Totals.{totals_from, totals, no_totals, play_refusal}
+use Rattle.try_play.specs.Totals.{Totals, totals_from, totals, no_totals, play_refusal}
 use Rattle.try_play.specs.Steps.{tallied}
-use Rattle.try_play.specs.declared.Totals.{Totals}
 use Rattle.try_play.proofs.Tallies.{totals_are}
 
-made_refused : (q : ℕ) (s : StreamCall) (r : ℕ) → taken q (N.Stream s) (N.Refused q) ≡ N.Refused r → (r ≡ q) × (r ≡ 0 → ⊥)
+made_refused : (q : ℕ) (s : StreamCall) (r : ℕ) → taken q (Ok s) (Err q) ≡ Err r → (r ≡ q) × (r ≡ 0 → ⊥)
 made_refused zero s r e = let w : ◌≡◌ {A = ℕ} 0 1 = cc in absurd (omega arith)
 made_refused (suc q) s r e = let w : r ≡ suc q = cc in (w, λ z. omega arith)
 
@@ -67,13 +65,13 @@ module _ (i : IvectorInfo) (t : Tables) (z : Rooms) (n seed times : ℕ) where
   pub play_sized : {q : ℕ} {r : Totals} → q ≡ size → (q ≡ 0 → ⊥) → r ≡ no_totals q → Left r z
   play_sized e h f = not_played (sized e h) h f refl
 
-  module _ (a : NewStream) (y : Rooms) {q : ℕ} (size_is : q ≡ size) (none : q ≡ 0) (New-is : a ≡ new_answer i (table_lengths_of t) (room_lengths_of z n)) (y-is : y ≡ taken fresh (fresh_rooms i z) z) where
+  module _ (a : Result StreamCall ℕ) (y : Rooms) {q : ℕ} (size_is : q ≡ size) (none : q ≡ 0) (New-is : a ≡ new_answer i (table_lengths_of t) (room_lengths_of z n)) (y-is : y ≡ taken fresh (fresh_rooms i z) z) where
     as_fresh : refusal ≡ fresh
     unfolding play_refusal
     as_fresh = taken_new size fresh size (sym size_is ∙ none)
 
     -- a stream that is not made
-    pub play_refused : {m : ℕ} {r : Totals} → a ≡ N.Refused m → r ≡ no_totals m → Left r y × (refusal ≡ 0 → ⊥)
+    pub play_refused : {m : ℕ} {r : Totals} → a ≡ Err m → r ≡ no_totals m → Left r y × (refusal ≡ 0 → ⊥)
     unfolding new_answer
     play_refused {m} b f =
         let h = made_refused fresh (call_of 0 (fresh_stream i (room_lengths_of z n)) 0 0) m (sym New-is ∙ b) in
@@ -81,7 +79,7 @@ module _ (i : IvectorInfo) (t : Tables) (z : Rooms) (n seed times : ℕ) where
         (not_played e h.1 f (y-is ∙ taken_old fresh _ z (λ x. h.1 (h.0 ∙ x))), λ x. h.1 (sym e ∙ x))
 
     -- a stream that is made, and calls that are played
-    module _ (s : StreamCall) (b : a ≡ N.Stream s) where
+    module _ (s : StreamCall) (b : a ≡ Ok s) where
       made : (fresh ≡ 0) × (call_of 0 (fresh_stream i (room_lengths_of z n)) 0 0 ≡ s)
       unfolding new_answer
       made = made-stream fresh (call_of 0 (fresh_stream i (room_lengths_of z n)) 0 0) s (sym New-is ∙ b)

@@ -9,7 +9,6 @@ use Rattle.definition.specs.Machine.{Call, push, finish, change, forget, set_win
 use Rattle.definition.specs.Stream.{new_refusal}
 use Rattle.program.specs.Rooms.{Rooms, room_lengths_of}
 use Rattle.try_load.specs.Draws.{size_refusal}
-use Rattle.try_play.specs.declared.Totals.{Totals}
 
 -- push, finish, change, forget, fetch; a window call is never drawn
 unfoldable pub kind_of : Call → ℕ
@@ -29,6 +28,13 @@ refusal_of a = a.told.refusal
 
 abbrev pub held_of : Answer → ℕ
 held_of a = a.told.frames_held
+
+-- where the refusal is not 0 nothing was played
+pub record Totals : Type 0 where
+  pub refusal : ℕ
+  pub calls : List ℕ
+  pub refusals : List ℕ
+  pub greatest : ℕ
 
 abbrev pub totals_from : ℕ → List ℕ → List ℕ → ℕ → Totals
 totals_from r calls refusals greatest = record { refusal = r; calls = calls; refusals = refusals; greatest = greatest }

@@ -4,7 +4,7 @@
 // numbers and calls, and its answer is 33, or 0 and each call: its kind, a push's numbers, the frame of another, a change's weight.
 #![tactic(auto)]
 
-use definition::{IvectorInfo, IvectorOptions, Loaded, number_or_0};
+use definition::{IvectorInfo, IvectorOptions, LentEstimate, LentTables, Refusal, WaitingRooms};
 use script::{Script, Words, front, lend, print, print_list};
 use std::env::{Env, FillError};
 use std::io::{self, Write};
@@ -47,8 +47,8 @@ struct OpenModel {
 }
 
 impl OpenModel {
-    /// The model loaded, or the number of its refusal.
-    fn load(lda: &[u8], cmvn: &[u8]) -> Result<OpenModel, usize> {
+    /// The model, loaded.
+    fn load(lda: &[u8], cmvn: &[u8]) -> Result<OpenModel, Refusal> {
         let mut gconsts = [0.0; 1];
         let mut means_invvars_t = [0.0; 1];
         let mut inv_vars_t = [0.0; 1];
@@ -57,7 +57,7 @@ impl OpenModel {
         let mut lda_t = [0.0; 64];
         let mut lda_offset = [0.0; 1];
         let mut global_mean_stats = [0.0; 65];
-        let loaded = ivector_info::load(
+        let info = ivector_info::load(
             OPTIONS,
             GMM,
             EXTRACTOR,
@@ -72,44 +72,56 @@ impl OpenModel {
             &mut lda_offset,
             &mut global_mean_stats,
             &mut [0.0; 1024],
-        );
-        match loaded {
-            Loaded::Refused(number) => Err(number),
-            Loaded::Model(info) => Ok(OpenModel {
-                info,
-                gconsts,
-                means_invvars_t,
-                inv_vars_t,
-                sigma_inv_m,
-                u,
-                lda_t,
-                lda_offset,
-                global_mean_stats,
-            }),
-        }
+        )?;
+        Ok(OpenModel {
+            info,
+            gconsts,
+            means_invvars_t,
+            inv_vars_t,
+            sigma_inv_m,
+            u,
+            lda_t,
+            lda_offset,
+            global_mean_stats,
+        })
     }
 
     /// A stream with rooms for 64 frames and 80 rows, and the calls on it.
-    fn play(&self, asked: LoadSizes) -> Totals {
+    fn play(&self, asked: LoadSizes) -> Result<Totals, Refusal> {
         let dim = asked.dim.min(64);
+        let tables = LentTables {
+            gconsts: &self.gconsts,
+            means_invvars_t: &self.means_invvars_t,
+            inv_vars_t: &self.inv_vars_t,
+            sigma_inv_m: &self.sigma_inv_m,
+            u: &self.u,
+            lda_t: &self.lda_t,
+            lda_offset: &self.lda_offset,
+            global_mean_stats: &self.global_mean_stats,
+        };
+        let mut waiting_frames = [0; 64];
+        let mut waiting_weights = [0.0; 64];
+        let mut waiting = WaitingRooms {
+            frames: &mut waiting_frames,
+            weights: &mut waiting_weights,
+        };
+        let mut cmvn_stats = [0.0; 65];
+        let mut linear = [0.0; 1];
+        let mut quadratic = [0.0; 1];
+        let mut current = [0.0; 1];
+        let mut estimate = LentEstimate {
+            cmvn_stats: &mut cmvn_stats,
+            linear: &mut linear,
+            quadratic: &mut quadratic,
+            current: &mut current,
+        };
         try_play::play(
             self.info,
-            &self.gconsts,
-            &self.means_invvars_t,
-            &self.inv_vars_t,
-            &self.sigma_inv_m,
-            &self.u,
-            &self.lda_t,
-            &self.lda_offset,
-            &self.global_mean_stats,
+            tables,
             lend(&mut [0.0; 4096], dim * 64),
             lend(&mut [0.0; 5120], dim * 80),
-            &mut [0; 64],
-            &mut [0.0; 64],
-            &mut [0.0; 65],
-            &mut [0.0; 1],
-            &mut [0.0; 1],
-            &mut [0.0; 1],
+            &mut waiting,
+            &mut estimate,
             &mut [0.0; 1024],
             asked.seed,
             asked.count,
@@ -117,29 +129,26 @@ impl OpenModel {
     }
 }
 
-/// What an input asks for, played: the totals, or the number of a refusal.
-fn totals(text: &[u8]) -> Result<Totals, usize> {
-    let asked = match try_load::read_input(text) {
-        Ok(asked) => asked,
-        Err(e) => return Err(e.number()),
-    };
+/// What an input asks for, played.
+fn totals(text: &[u8]) -> Result<Totals, Refusal> {
+    let asked = try_load::read_input(text)?;
     let dim = asked.dim.min(64);
     let mut lda = [0; 271];
     let mut cmvn = [0; 395];
     let lda_bytes = try_model::put_lda(dim, &mut lda);
     let cmvn_bytes = try_model::put_cmvn(dim, &mut cmvn);
     let model = OpenModel::load(front(&lda, lda_bytes), front(&cmvn, cmvn_bytes))?;
-    let totals = model.play(asked);
-    if totals.refusal != 0 {
-        return Err(totals.refusal);
-    }
-    Ok(totals)
+    model.play(asked)
 }
 
-/// The number of calls of each kind, each refusal that was met with its count, rising, and the greatest number of frames held.
+/// The number of calls of each kind, each refusal that was met with its count, rising, and the greatest number of frames held. What stands between them is
+/// the caller's, so a `Display` of the totals would be no plainer.
 fn answer(writer: &mut impl Write, text: &[u8], between: char) -> io::Result<()> {
     match totals(text) {
-        Err(refusal) => writeln!(writer, "{refusal}"),
+        Err(refusal) => {
+            let number = refusal.number();
+            writeln!(writer, "{number}")
+        }
         Ok(totals) => {
             for n in &totals.calls {
                 write!(writer, "{n}{between}")?;
@@ -168,6 +177,7 @@ struct Lists<'a> {
     weights: &'a [f32],
 }
 
+// A push's floats are printed by their bits, which no `Display` has: one around these lists would be no plainer.
 fn print_calls(writer: &mut impl Write, lists: &Lists<'_>) -> io::Result<()> {
     let mut numbers = lists.numbers;
     for ((kind, frame), weight) in lists.kinds.iter().zip(lists.frames).zip(lists.weights) {
@@ -209,18 +219,19 @@ fn list_line(writer: &mut impl Write, mut words: Words<'_>) -> io::Result<()> {
         lend(&mut frames, lent_calls),
         lend(&mut weights, lent_calls),
     );
-    let refusal = number_or_0(filled);
-    write!(writer, "{refusal}")?;
-    if refusal == 0 {
-        let lists = Lists {
-            dim,
-            numbers: &numbers,
-            kinds: front(&kinds, count),
-            frames: &frames,
-            weights: &weights,
-        };
-        print_calls(writer, &lists)?;
+    if let Err(refusal) = filled {
+        let number = refusal.number();
+        return writeln!(writer, "{number}");
     }
+    write!(writer, "0")?;
+    let lists = Lists {
+        dim,
+        numbers: &numbers,
+        kinds: front(&kinds, count),
+        frames: &frames,
+        weights: &weights,
+    };
+    print_calls(writer, &lists)?;
     writeln!(writer)
 }
 
@@ -244,7 +255,7 @@ fn main(rt: HostRuntime) -> io::Result<()> {
             // a byte more than an input may have shows that it is too long
             let mut room = [0; 101];
             let n = script::read_full(&mut rt.reader(), &mut room)?;
-            answer(&mut writer, &room[..n], '\n')
+            answer(&mut writer, front(&room, n), '\n')
         }
         _ => {
             let mut room = [0; 262144];

@@ -11,7 +11,8 @@ use script::{Item, Script, Words, lend};
 use std::alloc::Global;
 use std::io::{self, Write};
 
-/// What a call answered, and the output up to the last byte that is not ee.
+/// What a call answered, and the output up to the last byte that is not ee. The types are the library's, so a `Display` would need one around them, and be no
+/// plainer.
 fn print_written(
     writer: &mut impl Write,
     written: Result<FileLengths, Refusal>,
@@ -32,7 +33,7 @@ fn print_written(
     }
     if let Some(last) = out.iter().rposition(|byte| *byte != 0xee) {
         write!(writer, " ")?;
-        for byte in &out[..last + 1] {
+        for byte in out.iter().take(last + 1) {
             write!(writer, "{byte:02x}")?;
         }
     }

@@ -5,9 +5,9 @@ use Rattle.floats.specs.Operators.{zero₆₄}
 use Rattle.batch_sums.proofs.Rows.{row_cleared}
 use Rattle.batch_sums.proofs.begin.Goals as goal
 
-pub returns : goal.returns
-returns c =
-    let args = c.args in
-    let pre = c.requires in
-    let long = length_lent (args.k * args.d) args.d _ args.sum.now refl pre.2 in
-    (refl, refl, row_cleared args.d (args.k * args.d) args.sum.now pre.2 (c.fill.ensures.after (λ y e. e) ∙ ap (λ (n : ℕ). replicate n zero₆₄) long))
+pub returns-clause-sum : goal.returns-clause-sum
+returns-clause-sum c =
+    let d = c.args.d in
+    let s = c.args.sums.now in
+    let long = length_lent (s.count * d) d _ s.sum.now refl c.requires.2 in
+    row_cleared d (s.count * d) s.sum.now c.requires.2 (c.fill.ensures.after (λ y e. e) ∙ ap (λ (n : ℕ). replicate n zero₆₄) long)

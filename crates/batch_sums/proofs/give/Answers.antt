@@ -8,12 +8,10 @@ use Rattle.batch_sums.proofs.give.Goals as goal
 
 pub add_features-requires : goal.add_features-requires
 add_features-requires c =
-    let args = c.args in
-    let pre = c.requires in
-    omega (arith, length_lent (args.k * args.d) args.d _ args.sum.now refl pre.2, pre)
+    let a = c.args in
+    omega (arith, length_lent (a.k * a.d) a.d _ a.sums.now.sum.now refl c.requires.2, c.requires)
 
-pub returns : goal.returns
-returns c =
+pub returns-clause-sum : goal.returns-clause-sum
+returns-clause-sum c =
     let args = c.args in
-    let pre = c.requires in
-    (refl, row_updated args.d (args.k * args.d) args.sum.now (λ a (v : Float). v +₆₄ args.w *₆₄ at args.x.now a) pre.2 c.add_features.ensures)
+    row_updated args.d (args.k * args.d) args.sums.now.sum.now (λ a (v : Float). v +₆₄ args.w *₆₄ at args.x.now a) c.requires.2 c.add_features.ensures

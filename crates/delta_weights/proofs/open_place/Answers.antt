@@ -5,7 +5,8 @@ use lib.Ieee.{nan}
 use Rattle.delta_weights.proofs.Inserted.{moved_up}
 use Rattle.delta_weights.proofs.open_place.Goals as goal
 
-pub returns : goal.returns
-returns c =
-    let a = c.args in
-    (c.copy_within.ensures.after ∙ moved_up 0 a.frames.now a.k _ _ (omega arith), c.copy_within-2.ensures.after ∙ moved_up nan a.weights.now a.k _ _ (omega arith))
+pub returns-clause-frames : goal.returns-clause-frames
+returns-clause-frames c = c.copy_within.ensures.after ∙ moved_up 0 c.args.waiting.now.frames.now c.args.k _ _ (omega arith)
+
+pub returns-clause-weights : goal.returns-clause-weights
+returns-clause-weights c = c.copy_within-2.ensures.after ∙ moved_up nan c.args.waiting.now.weights.now c.args.k _ _ (omega arith)

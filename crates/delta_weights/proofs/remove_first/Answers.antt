@@ -1,4 +1,4 @@
--- `delta_weights::remove_first` meets its contract: the first places hold what stood k places further on (`moved_down`, `removed_end` in Inserted.antt).
+-- `delta_weights::remove_first` meets its contract: the first places hold what stood k places further on (`moved_down`, `removed` in Inserted.antt).
 use mathlib.Core.Path.{◌∙◌}
 use Prim.Native.Nat.{ℕ}
 use native.Mathlib.Omega.{arith}
@@ -10,11 +10,13 @@ use Rattle.program.specs.Rooms.{waiting_in}
 use Rattle.delta_weights.proofs.Inserted.{moved_down, removed}
 use Rattle.delta_weights.proofs.remove_first.Goals as goal
 
-pub returns : goal.returns
+pub returns-clause-changes : goal.returns-clause-changes
 unfolding waiting_in
-returns c =
+returns-clause-changes c =
     let a = c.args in
-    let g : ℕ → Change = λ j. (get_or a.frames.now j 0, at a.weights.now j) in (
-      c.copy_within.ensures.after ∙ moved_down 0 a.frames.now a.k _ (omega arith) ∙ removed (λ d. d.0) g a.frames.now a.n a.k c.requires.0,
-      c.copy_within-2.ensures.after ∙ moved_down nan a.weights.now a.k _ (omega arith) ∙ removed (λ d. d.1) g a.weights.now a.n a.k c.requires.0,
+    let fs = a.waiting.now.frames.now in
+    let ws = a.waiting.now.weights.now in
+    let g : ℕ → Change = λ j. (get_or fs j 0, at ws j) in (
+      c.copy_within.ensures.after ∙ moved_down 0 fs a.k _ (omega arith) ∙ removed (λ d. d.0) g fs a.n a.k c.requires.within,
+      c.copy_within-2.ensures.after ∙ moved_down nan ws a.k _ (omega arith) ∙ removed (λ d. d.1) g ws a.n a.k c.requires.within,
     )

@@ -6,23 +6,17 @@ use Rattle.delta_weights.proofs.Groups.{sums_first, sums_more, sums_other, sums_
 use Rattle.delta_weights.proofs.sum_group.Goals as goal
 
 pub loop-end-init : goal.loop-end-init
-loop-end-init c = sums_first _ _ _ _ c.requires.0
+loop-end-init c = sums_first _ _ _ _ c.requires.within
 
-pub returns-then-frames-end : goal.returns-then-frames-end
-returns-then-frames-end c =
-    let loop = c.loop-end in
-    let args = c.args in
-    (omega arith, omega arith, sums_other args.n args.frames.now args.weights.now args.j loop.end loop.weight c.loop-end-test.true c.if-frames-end.true loop.invariant)
+pub returns-then-waiting-end-clause-sum : goal.returns-then-waiting-end-clause-sum
+returns-then-waiting-end-clause-sum c =
+    sums_other c.args.n _ _ c.args.j c.loop-end.end c.loop-end.weight c.loop-end-test.true c.if-waiting-end.true c.loop-end.invariant
 
 pub loop-end-preserved : goal.loop-end-preserved
-loop-end-preserved c =
-    let loop = c.loop-end in
-    let args = c.args in
-    sums_more args.n args.frames.now args.weights.now args.j loop.end loop.weight c.loop-end-test.true (omega arith) loop.invariant
+loop-end-preserved c = sums_more c.args.n _ _ c.args.j c.loop-end.end c.loop-end.weight c.loop-end-test.true (omega arith) c.loop-end.invariant
 
-pub returns : goal.returns
-returns c =
+pub returns-clause-sum : goal.returns-clause-sum
+returns-clause-sum c =
     let loop = c.loop-end in
-    let args = c.args in
-    let e : loop.end ≡ args.n = omega (arith, loop.auto) in
-    (omega arith, omega arith, rw e at (sums_end args.n args.frames.now args.weights.now args.j loop.end loop.weight c.loop-end-test.false loop.invariant))
+    let e : loop.end ≡ c.args.n = omega (arith, loop.auto) in
+    rw e at (sums_end c.args.n _ _ c.args.j loop.end loop.weight c.loop-end-test.false loop.invariant)

@@ -4,4 +4,4 @@ use Rattle.delta_weights.proofs.Groups.{Sums}
 use Rattle.delta_weights.proofs.sum_group.Given as goal
 
 abbrev pub invariant-loop-end : goal.invariant-loop-end
-invariant-loop-end l = Sums l.n l.frames l.weights l.j l.end l.weight
+invariant-loop-end l = Sums l.n l.waiting.frames.now l.waiting.weights.now l.j l.end l.weight

@@ -4,6 +4,10 @@ use Rattle.program.specs.Rooms.{waiting_in}
 use Rattle.delta_weights.specs.Steps.{inserted_to}
 use Rattle.delta_weights.proofs.update_frame_weights.Goals as goal
 
-pub returns : goal.returns
+pub returns-clause-changes : goal.returns-clause-changes
 unfolding changed inserted_to waiting_in
-returns c = (c.insert_changes.ensures.0, c.insert_changes.ensures.1, c.past_highest_of.ensures)
+returns-clause-changes c = c.insert_changes.ensures.changes
+
+pub returns-clause-past_highest : goal.returns-clause-past_highest
+unfolding changed
+returns-clause-past_highest c = c.past_highest_of.ensures

@@ -1,5 +1,5 @@
 -- Three numbers are stored: the next frame, how many changes wait, and the frames in the statistics. A fetch moves no other.
-use Rattle.std.proofs.Common.{◌≡◌, ℕ, refl, length}
+use Rattle.std.proofs.Common.{◌≡◌, ℕ, refl, length, rules}
 use Rattle.loops.proofs.Choose.{by-test}
 use Rattle.definition.specs.Changes.{reached}
 use Rattle.definition.specs.Model.{tables_from}
@@ -23,7 +23,7 @@ returns c =
     let z = rooms_from (rings_from a.frames.now a.rows.now a.waiting_frames.now a.waiting_weights.now) (estimate_from a.cmvn_stats.now a.linear.now a.quadratic.now a.current.now) in
     let x = get_frame s t z (length a.scratch.now) a.frame (length a.out.now) in
     let same = same_changes s z.rings a.frame in (
-      fetch_stored (λ (n : IvectorStream). record s { num_frames_stats = n.num_frames_stats; waiting = n.waiting; num_frames = n.num_frames }) s z a.out.now x c.get_frame-c.ensures.0
+      fetch_stored (λ (n : IvectorStream). record s { num_frames_stats = n.num_frames_stats; waiting = n.waiting; num_frames = n.num_frames }) {r = c.get_frame-c.result} s z a.out.now x (search rules)
           (rw (same.0, same.1)) refl,
-      c.get_frame-c.ensures.1,
+      c.get_frame-c.ensures.scratch,
     )

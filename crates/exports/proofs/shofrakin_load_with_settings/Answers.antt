@@ -1,8 +1,8 @@
 -- The settings' answer, then the load with its options: either is the load with the settings (WithSettings.antt).
+use Rattle.std.specs.Prelude.{Err}
 use mathlib.Core.Path.{refl, ap, ◌∙◌, subst}
 use lib.ListN.{length}
 use Rattle.definition.specs.declared.IvectorOptions.{IvectorOptions}
-use Rattle.definition.specs.declared.Loaded.TheVariants as L
 use Rattle.definition.specs.Reader.{Got}
 use Rattle.definition.specs.Model.{Model, tables_from, table_lengths_of, load, loaded_of, loaded_tables}
 use Rattle.settings.specs.Settings.{settings_of}
@@ -22,7 +22,7 @@ returns-then-a-ne0 c =
     let x = c.shofrakin_settings-a.ensures in
     let q = not_loaded a.splice.now a.online_cmvn.now x f (table_lengths_of t) n c.if-a-ne0.true in (
       c.load_answer.ensures
-          ∙ ap (λ (p : IvectorOptions). load_answer p (L.Refused c.shofrakin_settings-a.result.refusal)) (same_options a.splice.now a.online_cmvn.now x)
+          ∙ ap (λ (p : IvectorOptions). load_answer p (Err c.shofrakin_settings-a.result.refusal)) (same_options a.splice.now a.online_cmvn.now x)
           ∙ ap (λ (g : Got Model). load_answer o (loaded_of g)) q,
       ap (λ (g : Got Model). loaded_tables g t) q,
       subst (λ (g : Got Model). scratch_kept g a.scratch.now a.scratch.now) q refl,

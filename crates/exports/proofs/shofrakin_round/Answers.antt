@@ -25,4 +25,4 @@ round_told {z = z} {t = t} {fs = fs} {ws = ws} {out = out} e h s = (
 )
 
 pub returns : goal.returns
-returns c = round_told c.round_answer.ensures (search rules) (c.round-c.ensures.round.1)
+returns c = round_told c.round_answer.ensures (search rules) c.round-done.ensures.scratch

@@ -1,10 +1,6 @@
 -- `ln_sum` gives `ln_sum m e`, once `chain` gives its chain (`sum_is` in Logs.antt).
-use Rattle.std.proofs.Common.{rules}
 use Rattle.floats.proofs.Logs.{sum_is}
 use Rattle.floats.proofs.ln_sum.Goals as goal
-
-pub chain-h-requires : goal.chain-h-requires
-chain-h-requires c = search rules
 
 pub returns : goal.returns
 returns c = sum_is c.args.m c.args.e c.chain-h.result c.chain-h.ensures

@@ -1,18 +1,11 @@
 -- `count_bad` meets its contract: one more exactly where the test of `is_finite` fails.
-use borrow.Author.Rules.{rules}
 use mathlib.Core.Path.{refl, sym, ◌∙◌}
 use native.Mathlib.Omega.{arith}
 use Rattle.loops.proofs.Choose.{choose_true, choose_false}
 use Rattle.ivector_fetch.proofs.count_bad.Goals as goal
 
-pub is_finite-requires : goal.is_finite-requires
-is_finite-requires c = search rules
-
 pub returns-then-is_finite : goal.returns-then-is_finite
 returns-then-is_finite c = (choose_true _ (sym c.is_finite.ensures ∙ c.if-is_finite.true) refl, omega arith)
-
-pub overflow_add-result : goal.overflow_add-result
-overflow_add-result c = search rules
 
 pub returns : goal.returns
 returns c = (choose_false _ (sym c.is_finite.ensures ∙ c.if-is_finite.false) refl, omega arith)

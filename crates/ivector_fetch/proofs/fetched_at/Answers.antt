@@ -1,13 +1,6 @@
 -- `fetched_at` meets its contract: element 0 and a later one, by the two laws of one element in Vector.antt.
-use borrow.Author.Rules.{rules}
 use Rattle.ivector_fetch.proofs.Vector.{first_element, later_element}
 use Rattle.ivector_fetch.proofs.fetched_at.Goals as goal
-
-pub narrow-v-requires : goal.narrow-v-requires
-narrow-v-requires c = search rules
-
-pub narrow-requires : goal.narrow-requires
-narrow-requires c = search rules
 
 pub returns-then-i-eq0 : goal.returns-then-i-eq0
 returns-then-i-eq0 c = first_element _ _ _ c.if-i-eq0.true c.narrow-v.ensures c.narrow.ensures

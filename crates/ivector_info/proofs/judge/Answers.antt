@@ -1,85 +1,56 @@
--- `judge` meets its contract: the options, the files, then the tests across files and of the rooms, left at the first that fails. `read`
--- is what is known once the files are read.
-use mathlib.Core.Path.{◌≡◌, sym, ◌∙◌, subst}
-use mathlib.Core.Bool.{true}
-use Prim.Native.Nat.{◌≤◌, ◌<◌}
-use native.Mathlib.Omega.{arith}
-use borrow.Author.Tests.{not-true, not-false}
-use Rattle.definition.specs.Options.{options_in_range, dims_agree}
-use Rattle.definition.specs.Model.{Files, tables_fit, load_scratch}
-use Rattle.kaldi_io.proofs.Chain.{told}
+-- `judge` meets its contract: the options and the files are told by their calls; behind them the definition tests the dimensions of what was read (Files.antt),
+-- and each way out is a case of its `load` (Judging.antt).
+use Rattle.std.proofs.Common.{◌≡◌, true, [], ap, sym, ◌∙◌, arith, rules}
+use Rattle.definition.specs.Number.{number_of}
+use Rattle.definition.specs.Options.{options_in_range}
+use Rattle.definition.specs.Reader.{need, refused}
+use Rattle.kaldi_io.specs.Got.{got}
+use Rattle.kaldi_text.proofs.Runs.{passed}
 use Rattle.ivector_info.specs.Load.{files_of}
-use Rattle.ivector_info.specs.Steps.{checked_of, checked_in}
-use Rattle.ivector_info.proofs.Files.{dims_in}
-use Rattle.ivector_info.proofs.Judging.{FilesRead, options_out, files_out, dims_apart, rows_apart, dim_apart, tables_short, scratch_short, all-taken, judged_in_is}
-use mathlib.Core.Path.{ap}
-use mathlib.Core.Bool.{not}
-use Rattle.ivector_info.proofs.judge.Goals.{Else-not-dims_agree, Else-not-options_in_range, Else-not-tables_fit, In-Is, Start}
+use Rattle.ivector_info.specs.Steps.{judged_in}
+use Rattle.ivector_info.proofs.Files.{agree_same, room_same, range_is}
+use Rattle.ivector_info.proofs.Judging.{apart, short, taken, judged_known}
+use Rattle.ivector_info.proofs.judge.Goals.{In_ok-need}
 use Rattle.ivector_info.proofs.judge.Goals as goal
 
-abbrev files : (c : Start) → Files
-files c = files_of c.args.gmm.now c.args.extractor.now c.args.lda.now c.args.cmvn.now
+options : (c : In_ok-need) → options_in_range c.args.opts ≡ true
+options c = sym c.options_in_range.ensures ∙ passed _ 1 (omega arith) c.in_ok-need.ensures
 
-in_range : (c : Else-not-options_in_range) →
-    options_in_range c.args.opts ≡ true
-in_range c = sym c.options_in_range.ensures ∙ not-false _ (ap not c.if-not-options_in_range.false)
+pub need_agreeing-requires-clause-dims_in : goal.need_agreeing-requires-clause-dims_in
+need_agreeing-requires-clause-dims_in c = range_is c.in_ok-files.ensures.stands c.dims-dims.ensures
 
-read : (c : In-Is) →
-    FilesRead c.args.opts (files (goal.at.In-Is c).Start) c.in-Is.dims c.in-Is.gmm_dim c.in-Is.lda_rows c.in-Is.prior_offset c.in-Is.places
-read c =
-    record {
-      options_in = in_range (goal.at.In-Is c).Else-not-options_in_range;
-      inside = subst (checked_in (files (goal.at.In-Is c).Start)) c.in-Is.is c.check_files.ensures.1;
-      there = sym (told (checked_of (files (goal.at.In-Is c).Start)) c.check_files.ensures.0 c.in-Is.is);
-    }
+pub need_room-requires-clause-dims_in : goal.need_room-requires-clause-dims_in
+need_room-requires-clause-dims_in c = range_is c.in_ok-files.ensures.stands c.dims-dims.ensures
 
-agree : (c : Else-not-dims_agree) →
-    dims_agree c.args.opts c.in-Is.dims ≡ true
-agree c = sym c.dims_agree.ensures ∙ not-false _ (ap not c.if-not-dims_agree.false)
+pub returns-in_err-need_agreeing-clause-value : goal.returns-in_err-need_agreeing-clause-value
+returns-in_err-need_agreeing-clause-value c =
+    let a = c.args in
+    let f = files_of a.gmm.now a.extractor.now a.lda.now a.cmvn.now in
+    let read = c.in_ok-files.ensures.value in
+    let agree = ap (λ b. need b 5 [] 0) (agree_same c.in_ok-files.ensures.stands c.dims-dims.ensures a.opts) in
+    let none : got (judged_in a.opts a.cmvn.now a.z) c.from_residual-in_err-need_agreeing.result 0 ≡ refused (number_of c.in_err-need_agreeing.field-0.0) = search rules in
+    none ∙ apart a.opts a.z a.scratch f (options (goal.at.returns-in_err-need_agreeing-clause-value c).In_ok-need) read (c.in_err-need_agreeing.ensures [] 0 ∙ agree)
 
-fit : (c : Else-not-tables_fit) →
-    tables_fit c.args.opts c.in-Is.dims c.args.z ≡ true
-fit c = sym c.tables_fit.ensures ∙ not-false _ (ap not c.if-not-tables_fit.false)
+pub returns-in_err-need_room-clause-value : goal.returns-in_err-need_room-clause-value
+returns-in_err-need_room-clause-value c =
+    let a = c.args in
+    let f = files_of a.gmm.now a.extractor.now a.lda.now a.cmvn.now in
+    let read = c.in_ok-files.ensures.value in
+    let agree = ap (λ b. need b 5 [] 0) (agree_same c.in_ok-files.ensures.stands c.dims-dims.ensures a.opts) in
+    let room = ap (λ b. need b 8 [] 0) (room_same c.in_ok-files.ensures.stands c.dims-dims.ensures a.opts a.z a.scratch) in
+    let none : got (judged_in a.opts a.cmvn.now a.z) c.from_residual-in_err-need_room.result 0 ≡ refused (number_of c.in_err-need_room.field-0.0) = search rules in
+    none ∙ short a.opts a.z a.scratch f (options (goal.at.returns-in_err-need_room-clause-value c).In_ok-need) read (c.in_ok-need_agreeing.ensures [] 0 ∙ agree) (c.in_err-need_room.ensures [] 0 ∙ room)
 
-pub returns-then-not-options_in_range : goal.returns-then-not-options_in_range
-returns-then-not-options_in_range c = (options_out c.args.opts c.args.z c.args.scratch (files (goal.at.returns-then-not-options_in_range c).Start) (sym c.options_in_range.ensures ∙ not-true _ (ap not c.if-not-options_in_range.true)), tt)
+pub returns-clause-value : goal.returns-clause-value
+returns-clause-value c =
+    let a = c.args in
+    let f = files_of a.gmm.now a.extractor.now a.lda.now a.cmvn.now in
+    let read = c.in_ok-files.ensures.value in
+    let agree = ap (λ b. need b 5 [] 0) (agree_same c.in_ok-files.ensures.stands c.dims-dims.ensures a.opts) in
+    let room = ap (λ b. need b 8 [] 0) (room_same c.in_ok-files.ensures.stands c.dims-dims.ensures a.opts a.z a.scratch) in
+    taken a.opts a.z a.scratch f (options (goal.at.returns-clause-value c).In_ok-need) read (c.in_ok-need_agreeing.ensures [] 0 ∙ agree) (c.in_ok-need_room.ensures [] 0 ∙ room)
 
-pub dims_agree-requires : goal.dims_agree-requires
-dims_agree-requires c = (in_range (goal.at.dims_agree-requires c).Else-not-options_in_range, dims_in (read (goal.at.dims_agree-requires c).In-Is).inside)
-
-pub returns-then-not-dims_agree : goal.returns-then-not-dims_agree
-returns-then-not-dims_agree c = (dims_apart c.args.z c.args.scratch (read (goal.at.returns-then-not-dims_agree c).In-Is) (sym c.dims_agree.ensures ∙ not-true _ (ap not c.if-not-dims_agree.true)), tt)
-
-pub returns-then-lda_rows-dims : goal.returns-then-lda_rows-dims
-returns-then-lda_rows-dims c = (rows_apart c.args.z c.args.scratch (read (goal.at.returns-then-lda_rows-dims c).In-Is) (agree (goal.at.returns-then-lda_rows-dims c).Else-not-dims_agree) c.if-lda_rows-dims.true, tt)
-
-pub returns-then-gmm_dim-dims : goal.returns-then-gmm_dim-dims
-returns-then-gmm_dim-dims c = (dim_apart c.args.z c.args.scratch (read (goal.at.returns-then-gmm_dim-dims c).In-Is) (agree (goal.at.returns-then-gmm_dim-dims c).Else-not-dims_agree) c.if-lda_rows-dims.false c.if-gmm_dim-dims.true, tt)
-
-pub tables_fit-requires : goal.tables_fit-requires
-tables_fit-requires c = (in_range (goal.at.tables_fit-requires c).Else-not-options_in_range, dims_in (read (goal.at.tables_fit-requires c).In-Is).inside)
-
-pub returns-then-not-tables_fit : goal.returns-then-not-tables_fit
-returns-then-not-tables_fit c =
-    let short = sym c.tables_fit.ensures ∙ not-true _ (ap not c.if-not-tables_fit.true) in
-    (tables_short c.args.z c.args.scratch (read (goal.at.returns-then-not-tables_fit c).In-Is) (agree (goal.at.returns-then-not-tables_fit c).Else-not-dims_agree) c.if-lda_rows-dims.false c.if-gmm_dim-dims.false short, tt)
-
-pub load_scratch-requires : goal.load_scratch-requires
-load_scratch-requires c = dims_in (read (goal.at.load_scratch-requires c).In-Is).inside
-
-pub returns-then-scratch-load_scratch : goal.returns-then-scratch-load_scratch
-returns-then-scratch-load_scratch c =
-    let short : c.args.scratch < load_scratch c.in-Is.dims = omega (arith, c.if-scratch-load_scratch.true, c.load_scratch.ensures) in
-    (scratch_short c.args.z c.args.scratch (read (goal.at.returns-then-scratch-load_scratch c).In-Is) (agree (goal.at.returns-then-scratch-load_scratch c).Else-not-dims_agree) c.if-lda_rows-dims.false c.if-gmm_dim-dims.false (fit (goal.at.returns-then-scratch-load_scratch c).Else-not-tables_fit) short, tt)
-
-pub returns-in-Refused : goal.returns-in-Refused
-returns-in-Refused c =
-    let no = sym (told (checked_of (files (goal.at.returns-in-Refused c).Start)) c.check_files.ensures.0 c.in-Refused.is) in
-    (files_out c.args.opts c.args.z c.args.scratch (files (goal.at.returns-in-Refused c).Start) (in_range (goal.at.returns-in-Refused c).Else-not-options_in_range) no, tt)
-
-pub returns-else-scratch-load_scratch : goal.returns-else-scratch-load_scratch
-returns-else-scratch-load_scratch c =
-    let enough : load_scratch c.in-Is.dims ≤ c.args.scratch = omega (arith, c.if-scratch-load_scratch.false, c.load_scratch.ensures) in (
-      all-taken c.args.z c.args.scratch (read (goal.at.returns-else-scratch-load_scratch c).In-Is) (agree (goal.at.returns-else-scratch-load_scratch c).Else-not-dims_agree) c.if-lda_rows-dims.false c.if-gmm_dim-dims.false (fit (goal.at.returns-else-scratch-load_scratch c).Else-not-tables_fit) enough,
-      judged_in_is c.args.z c.args.scratch (read (goal.at.returns-else-scratch-load_scratch c).In-Is) (agree (goal.at.returns-else-scratch-load_scratch c).Else-not-dims_agree) c.if-lda_rows-dims.false c.if-gmm_dim-dims.false (fit (goal.at.returns-else-scratch-load_scratch c).Else-not-tables_fit) enough,
-    )
+pub returns-clause-stands : goal.returns-clause-stands
+returns-clause-stands c =
+    let a = c.args in
+    judged_known a.opts a.cmvn.now a.z a.scratch _ _ (options (goal.at.returns-clause-stands c).In_ok-need) c.in_ok-files.ensures.stands c.dims-dims.ensures (c.in_ok-need_agreeing.ensures [] 0) (c.in_ok-need_room.ensures [] 0)

@@ -16,41 +16,33 @@ use Rattle.ivector_stats.proofs.acc_batch.Goals.{In-loop-k}
 use Rattle.ivector_stats.proofs.acc_batch.Goals as goal
 
 -- slot k lies in the room of the sums, and the part of it that is lent is d long
-slot_in : (c : In-loop-k) → c.loop-k.k * c.args.d + c.args.d ≤ length c.args.sum.now
+slot_in : (c : In-loop-k) → c.loop-k.k * c.args.d + c.args.d ≤ length c.args.sums.sum.now
 slot_in c =
     let a = c.args in
-    slot_sum a.num_gauss a.d a.m a.seen.now a.tot.now a.sum.now c.requires.slots c.loop-k.k (omega (arith, c.loop-k-test.true, c.requires.slots.room))
+    let z = c.requires.slots in
+    slot_sum a.num_gauss a.d _ _ _ _ z c.loop-k.k (omega (arith, c.loop-k-test.true, c.loop-k.invariant.end, z.room))
 
-slot_long : (c : In-loop-k) → let start = c.loop-k.k * c.args.d in length (take (start + c.args.d - start) (drop start c.args.sum.now)) ≡ c.args.d
-slot_long c = length_lent (c.loop-k.k * c.args.d) c.args.d _ c.args.sum.now refl (slot_in c)
+slot_long : (c : In-loop-k) → let start = c.loop-k.k * c.args.d in length (take (start + c.args.d - start) (drop start c.args.sums.sum.now)) ≡ c.args.d
+slot_long c = length_lent (c.loop-k.k * c.args.d) c.args.d _ c.args.sums.sum.now refl (slot_in c)
 
 pub loop-k-init : goal.loop-k-init
 loop-k-init c =
     let a = c.args in
+    let z = a.sums in
+    let s = a.stats.now in
     record {
       most = omega arith;
-      linear_long = refl;
-      quadratic_long = refl;
+      end = refl;
+      same = (refl, refl, refl, refl);
+      num_frames = refl;
       row_long = refl;
-      linear = linear_none a.d (length a.row.now) a.sigma_inv_m.now a.seen.now a.sum.now a.linear.now c.requires.linear_long;
-      quadratic = quadratic_none (length a.quadratic.now) a.u.now a.seen.now a.tot.now a.quadratic.now refl;
+      linear = linear_none a.d (length a.row.now) a.sigma_inv_m.now z.seen.now z.sum.now s.linear.now c.requires.linear_long;
+      quadratic = quadratic_none (length s.quadratic.now) a.u.now z.seen.now z.tot.now s.quadratic.now refl;
       weight = iter_none _ zero₆₄;
     }
 
-pub offset_bounds-tot-k : goal.offset_bounds-tot-k
-offset_bounds-tot-k c = omega (arith, c.loop-k-test.true, c.requires.slots)
-
-pub bounds-tot-k : goal.bounds-tot-k
-bounds-tot-k c = omega (arith, c.loop-k-test.true, c.requires.slots)
-
 pub overflow_mul-start : goal.overflow_mul-start
 overflow_mul-start c = omega (arith, slot_in (goal.at.overflow_mul-start c).In-loop-k)
-
-pub offset_bounds-seen-k : goal.offset_bounds-seen-k
-offset_bounds-seen-k c = omega (arith, c.loop-k-test.true, c.requires.slots)
-
-pub bounds-seen-k : goal.bounds-seen-k
-bounds-seen-k c = omega (arith, c.loop-k-test.true, c.requires.slots)
 
 pub slice_bounds-acc_gauss-end : goal.slice_bounds-acc_gauss-end
 slice_bounds-acc_gauss-end c = slot_in (goal.at.slice_bounds-acc_gauss-end c).In-loop-k
@@ -60,45 +52,52 @@ acc_gauss-requires c =
     let a = c.args in
     let p = c.requires in
     let v = c.loop-k.invariant in
-    let g = p.slots.fair.below c.loop-k.k c.loop-k-test.true in
-    let i = get_or a.seen.now c.loop-k.k 0 in
+    let g = p.slots.fair.below c.loop-k.k (omega (arith, c.loop-k-test.true, v.end)) in
+    let i = get_or a.sums.seen.now c.loop-k.k 0 in
     record {
       rows_in = rw (slot_long (goal.at.acc_gauss-requires c).In-loop-k, v.row_long) (row_in_lem i a.num_gauss (a.d * length a.row.now) _ p.rows_in g);
-      terms_in = rw v.quadratic_long (row_in_lem i a.num_gauss (length a.quadratic.now) _ p.terms_in g);
-      linear_long = omega (arith, v.linear_long, v.row_long, p.linear_long);
+      terms_in = rw v.same.3 (row_in_lem i a.num_gauss (length a.stats.now.quadratic.now) _ p.terms_in g);
+      linear_long = omega (arith, v.same, v.row_long, p.linear_long);
     }
 
 pub loop-k-preserved : goal.loop-k-preserved
 loop-k-preserved c =
     let a = c.args in
+    let z = a.sums in
     let loop = c.loop-k in
     let v = loop.invariant in
     let e = c.acc_gauss.ensures in
     let s = length a.row.now in
-    let g = get_or a.seen.now loop.k 0 in
+    let g = get_or z.seen.now loop.k 0 in
     let start = loop.k * a.d in
-    let x = take (start + a.d - start) (drop start a.sum.now) in
+    let x = take (start + a.d - start) (drop start z.sum.now) in
+    let l = loop.stats.linear.now in
     let added = e.linear
-    ∙ ap (λ (n : ℕ). fill n (λ c. at loop.linear c +₆₄ linear_term (length x) n a.sigma_inv_m.now g (at x) c) loop.linear) v.row_long
-    ∙ ap (λ (n : ℕ). fill s (λ c. at loop.linear c +₆₄ linear_term n s a.sigma_inv_m.now g (at x) c) loop.linear) (slot_long (goal.at.loop-k-preserved c).In-loop-k) in
+    ∙ ap (λ (n : ℕ). fill n (λ c. at l c +₆₄ linear_term (length x) n a.sigma_inv_m.now g (at x) c) l) v.row_long
+    ∙ ap (λ (n : ℕ). fill s (λ c. at l c +₆₄ linear_term n s a.sigma_inv_m.now g (at x) c) l) (slot_long (goal.at.loop-k-preserved c).In-loop-k) in
     record {
       most = omega arith;
-      linear_long = c.acc_gauss.auto.linear ∙ v.linear_long;
-      quadratic_long = c.acc_gauss.auto.quadratic ∙ v.quadratic_long;
+      end = v.end;
+      same = (e.loans.0 ∙ v.same.0, e.loans.1 ∙ v.same.1, e.loans.2 ∙ v.same.2, e.loans.3 ∙ v.same.3);
+      num_frames = e.num_frames ∙ v.num_frames;
       row_long = c.acc_gauss.auto.row ∙ v.row_long;
-      linear = linear_turn a.d s a.sigma_inv_m.now a.seen.now a.sum.now a.linear.now loop.k v.linear added;
-      quadratic = quadratic_turn (length a.quadratic.now) a.u.now a.seen.now a.tot.now a.quadratic.now loop.k v.quadratic e.quadratic;
-      weight = iter_next (λ k s. s +₆₄ at a.tot.now k) zero₆₄ loop.k v.weight;
+      linear = linear_turn a.d s a.sigma_inv_m.now z.seen.now z.sum.now a.stats.now.linear.now loop.k v.linear added;
+      quadratic = quadratic_turn (length a.stats.now.quadratic.now) a.u.now z.seen.now z.tot.now a.stats.now.quadratic.now loop.k v.quadratic e.quadratic;
+      weight = iter_next (λ k s. s +₆₄ at z.tot.now k) zero₆₄ loop.k v.weight;
     }
 
 pub returns : goal.returns
 returns c =
     let a = c.args in
+    let z = a.sums in
     let k = c.loop-k.k in
     let v = c.loop-k.invariant in
-    let l = c.loop-k-test.false in
+    let most : k ≤ z.count = omega (arith, v) in
+    let least : z.count ≤ k = omega (arith, v, c.loop-k-test.false) in
     record {
-      linear = at_end (linear_over a.d (length a.row.now) a.sigma_inv_m.now a.seen.now a.sum.now a.linear.now) k a.m v.most l v.linear;
-      quadratic = at_end (quadratic_over (length a.quadratic.now) a.u.now a.seen.now a.tot.now a.quadratic.now) k a.m v.most l v.quadratic;
-      weight = at_end (λ k. sum₆₄ zero₆₄ k (at a.tot.now)) k a.m v.most l v.weight;
+      linear = at_end (linear_over a.d (length a.row.now) a.sigma_inv_m.now z.seen.now z.sum.now a.stats.now.linear.now) k z.count most least v.linear;
+      quadratic = at_end (quadratic_over (length a.stats.now.quadratic.now) a.u.now z.seen.now z.tot.now a.stats.now.quadratic.now) k z.count most least v.quadratic;
+      weight = at_end (λ k. sum₆₄ zero₆₄ k (at z.tot.now)) k z.count most least v.weight;
+      num_frames = v.num_frames;
+      loans = v.same;
     }

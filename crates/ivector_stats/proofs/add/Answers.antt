@@ -1,7 +1,6 @@
 -- `ivector_stats::add` meets its contract. The loop's invariant: a turn at each of the first c places; each place is made from its old value alone
 -- (`updated` in batch_sums/proofs/Rows.antt).
 use lib.Ieee.{Float, nan}
-use Rattle.loops.proofs.Loop.{loops}
 use Rattle.floats.specs.Operators.{◌+₆₄◌, at}
 use Rattle.loops.proofs.Fill.{updated}
 use Rattle.ivector_stats.proofs.add.Goals as goal

@@ -4,50 +4,53 @@ use mathlib.Core.Path.{◌≡◌, refl, sym, ap, ◌∙◌}
 use mathlib.Core.List.{[]}
 use Prim.Native.Nat.{ℕ}
 use native.Mathlib.Omega.{arith}
+use lib.Seq.{length-take-le}
 use Rattle.definition.specs.Number.{refused_by}
 use Rattle.definition.specs.Machine.{longest_from}
-use Rattle.program.specs.Rooms.{Rings, rings_from}
+use Rattle.program.specs.Lent.{rings_in}
 use Rattle.program.specs.Calls.{call_of, with_mark, forget_before}
 use Rattle.stream_refusals.proofs.Records.{plain_passed, few, other_few, some_number}
 use Rattle.ivector_stream.proofs.Replies.{refused, done}
 use Rattle.ivector_stream.proofs.Taken.{forget_is, forget_under}
-use Rattle.ivector_stream.proofs.forget_before.Goals.{Start}
 use Rattle.ivector_stream.proofs.forget_before.Goals as goal
-
--- the rings that are lent
-abbrev lent : Start → Rings
-lent c = rings_from c.args.frames.now c.args.rows.now c.args.waiting_frames.now c.args.waiting_weights.now
 
 three : {A B : Type 0} (f : A → A → A → B) {a a' b b' c c' : A} → a ≡ a' → b ≡ b' → c ≡ c' → f a b c ≡ f a' b' c'
 three f p q r = rw (p, q, r)
 
-pub reply-requires : goal.reply-requires
-reply-requires c = other_few c.args.s (lent (goal.at.reply-requires c).Start) [] (c.number.ensures ∙ sym (ap refused_by c.in-Err.is) ∙ c.plain_refusal.ensures)
+pub answered-requires : goal.answered-requires
+answered-requires c = other_few c.args.s (rings_in c.args.held c.args.waiting) [] (sym (ap refused_by c.in-Err.is) ∙ c.plain_refusal.ensures)
 
 pub returns-in-Err : goal.returns-in-Err
 unfolding forget_before
 returns-in-Err c =
-    let z = lent (goal.at.returns-in-Err c).Start in
-    refused c.args.s z (forget_before c.args.s z c.args.frame) (c.number.ensures ∙ sym (ap refused_by c.in-Err.is) ∙ c.plain_refusal.ensures) (λ h. some_number c.in-Err.refusal (sym c.number.ensures ∙ h)) c.reply.ensures
+    let z = rings_in c.args.held c.args.waiting in
+    refused c.args.s z (forget_before c.args.s z c.args.frame) (sym (ap refused_by c.in-Err.is) ∙ c.plain_refusal.ensures) (some_number c.in-Err.refusal) c.answered.ensures
+
+pub slice_bounds-lowest-end : goal.slice_bounds-lowest-end
+slice_bounds-lowest-end c =
+    let k = plain_passed c.args.s (rings_in c.args.held c.args.waiting) c.plain_refusal.ensures (ap refused_by c.in_default.is) in
+    sym (length-take-le _ _ (omega (arith, k)))
 
 pub lowest-first-requires : goal.lowest-first-requires
-lowest-first-requires c =
-    let k = plain_passed c.args.s (lent (goal.at.lowest-first-requires c).Start) c.plain_refusal.ensures (ap refused_by c.in_default.is) in
-    (omega (arith, k), k.whole_is.in_order)
+lowest-first-requires c = (plain_passed c.args.s (rings_in c.args.held c.args.waiting) c.plain_refusal.ensures (ap refused_by c.in_default.is)).whole_is.in_order
 
-pub reply-requires-2 : goal.reply-requires-2
-reply-requires-2 c =
+pub answered-requires-2 : goal.answered-requires-2
+answered-requires-2 c =
     λ h.
     let a = c.args in
-    let z = lent (goal.at.reply-requires-2 c).Start in
-    let k = plain_passed a.s z c.plain_refusal.ensures (ap refused_by c.in_default.is) in
-    ((few a.s z k).0, forget_under a.s a.waiting_frames.now a.frame c.min-reached.ensures c.lowest-first.ensures c.saturating_sub-kept.ensures c.max-mark.ensures (few a.s z k).1 (omega (arith, k.whole_is)))
+    let z = rings_in a.held a.waiting in
+    let k = plain_passed a.s z c.plain_refusal.ensures (ap refused_by c.in_default.is) in (
+      (few a.s z k).0,
+      forget_under a.s a.waiting.frames.now a.frame c.min-reached.ensures c.lowest-first.ensures c.saturating_sub-kept.ensures c.max-mark.ensures (few a.s z k).1
+          (omega (arith, k.whole_is)),
+    )
 
 pub returns : goal.returns
 unfolding forget_before
 returns c =
     let a = c.args in
-    let z = lent (goal.at.returns c).Start in
-    let mark = forget_is a.s a.waiting_frames.now a.frame c.min-reached.ensures c.lowest-first.ensures c.saturating_sub-kept.ensures c.max-mark.ensures in
+    let z = rings_in a.held a.waiting in
+    let mark = forget_is a.s a.waiting.frames.now a.frame c.min-reached.ensures c.lowest-first.ensures c.saturating_sub-kept.ensures c.max-mark.ensures in
     let longest = c.longest_from.ensures ∙ ap (longest_from a.s.window a.s.longest a.s.mark) mark in
-    done a.s z (forget_before a.s z a.frame) c.plain_refusal.ensures (ap refused_by c.in_default.is) (c.reply-2.ensures ∙ three (λ (m l g : ℕ). call_of 0 (with_mark a.s m l g) 0 0) mark c.max.ensures longest) refl
+    done a.s z (forget_before a.s z a.frame) c.plain_refusal.ensures (ap refused_by c.in_default.is)
+    (c.answered-2.ensures ∙ three (λ (m l g : ℕ). call_of 0 (with_mark a.s m l g) 0 0) mark c.max.ensures longest) refl

@@ -1,10 +1,9 @@
 -- `ivector_stream::lowest` meets its contract: in frames in order the first is the lowest.
-use native.Mathlib.Omega.{arith}
-use Rattle.ivector_stream.proofs.Taken.{lowest_none, lowest_first}
+use mathlib.Core.Path.{ap, ◌∙◌}
+use Prim.Native.Nat.{min}
+use Rattle.ivector_stream.proofs.Taken.{lowest_first}
 use Rattle.ivector_stream.proofs.lowest.Goals as goal
 
-pub returns-then-n-eq0 : goal.returns-then-n-eq0
-returns-then-n-eq0 c = lowest_none _ _ _ c.if-n-eq0.true
-
-pub returns : goal.returns
-returns c = lowest_first _ _ _ (omega arith) c.requires.0 c.requires.1 c.min.ensures
+pub returns-in-Some : goal.returns-in-Some
+returns-in-Some c =
+    let item = c.in-Some.ensures.item.3 in lowest_first c.args.low c.args.frames.now item.0 c.requires (c.min.ensures ∙ ap (min c.args.low) (item.1 0))

@@ -3,30 +3,26 @@
 use mathlib.Core.Path.{refl, sym, ap, ◌∙◌}
 use Prim.Native.Nat.{ℕ}
 use Rattle.definition.specs.Number.{refused_by}
-use Rattle.program.specs.Rooms.{Rings, rings_from}
+use Rattle.program.specs.Lent.{rings_in}
 use Rattle.program.specs.Calls.{call_of, with_window, set_cmn_window}
 use Rattle.stream_refusals.proofs.Records.{few}
 use Rattle.stream_refusals.proofs.Refusals.{window_taken, window_few}
 use Rattle.ivector_stream.proofs.Replies.{done}
-use Rattle.ivector_stream.proofs.set_cmn_window.Goals.{Start}
 use Rattle.ivector_stream.proofs.set_cmn_window.Goals as goal
 
--- the rings that are lent
-abbrev lent : Start → Rings
-lent c = rings_from c.args.frames.now c.args.rows.now c.args.waiting_frames.now c.args.waiting_weights.now
+pub answered-requires : goal.answered-requires
+answered-requires c = window_few c.args.s (rings_in c.args.held c.args.waiting) c.args.window (sym (ap refused_by c.in-Err.is) ∙ c.window_refusal.ensures)
 
-pub reply-requires : goal.reply-requires
-reply-requires c = window_few c.args.s (lent (goal.at.reply-requires c).Start) c.args.window (c.number.ensures ∙ sym (ap refused_by c.in-Err.is) ∙ c.window_refusal.ensures)
-
-pub reply-requires-2 : goal.reply-requires-2
-reply-requires-2 c =
+pub answered-requires-2 : goal.answered-requires-2
+answered-requires-2 c =
     λ h.
-    let z = lent (goal.at.reply-requires-2 c).Start in
+    let z = rings_in c.args.held c.args.waiting in
     few c.args.s z (window_taken c.args.s z c.args.window c.window_refusal.ensures (ap refused_by c.in_default.is))
 
 pub returns : goal.returns
 unfolding set_cmn_window
 returns c =
     let a = c.args in
-    let z = lent (goal.at.returns c).Start in
-    done a.s z (set_cmn_window a.s z a.window) c.window_refusal.ensures (ap refused_by c.in_default.is) (c.reply-2.ensures ∙ ap (λ (m : ℕ). call_of 0 (with_window a.s a.window m) 0 0) c.max.ensures) refl
+    let z = rings_in a.held a.waiting in
+    done a.s z (set_cmn_window a.s z a.window) c.window_refusal.ensures (ap refused_by c.in_default.is)
+    (c.answered-2.ensures ∙ ap (λ (m : ℕ). call_of 0 (with_window a.s a.window m) 0 0) c.max.ensures) refl

@@ -1,21 +1,13 @@
--- `fill_column` meets its contract: the flag says at which width the numbers are written, and what is asked there is what the call ensures.
-use Rattle.std.proofs.Common.{◌*◌, Bool, subst}
-use lib.Ieee.{binary32}
-use Rattle.kaldi_io.specs.Answers.{width, Ready}
+-- `fill_column` meets its contract: behind its loop each number is in its place.
+use Rattle.std.proofs.Common.{◌∙◌, ◌+◌, ◌*◌, ap, arith}
+use lib.Ieee.{nan, binary32}
+use Rattle.loops.proofs.Build.{build_is}
+use Rattle.floats.specs.Operators.{at}
+use Rattle.definition.specs.Reader.{numbers}
 use Rattle.ivector_tables.proofs.fill_column.Goals as goal
 
-pub fill_column_f64-requires : goal.fill_column_f64-requires
-fill_column_f64-requires c =
-    let a = c.args in
-    record { ready = subst (λ (d : Bool). Ready binary32 (width d) (a.rows * a.cols) a.s.now a.from) c.if-double.true c.requires.ready; rows_bound = c.requires.rows_bound }
-
-pub fill_column_f32-requires : goal.fill_column_f32-requires
-fill_column_f32-requires c =
-    let a = c.args in
-    record { ready = subst (λ (d : Bool). Ready binary32 (width d) (a.rows * a.cols) a.s.now a.from) c.if-double.false c.requires.ready; rows_bound = c.requires.rows_bound }
-
-pub returns-then-double : goal.returns-then-double
-returns-then-double c = rw c.if-double.true c.fill_column_f64.ensures
-
-pub returns-else-double : goal.returns-else-double
-returns-else-double c = rw c.if-double.false c.fill_column_f32.ensures
+pub returns : goal.returns
+returns g c =
+    let m = c.args.block.now in
+    build_is nan _ _ _ (c.loop-r.auto.out ∙ c.requires.room)
+    (λ k h. c.loop-r.invariant k (omega arith) ∙ ap (λ f. at (numbers binary32 f m.numbers.count m.numbers.bytes.now) (k * m.cols + c.args.c)) c.requires.written)

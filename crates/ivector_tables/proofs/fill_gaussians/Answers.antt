@@ -1,143 +1,104 @@
--- `fill_gaussians` meets its contract. The loop's invariant: the blocks of Gaussian i stand at the two places, and the tables of the first i
--- stand in the rooms. The blocks, read again, are in Again.antt; rows that make a table in crate loops.
-use Rattle.std.proofs.Common.{◌≡◌, ℕ, ◌+◌, ◌-◌, ◌*◌, ◌/◌, ◌≤◌, List, length, take, drop, refl, ◌∙◌, arith}
-use lib.Ieee.{Float}
-use borrow.Rule.Slice.PartMut.{same_len_mid}
+-- `fill_gaussians` meets its contract: its loop goes along both runs, whose blocks stand as they were checked (Again.antt), by the laws of rows that
+-- make a table (crate loops).
+use Rattle.std.proofs.Common.{◌≡◌, ℕ, ◌+◌, ◌-◌, ◌*◌, ◌/◌, false, List, length, Bor, sym, refl, ap, ◌∙◌, subst, arith}
+use lib.Ieee.{binary64}
 use Rattle.loops.proofs.Flat.{rows_none, rows_turn, rows_end, length_flat}
-use Rattle.loops.proofs.Cells.{row_in_lem}
-use Rattle.loops.proofs.Parts.{length_lent}
-use Rattle.definition.specs.Model.{quadratic_term}
-use Rattle.ivector_tables.specs.Steps.{m_at, sigma_inv_m_at}
-use Rattle.ivector_tables.proofs.Gmm.{few}
+use Rattle.definition.specs.Options.{max_feat, max_ivector}
+use Rattle.definition.specs.Kaldi.{matrix, packed_matrix}
 use Rattle.definition.proofs.Lengths.{length_sigma, length_quadratic}
+use Rattle.kaldi_io.specs.Answers.{place_of}
+use Rattle.kaldi_files.specs.Answers.{ExtractorIn}
+use Rattle.kaldi_files.specs.Parts.{extractor_in}
+use Rattle.ivector_tables.specs.Steps.{matrix_nums, packed_nums, MAt, SigmaAt, sigma_inv_m_at, quadratic_term_at}
 use Rattle.ivector_tables.proofs.Rows.{sigma_by, quadratic_by}
-use Rattle.ivector_tables.proofs.Again.{m_start, sigma_start, m_at_lem, m_is, m_next, sigma_at, sigma_is, sigma_next, sims_whole, quadratics_whole}
+use Rattle.ivector_tables.proofs.Again.{m_start, sigma_start, m_at_lem, m_is, m_next, sigma_at, sigma_is, sigma_next, sigma_tables, quadratic_tables}
 use Rattle.ivector_tables.proofs.fill_gaussians.Goals.{In-loop-i, Start}
 use Rattle.ivector_tables.proofs.fill_gaussians.Goals as goal
 
-clauses : {A B C : Type 0} → A × (B × C) → record { mat : A; sigma_at : B; d_bound : C }
-clauses p = record { mat = p.0; sigma_at = p.1.0; d_bound = p.1.1 }
+-- what was checked, over the bytes of the run of Σ⁻¹
+over_sigma : (c : Start) → let e = c.args.e.now in ExtractorIn e.sigma_inv.src.now e.num_gauss e.feat_dim e.ivector_dim e.m.at e.sigma_inv.at
+over_sigma c = let e = c.args.e.now in subst (λ (s : List ℕ). ExtractorIn s e.num_gauss e.feat_dim e.ivector_dim e.m.at e.sigma_inv.at) (sym c.requires.same_source) c.requires.stands
 
--- the two tables by Gaussian, and how long each Gaussian's part of them is
-abbrev sims : Start → ℕ → List Float
-sims c = let a = c.args in sigma_inv_m_at a.s.now a.num_gauss a.d a.n a.m a.sigma_inv
+-- both readers are in their files
+m_bytes : (c : In-loop-i) → c.loop-i.next.m.src.now ≡ c.args.e.now.m.src.now
+m_bytes c = ap (λ (b : Bor (List ℕ)). b.now) c.loop-i.invariant.m_source
 
-abbrev terms : Start → ℕ → List Float
-terms c i = let a = c.args in quadratic_term a.d a.n (m_at a.s.now a.num_gauss a.m i) (sims c i)
+sigma_bytes : (c : In-loop-i) → c.loop-i.next.sigma_inv.src.now ≡ c.args.e.now.sigma_inv.src.now
+sigma_bytes c = ap (λ (b : Bor (List ℕ)). b.now) c.loop-i.invariant.sigma_source
 
-abbrev size : Start → ℕ
-size c = c.args.d * c.args.n
+-- blocks by lengths and bytes that are told
+m_told : {d e n w : ℕ} {s t : List ℕ} (p : ℕ) → e ≡ d → w ≡ n → t ≡ s → MAt d n s p → MAt e w t p
+m_told p f g h x = rw (f, g, h) x
 
-abbrev half : Start → ℕ
-half c = c.args.n * (c.args.n + 1) / 2
-
-small : (c : Start) → (size c ≤ 1115136) × (c.args.n * (c.args.n + 1) ≤ 1115136)
-small c =
-    let x = c.requires.extractor_in in
-    (few _ _ (omega (arith, x.feat_high)) (omega (arith, x.ivec_high)), few _ _ (omega (arith, x.ivec_high)) (omega (arith, x.ivec_high)))
-
--- Gaussian i's parts lie in the rooms, and what is lent of them is as long
-sim_inside : (c : In-loop-i) →
-    c.loop-i.i * size (goal.at.In-loop-i c).Start + size (goal.at.In-loop-i c).Start ≤ length c.loop-i.sim
-sim_inside c =
-    let loop = c.loop-i in
-    omega (arith, row_in_lem loop.i c.args.num_gauss (size (goal.at.In-loop-i c).Start) (length c.args.sim.now) c.requires.n_in_bounds.0 c.loop-i-test.true, loop.invariant.1)
-
-sim_lent : (c : In-loop-i) →
-    let from = c.loop-i.i * size (goal.at.In-loop-i c).Start in
-    length (take (from + size (goal.at.In-loop-i c).Start - from) (drop from c.loop-i.sim)) ≡ size (goal.at.In-loop-i c).Start
-sim_lent c = length_lent (c.loop-i.i * size (goal.at.In-loop-i c).Start) (size (goal.at.In-loop-i c).Start) _ c.loop-i.sim refl (sim_inside c)
-
-u_inside : (c : In-loop-i) →
-    c.loop-i.i * half (goal.at.In-loop-i c).Start + half (goal.at.In-loop-i c).Start ≤ length c.loop-i.u
-u_inside c =
-    let loop = c.loop-i in
-    omega (arith, row_in_lem loop.i c.args.num_gauss (half (goal.at.In-loop-i c).Start) (length c.args.u.now) c.requires.n_in_bounds.1 c.loop-i-test.true, loop.invariant.2)
-
-u_lent : (c : In-loop-i) →
-    let from = c.loop-i.i * half (goal.at.In-loop-i c).Start in
-    length (take (from + half (goal.at.In-loop-i c).Start - from) (drop from c.loop-i.u)) ≡ half (goal.at.In-loop-i c).Start
-u_lent c = length_lent (c.loop-i.i * half (goal.at.In-loop-i c).Start) (half (goal.at.In-loop-i c).Start) _ c.loop-i.u refl (u_inside c)
-
--- ---- the answers
-
-pub overflow_mul-size : goal.overflow_mul-size
-overflow_mul-size c = omega (arith, (small (goal.at.overflow_mul-size c).Start).0)
-
-pub overflow_add-half : goal.overflow_add-half
-overflow_add-half c = omega (arith, c.requires.extractor_in.ivec_high)
-
-pub overflow_mul-half : goal.overflow_mul-half
-overflow_mul-half c = omega (arith, (small (goal.at.overflow_mul-half c).Start).1)
+sigma_told : {d e : ℕ} {s t : List ℕ} (q : ℕ) → e ≡ d → t ≡ s → SigmaAt d s q → SigmaAt e t q
+sigma_told q f h x = rw (f, h) x
 
 pub loop-i-init : goal.loop-i-init
 loop-i-init c =
-    let x = c.requires.extractor_in in
-    (omega arith, refl, refl, refl, m_start x, sigma_start x, rows_none (sims (goal.at.loop-i-init c).Start) _, rows_none (terms (goal.at.loop-i-init c).Start) _)
+    let x = extractor_in c.args.e.now in
+    record {
+      feat_dim = refl;
+      ivector_dim = refl;
+      m_source = refl;
+      sigma_source = refl;
+      m_next = m_start c.requires.stands;
+      sigma_next = sigma_start (over_sigma (goal.at.loop-i-init c).Start);
+      products = rows_none (sigma_inv_m_at x) _;
+      terms = rows_none (quadratic_term_at x) _;
+    }
 
-pub overflow_mul-from : goal.overflow_mul-from
-overflow_mul-from c = omega (arith, sim_inside (goal.at.overflow_mul-from c).In-loop-i, c.loop-i.invariant.1)
-
-pub overflow_add-to : goal.overflow_add-to
-overflow_add-to c = omega (arith, sim_inside (goal.at.overflow_add-to c).In-loop-i, c.loop-i.invariant.1)
-
-pub overflow_mul-start : goal.overflow_mul-start
-overflow_mul-start c = omega (arith, u_inside (goal.at.overflow_mul-start c).In-loop-i, c.loop-i.invariant.2)
-
-pub overflow_add-end : goal.overflow_add-end
-overflow_add-end c = omega (arith, u_inside (goal.at.overflow_add-end c).In-loop-i, c.loop-i.invariant.2)
-
-pub offset_bounds-sim-from : goal.offset_bounds-sim-from
-offset_bounds-sim-from c = omega (arith, sim_inside (goal.at.offset_bounds-sim-from c).In-loop-i, c.loop-i.invariant.1)
-
-pub slice_bounds-fill_gaussian-end : goal.slice_bounds-fill_gaussian-end
-slice_bounds-fill_gaussian-end c = sim_inside (goal.at.slice_bounds-fill_gaussian-end c).In-loop-i
-
-pub offset_bounds-u-start : goal.offset_bounds-u-start
-offset_bounds-u-start c = omega (arith, u_inside (goal.at.offset_bounds-u-start c).In-loop-i, c.loop-i.invariant.2)
-
-pub slice_bounds-fill_gaussian-end-in-loop-i : goal.slice_bounds-fill_gaussian-end-in-loop-i
-slice_bounds-fill_gaussian-end-in-loop-i c = u_inside (goal.at.slice_bounds-fill_gaussian-end-in-loop-i c).In-loop-i
-
-pub fill_gaussian-at-requires : goal.fill_gaussian-at-requires
-fill_gaussian-at-requires c =
+pub fill_gaussian-requires-clause-m_stands : goal.fill_gaussian-requires-clause-m_stands
+fill_gaussian-requires-clause-m_stands c =
     let loop = c.loop-i in
-    let x = c.requires.extractor_in in
-    clauses (
-      m_at_lem x loop.i c.loop-i-test.true loop.at.m loop.invariant.4,
-      (
-        sigma_at x loop.i c.loop-i-test.true loop.at.sigma_inv loop.invariant.5,
-        (x.feat_high, x.ivec_high, omega (arith, loop.invariant.3, c.requires.n_in_bounds.2), sim_lent (goal.at.fill_gaussian-at-requires c).In-loop-i, u_lent (goal.at.fill_gaussian-at-requires c).In-loop-i),
-      ),
-    )
+    let known = loop.invariant in
+    m_told loop.next.m.at known.feat_dim known.ivector_dim (m_bytes (goal.at.fill_gaussian-requires-clause-m_stands c).In-loop-i)
+    (m_at_lem c.requires.stands loop.i c.loop-i-test.true loop.next.m.at known.m_next)
+
+pub fill_gaussian-requires-clause-sigma_stands : goal.fill_gaussian-requires-clause-sigma_stands
+fill_gaussian-requires-clause-sigma_stands c =
+    let loop = c.loop-i in
+    let known = loop.invariant in
+    sigma_told loop.next.sigma_inv.at known.feat_dim (sigma_bytes (goal.at.fill_gaussian-requires-clause-sigma_stands c).In-loop-i)
+    (sigma_at (over_sigma (goal.at.fill_gaussian-requires-clause-sigma_stands c).Start) loop.i c.loop-i-test.true loop.next.sigma_inv.at known.sigma_next)
 
 pub loop-i-preserved : goal.loop-i-preserved
 loop-i-preserved c =
+    let x = extractor_in c.args.e.now in
+    let d = x.feat_dim in
+    let n = x.ivector_dim in
     let loop = c.loop-i in
-    let a = c.args in
-    let x = c.requires.extractor_in in
+    let known = loop.invariant in
+    let i = loop.i in
+    let p = loop.next.m.at in
+    let q = loop.next.sigma_inv.at in
     let l = c.loop-i-test.true in
-    let sim = loop.i * size (goal.at.loop-i-preserved c).Start in
-    let u = loop.i * half (goal.at.loop-i-preserved c).Start in
-    let sim-long = c.fill_gaussian-at.auto.sim in
-    let u_long = c.fill_gaussian-at.auto.u in
-    let ms = m_is x loop.i l loop.at.m loop.invariant.4 in
-    let vs = sigma_is x loop.i l loop.at.sigma_inv loop.invariant.5 in (
-      omega (arith, l),
-      same_len_mid sim (sim + size (goal.at.loop-i-preserved c).Start - sim) loop.sim c.fill_gaussian-at.new.sim sim-long ∙ loop.invariant.1,
-      same_len_mid u (u + half (goal.at.loop-i-preserved c).Start - u) loop.u c.fill_gaussian-at.new.u u_long ∙ loop.invariant.2,
-      c.fill_gaussian-at.auto.scratch ∙ loop.invariant.3,
-      m_next x loop.i l loop.at.m loop.invariant.4 c.fill_gaussian-at.ensures.m_value.0,
-      sigma_next x loop.i l loop.at.sigma_inv loop.invariant.5 c.fill_gaussian-at.ensures.m_value.1,
-      rows_turn (sims (goal.at.loop-i-preserved c).Start) loop.i _ {k = sim + size (goal.at.loop-i-preserved c).Start - sim} (length_flat (size (goal.at.loop-i-preserved c).Start) loop.i (sims (goal.at.loop-i-preserved c).Start) (λ k l. length_sigma a.d a.n _ _)) loop.invariant.6
-          (sigma_by a.d a.n c.fill_gaussian-at.ensures.sim_after vs ms) (sim-long ∙ sim_lent (goal.at.loop-i-preserved c).In-loop-i ∙ omega arith),
-      rows_turn (terms (goal.at.loop-i-preserved c).Start) loop.i _ {k = u + half (goal.at.loop-i-preserved c).Start - u} (length_flat (half (goal.at.loop-i-preserved c).Start) loop.i (terms (goal.at.loop-i-preserved c).Start) (λ k l. length_quadratic a.d a.n _ _)) loop.invariant.7
-          (quadratic_by a.d a.n c.fill_gaussian-at.ensures.u_after vs ms) (u_long ∙ u_lent (goal.at.loop-i-preserved c).In-loop-i ∙ omega arith),
-    )
+    let done = c.fill_gaussian.ensures in
+    let stands = over_sigma (goal.at.loop-i-preserved c).Start in
+    let m-bytes = m_bytes (goal.at.loop-i-preserved c).In-loop-i in
+    let s-bytes = sigma_bytes (goal.at.loop-i-preserved c).In-loop-i in
+    let ms = ap (λ (s : List ℕ). matrix_nums (matrix binary64 false max_feat max_ivector s p)) m-bytes ∙ m_is c.requires.stands i l p known.m_next in
+    let vs = ap (λ (s : List ℕ). packed_nums (packed_matrix s q)) s-bytes ∙ sigma_is stands i l q known.sigma_next in
+    let product = sigma_by done.sigma_inv_m_after known.feat_dim known.ivector_dim vs ms in
+    let term = quadratic_by done.u_after known.feat_dim known.ivector_dim vs ms in
+    record {
+      feat_dim = done.behind.feat_dim ∙ known.feat_dim;
+      ivector_dim = done.behind.ivector_dim ∙ known.ivector_dim;
+      m_source = done.behind.m_source ∙ known.m_source;
+      sigma_source = done.behind.sigma_source ∙ known.sigma_source;
+      m_next = m_next c.requires.stands i l p known.m_next (done.behind.m_place ∙ ap (λ (s : List ℕ). place_of (matrix binary64 false max_feat max_ivector s p)) m-bytes);
+      sigma_next = sigma_next stands i l q known.sigma_next (done.behind.sigma_place ∙ ap (λ (s : List ℕ). place_of (packed_matrix s q)) s-bytes);
+      products = rows_turn (sigma_inv_m_at x) i _ {k = i * (d * n) + d * n - i * (d * n)} (length_flat (d * n) i (sigma_inv_m_at x) (λ k l. length_sigma d n _ _)) known.products product
+          (ap length product ∙ length_sigma d n _ _ ∙ omega arith);
+      terms = rows_turn (quadratic_term_at x) i _ {k = i * (n * (n + 1) / 2) + n * (n + 1) / 2 - i * (n * (n + 1) / 2)} (length_flat (n * (n + 1) / 2) i (quadratic_term_at x) (λ k l. length_quadratic d n _ _)) known.terms term
+          (ap length term ∙ length_quadratic d n _ _ ∙ omega arith);
+    }
 
-pub returns : goal.returns
-returns c =
-    let a = c.args in
-    let loop = c.loop-i in
-    let l = c.loop-i-test.false in
-    record { sim_after = sims_whole a.s.now a.num_gauss a.d a.n a.m a.sigma_inv _ (rows_end (sims (goal.at.returns c).Start) loop.i _ _ loop.invariant.0 l loop.invariant.6); u_after = quadratics_whole a.s.now a.num_gauss a.d a.n a.m a.sigma_inv _ (rows_end (terms (goal.at.returns c).Start) loop.i _ _ loop.invariant.0 l loop.invariant.7) }
+pub returns-clause-sigma_inv_m_after : goal.returns-clause-sigma_inv_m_after
+returns-clause-sigma_inv_m_after c =
+    let x = extractor_in c.args.e.now in
+    sigma_tables x _ (rows_end (sigma_inv_m_at x) c.loop-i.i _ _ (omega arith) c.loop-i-test.false c.loop-i.invariant.products)
+
+pub returns-clause-u_after : goal.returns-clause-u_after
+returns-clause-u_after c =
+    let x = extractor_in c.args.e.now in
+    quadratic_tables x _ (rows_end (quadratic_term_at x) c.loop-i.i _ _ (omega arith) c.loop-i-test.false c.loop-i.invariant.terms)

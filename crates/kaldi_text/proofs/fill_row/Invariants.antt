@@ -1,7 +1,7 @@
 -- `fill_row` meets its contract. The loop's invariant: the rest of the row stands where the reader is, and the first i places hold its first i numbers. That
 -- a number is there at every turn, since the text was checked, is `number_there`; a turn is `row_rest` and `number_value` (Rows.antt).
 use mathlib.Core.Path.{◌≡◌}
-use Prim.Native.Nat.{◌-◌, ◌≤◌}
+use Prim.Native.Nat.{◌-◌}
 use lib.ListN.{length, drop}
 use Rattle.loops.specs.Steps.{fill}
 use Rattle.floats.specs.Operators.{at}

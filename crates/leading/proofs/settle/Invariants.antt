@@ -9,7 +9,8 @@ use Rattle.leading.specs.Steps.{Moved}
 use Rattle.leading.proofs.settle.Given as goal
 
 abbrev pub invariant-loop-j : goal.invariant-loop-j
-invariant-loop-j l = (l.j ≤ l.last) × (length l.chosen ≡ length l.initial.chosen) × (length l.posts ≡ length l.initial.posts) × ((z : List ℕ) (y : List Float) → l.last < length z → l.last < length y → Moved l.p l.last l.initial.j z y l.initial.chosen l.initial.posts → Moved l.p l.last l.j z y l.chosen l.posts)
+invariant-loop-j l = (l.j ≤ l.last) × (length l.chosen ≡ length l.initial.chosen) × (length l.posts ≡ length l.initial.posts)
+    × ((z : List ℕ) (y : List Float) → l.last < length z → l.last < length y → Moved l.p l.last l.initial.j z y l.initial.chosen l.initial.posts → Moved l.p l.last l.j z y l.chosen l.posts)
 
 abbrev pub decreases-loop-j : goal.decreases-loop-j
 decreases-loop-j l = l.j

@@ -20,24 +20,22 @@ goes_on-requires c = (c.requires.few, c.loop-before.invariant.most)
 
 pub cgd_turn-t-requires : goal.cgd_turn-t-requires
 cgd_turn-t-requires c =
-    let n = c.args.square.n in
+    let n = c.args.system.square.n in
     let i = c.loop-before.invariant in
     let g : c.loop-before.t.k < min (n + 5) c.args.max_iters = ltb-true _ _ (sym c.goes_on.ensures ∙ c.loop-before-test.true) in
-    record { few = omega (arith, min-le_left (n + 5) c.args.max_iters, c.requires.few); b_long = c.requires.b_long; x_long = i.x_long; r_long = i.r_long; p_long = i.p_long; ap_long = i.ap_long }
+    record { few = omega (arith, min-le_left (n + 5) c.args.max_iters, c.requires.few); x_long = i.x_long; r_long = i.r_long; p_long = i.p_long; ap_long = i.ap_long }
 
 pub loop-before-smaller : goal.loop-before-smaller
 loop-before-smaller c =
-    let g : c.loop-before.t.k < min (c.args.square.n + 5) c.args.max_iters = ltb-true _ _ (sym c.goes_on.ensures ∙ c.loop-before-test.true) in
+    let g : c.loop-before.t.k < min (c.args.system.square.n + 5) c.args.max_iters = ltb-true _ _ (sym c.goes_on.ensures ∙ c.loop-before-test.true) in
     omega (arith, c.cgd_turn-t.ensures.counted)
 
 pub turned-requires : goal.turned-requires
-turned-requires c =
-    let i = c.loop-before.invariant in
-    c.cgd_turn-t.auto.r ∙ i.r_long ∙ sym i.p_long
+turned-requires c = c.cgd_turn-t.auto.r ∙ c.loop-before.invariant.r_long ∙ sym c.loop-before.invariant.p_long
 
 pub loop-before-preserved : goal.loop-before-preserved
 loop-before-preserved c =
-    let n = c.args.square.n in
+    let n = c.args.system.square.n in
     let g : c.loop-before.t.k < min (n + 5) c.args.max_iters = ltb-true _ _ (sym c.goes_on.ensures ∙ c.loop-before-test.true) in
     let i = c.loop-before.invariant in
     let e = c.cgd_turn-t.ensures in
@@ -54,10 +52,10 @@ loop-before-preserved c =
 
 pub returns-after-loop-before : goal.returns-after-loop-before
 returns-after-loop-before c =
-    let g : min (c.args.square.n + 5) c.args.max_iters ≤ c.loop-before.t.k = ltb-false _ _ (sym c.goes_on.ensures ∙ c.loop-before-test.false) in
+    let g : min (c.args.system.square.n + 5) c.args.max_iters ≤ c.loop-before.t.k = ltb-false _ _ (sym c.goes_on.ensures ∙ c.loop-before-test.false) in
     λ a h. turns_end a _ _ _ _ (c.loop-before.invariant.turns a h) _ c.loop-before.invariant.most g
 
 pub returns-then-is_last : goal.returns-then-is_last
 returns-then-is_last c =
-    let g : c.loop-before.t.k < min (c.args.square.n + 5) c.args.max_iters = ltb-true _ _ (sym c.goes_on.ensures ∙ c.loop-before-test.true) in
+    let g : c.loop-before.t.k < min (c.args.system.square.n + 5) c.args.max_iters = ltb-true _ _ (sym c.goes_on.ensures ∙ c.loop-before-test.true) in
     λ a h. last_turn a _ _ _ _ (c.loop-before.invariant.turns a h) c.cgd_turn-t.result (c.cgd_turn-t.ensures.turn a h) c.is_last.ensures _ g c.if-is_last.true

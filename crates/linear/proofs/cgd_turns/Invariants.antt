@@ -13,13 +13,13 @@ use Rattle.linear.proofs.cgd_turns.Given as goal
 
 abbrev pub invariant-loop-before : goal.invariant-loop-before
 invariant-loop-before l = record {
-  most : l.t.k ≤ min (l.square.n + 5) l.max_iters;
-  x_long : length l.x ≡ l.square.n;
-  r_long : length l.r ≡ l.square.n;
-  p_long : length l.p ≡ l.square.n;
-  ap_long : length l.ap ≡ l.square.n;
-  turns : (a : List Float) → l.square.cells.now ≡ square_of l.square.n a → on (cgd_of l.x l.r l.p l.t) ≡ turns_from a l.square.n l.b l.t.k (cgd_of l.initial.x l.initial.r l.initial.p l.initial.t);
+  most : l.t.k ≤ min (l.system.square.n + 5) l.max_iters;
+  x_long : length l.x ≡ l.system.square.n;
+  r_long : length l.r ≡ l.system.square.n;
+  p_long : length l.p ≡ l.system.square.n;
+  ap_long : length l.ap ≡ l.system.square.n;
+  turns : (a : List Float) → l.system.square.cells.now ≡ square_of l.system.square.n a → on (cgd_of l.x l.r l.p l.t) ≡ turns_from a l.system.square.n l.system.b.now l.t.k (cgd_of l.initial.x l.initial.r l.initial.p l.initial.t);
 }
 
 abbrev pub decreases-loop-before : goal.decreases-loop-before
-decreases-loop-before l = min (l.square.n + 5) l.max_iters - l.t.k
+decreases-loop-before l = min (l.system.square.n + 5) l.max_iters - l.t.k

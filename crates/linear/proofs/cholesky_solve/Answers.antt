@@ -2,12 +2,8 @@
 use Rattle.linear.proofs.Cells.{solve_on, solve_off}
 use Rattle.linear.proofs.cholesky_solve.Goals as goal
 
-pub returns-then-factor : goal.returns-then-factor
-returns-then-factor c =
-    let h = solve_on _ _ _ _ c.factor.ensures c.if-factor.true c.forward.ensures c.backward.ensures in
-    record { solved = h.0; has_factor = h.1 }
+pub returns-then-factor-clause-solved : goal.returns-then-factor-clause-solved
+returns-then-factor-clause-solved c = solve_on _ _ _ _ c.factor.ensures c.if-factor.true c.forward.ensures c.backward.ensures
 
-pub returns : goal.returns
-returns c =
-    let h = solve_off _ _ _ _ c.factor.ensures c.if-factor.false in
-    record { solved = h.0; has_factor = h.1 }
+pub returns-clause-solved : goal.returns-clause-solved
+returns-clause-solved c = solve_off _ _ _ _ c.factor.ensures c.if-factor.false

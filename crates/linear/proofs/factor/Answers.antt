@@ -5,7 +5,6 @@ use mathlib.Core.Path.{◌≡◌, ap, ◌∙◌}
 use Prim.Native.Nat.{ℕ, ◌+◌, ◌*◌, ◌≤◌}
 use native.Mathlib.Omega.{arith}
 use lib.ListN.{length, length-set, replicate}
-use lib.Ieee.{Float}
 use Rattle.floats.specs.Operators.{zero₆₄, at}
 use Rattle.loops.specs.Loop.{leave}
 use Rattle.loops.proofs.Leave.{leave_none, leave_step, leave_end, leave_left}

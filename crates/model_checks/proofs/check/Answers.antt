@@ -66,10 +66,16 @@ pub lda_length-requires-clause-sizes : goal.lda_length-requires-clause-sizes
 lda_length-requires-clause-sizes g c = in_range g.W.Real.format (params_in g.W.Real.float c.args.p.now) c.in_ok-check_gmm.ensures c.in_ok-check_extractor.ensures c.in_ok-check_lda.ensures
 
 pub overflow_add-total : goal.overflow_add-total
-overflow_add-total g c = omega (arith, total_low c.BYTES-width.result c.args.p.now.sizes (few_bytes g.W.Real.format (c.BYTES-width.ensures ∙ g.met.W.Real.bytes)) (in_range g.W.Real.format (params_in g.W.Real.float c.args.p.now) c.in_ok-check_gmm.ensures c.in_ok-check_extractor.ensures c.in_ok-check_lda.ensures), c.gmm_length.ensures, c.extractor_length.ensures)
+overflow_add-total g c =
+    let sizes = in_range g.W.Real.format (params_in g.W.Real.float c.args.p.now) c.in_ok-check_gmm.ensures c.in_ok-check_extractor.ensures c.in_ok-check_lda.ensures in
+    let width = few_bytes g.W.Real.format (c.BYTES-width.ensures ∙ g.met.W.Real.bytes) in
+    omega (arith, total_low c.BYTES-width.result c.args.p.now.sizes width sizes, c.gmm_length.ensures, c.extractor_length.ensures)
 
 pub overflow_add-total-2 : goal.overflow_add-total-2
-overflow_add-total-2 g c = omega (arith, total_low c.BYTES-width.result c.args.p.now.sizes (few_bytes g.W.Real.format (c.BYTES-width.ensures ∙ g.met.W.Real.bytes)) (in_range g.W.Real.format (params_in g.W.Real.float c.args.p.now) c.in_ok-check_gmm.ensures c.in_ok-check_extractor.ensures c.in_ok-check_lda.ensures), c.gmm_length.ensures, c.extractor_length.ensures, c.lda_length.ensures)
+overflow_add-total-2 g c =
+    let sizes = in_range g.W.Real.format (params_in g.W.Real.float c.args.p.now) c.in_ok-check_gmm.ensures c.in_ok-check_extractor.ensures c.in_ok-check_lda.ensures in
+    let width = few_bytes g.W.Real.format (c.BYTES-width.ensures ∙ g.met.W.Real.bytes) in
+    omega (arith, total_low c.BYTES-width.result c.args.p.now.sizes width sizes, c.gmm_length.ensures, c.extractor_length.ensures, c.lda_length.ensures)
 
 pub returns : goal.returns
 returns g c =

@@ -31,4 +31,6 @@ returns-in_err-check_wide_list-2 g c =
     told ∙ after _ _ tt c.in_ok-check_size.ensures.number (after _ _ tt c.in_ok-check_size-2.ensures.number (after _ _ tt c.in_ok-check_wide_list.ensures (here _ _ _ c.in_err-check_wide_list-2.ensures)))
 
 pub returns : goal.returns
-returns g c = after _ _ tt c.in_ok-check_size.ensures.number (after _ _ tt c.in_ok-check_size-2.ensures.number (after _ _ tt c.in_ok-check_wide_list.ensures (after _ _ tt c.in_ok-check_wide_list-2.ensures (c.need.ensures ∙ ap (λ (b : Bool). first_of ((not b, 6) ∷ [])) c.is_finite.ensures ∙ offset_is g.W.Real.format _))))
+returns g c =
+    after _ _ tt c.in_ok-check_size.ensures.number (after _ _ tt c.in_ok-check_size-2.ensures.number (after _ _ tt c.in_ok-check_wide_list.ensures
+    (after _ _ tt c.in_ok-check_wide_list-2.ensures (c.need.ensures ∙ ap (λ (b : Bool). first_of ((not b, 6) ∷ [])) c.is_finite.ensures ∙ offset_is g.W.Real.format _))))

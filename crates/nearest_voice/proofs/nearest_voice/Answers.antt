@@ -1,48 +1,42 @@
 -- `nearest_voice::nearest_voice` meets its contract: before index i, `index` is the lowest of least distance among those up to i - 1 (laws in Least.antt); no
 -- product passes 64 bits, since a refused length never gets there (`accepted` in Refusals.antt).
+use Rattle.std.specs.Prelude.{Err}
 use borrow.Author.Rules.{rules}
-use mathlib.Core.Path.{◌≡◌, sym, ap, ◌∙◌}
+use mathlib.Core.Path.{◌≡◌, refl, sym, ap, ◌∙◌}
 use Prim.Native.Nat.{ℕ, suc, ◌+◌, ◌-◌}
 use native.Mathlib.Nat.{le_of_eq, le_antisymm}
 use native.Mathlib.Omega.{arith}
 use lib.Ieee.{Float, lt}
+use Rattle.definition.specs.Number.{number_of, numbered}
 use Rattle.nearest_voice.specs.Voice.{distance, least}
 use Rattle.nearest_voice.proofs.Refusals.{accepted}
 use Rattle.nearest_voice.proofs.Least.{row_in_lem, least_first, least_new, least_same, answer_refused, answer_voice, answer_nobody}
 use Rattle.nearest_voice.proofs.nearest_voice.Goals.{then-d-shortest, else-d-shortest}
 use Rattle.nearest_voice.proofs.nearest_voice.Goals as goal
 
-pub voice_refusal-refusal-requires : goal.voice_refusal-refusal-requires
-voice_refusal-refusal-requires c = search rules
-
-pub returns-then-refusal-ne0 : goal.returns-then-refusal-ne0
-returns-then-refusal-ne0 c =
+pub returns-in_err-check : goal.returns-in_err-check
+returns-in_err-check c =
     let a = c.args in
-    answer_refused _ a.vector.now _ a.enrolled.now _ _ c.voice_refusal-refusal.ensures c.if-refusal-ne0.true
+    let told : numbered c.from_residual.result ≡ Err (number_of c.in_err-check.field-0.0) = search rules in
+    told ∙ answer_refused a.dim a.vector.now a.count a.enrolled.now a.limit _ c.in_err-check.ensures
 
 pub distance-shortest-requires : goal.distance-shortest-requires
 distance-shortest-requires c =
     let a = c.args in
-    let h = accepted _ a.vector.now _ a.enrolled.now _ c.voice_refusal-refusal.ensures c.if-refusal-ne0.false in
+    let h = accepted a.dim a.vector.now a.count a.enrolled.now a.limit c.in_ok-check.ensures refl in
     (le_of_eq (sym h.vector_long), row_in_lem 0 _ _ _ h.some h.rows_long, h.vector_finite, h.rows_finite)
 
 pub loop-i-init : goal.loop-i-init
 loop-i-init c =
     let a = c.args in
-    let h = accepted _ a.vector.now _ a.enrolled.now _ c.voice_refusal-refusal.ensures c.if-refusal-ne0.false in
+    let h = accepted a.dim a.vector.now a.count a.enrolled.now a.limit c.in_ok-check.ensures refl in
     (omega arith, h.some, least_first _, c.distance-shortest.ensures)
 
 pub distance-d-requires : goal.distance-d-requires
 distance-d-requires c =
     let a = c.args in
-    let h = accepted _ a.vector.now _ a.enrolled.now _ c.voice_refusal-refusal.ensures c.if-refusal-ne0.false in
+    let h = accepted a.dim a.vector.now a.count a.enrolled.now a.limit c.in_ok-check.ensures refl in
     (le_of_eq (sym h.vector_long), row_in_lem c.loop-i.i _ _ _ (omega arith) h.rows_long, h.vector_finite, h.rows_finite)
-
-pub overflow_step-i : goal.overflow_step-i
-overflow_step-i c = search rules
-
-pub loop-i-smaller : goal.loop-i-smaller
-loop-i-smaller c = search rules
 
 pub loop-i-preserved : goal.loop-i-preserved
 loop-i-preserved c =
@@ -74,7 +68,7 @@ returns-then-shortest-limit c =
     let l = c.loop-i in
     let f = distance a.dim a.vector.now a.enrolled.now in
     let i-is : l.index ≡ least f (a.count - 1) = l.invariant.2 ∙ ap (λ (k : ℕ). least f (k - 1)) (le_antisymm l.invariant.1 c.loop-i-test.false) in
-    answer_voice _ a.vector.now _ a.enrolled.now _ _ c.voice_refusal-refusal.ensures c.if-refusal-ne0.false _ _ i-is l.invariant.3 c.if-shortest-limit.true
+    answer_voice a.dim a.vector.now a.count a.enrolled.now a.limit c.in_ok-check.ensures _ _ i-is l.invariant.3 c.if-shortest-limit.true
 
 pub returns : goal.returns
 returns c =
@@ -82,4 +76,4 @@ returns c =
     let l = c.loop-i in
     let f = distance a.dim a.vector.now a.enrolled.now in
     let i-is : l.index ≡ least f (a.count - 1) = l.invariant.2 ∙ ap (λ (k : ℕ). least f (k - 1)) (le_antisymm l.invariant.1 c.loop-i-test.false) in
-    answer_nobody _ a.vector.now _ a.enrolled.now _ _ c.voice_refusal-refusal.ensures c.if-refusal-ne0.false _ _ i-is l.invariant.3 c.if-shortest-limit.false
+    answer_nobody a.dim a.vector.now a.count a.enrolled.now a.limit c.in_ok-check.ensures _ _ i-is l.invariant.3 c.if-shortest-limit.false

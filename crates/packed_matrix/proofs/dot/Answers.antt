@@ -5,7 +5,6 @@ use Rattle.std.proofs.Common.{rules}
 use Rattle.std.proofs.lemmas.Iterator.{YieldsList-from_slice, YieldsList-from_zip, YieldsList-from_map}
 use Rattle.std.proofs.lemmas.Iterator.Adapters.{total_from_yields_List}
 use mathlib.Core.Path.{◌∙◌}
-use Prim.Native.Nat.{ℕ}
 use lib.Ieee.{Float}
 use Rattle.definition.specs.Solve.{dot}
 use Rattle.packed_matrix.proofs.Products.{sum_products}

@@ -16,12 +16,6 @@ loop-k-init c =
     let e = c.begin_sums-k.ensures in
     record { most = e.few; long = length_sums a.s (length a.out.now) a.rows.now a.x.now c.begin_sums-k.result e.sums; sums = e.sums }
 
-pub row_at-r0-requires : goal.row_at-r0-requires
-row_at-r0-requires c = front_in (c.loop-k.k) (length c.args.x.now) c.args.s (length c.args.out.now) _ c.requires.apart c.requires.rows_in (omega arith)
-
-pub row_at-r1-requires : goal.row_at-r1-requires
-row_at-r1-requires c = front_in (c.loop-k.k + 1) (length c.args.x.now) c.args.s (length c.args.out.now) _ c.requires.apart c.requires.rows_in (omega arith)
-
 pub row_at-r2-requires : goal.row_at-r2-requires
 row_at-r2-requires c = front_in (c.loop-k.k + 2) (length c.args.x.now) c.args.s (length c.args.out.now) _ c.requires.apart c.requires.rows_in (omega arith)
 
@@ -40,9 +34,6 @@ loop-k-preserved c =
     let e = four_turn a.s w a.rows.now a.x.now c.loop-k.k c.loop-k.invariant.sums c.row_at-r0.ensures.0 c.row_at-r1.ensures.0
     c.row_at-r2.ensures.0 c.row_at-r3.ensures.0 c.add_four.ensures in
     record { most = omega arith; long = length_sums a.s w a.rows.now a.x.now (c.loop-k.k + 4) e; sums = e }
-
-pub row_at-r-requires : goal.row_at-r-requires
-row_at-r-requires c = front_in c.loop-i.i (length c.args.x.now) c.args.s (length c.args.out.now) _ c.requires.apart c.requires.rows_in (omega arith)
 
 pub add_scaled-requires : goal.add_scaled-requires
 add_scaled-requires c = le_of_eq (c.loop-i.invariant.long ∙ sym c.row_at-r.ensures.1)

@@ -6,6 +6,7 @@ use Prim.Native.Nat.{◌-◌, ◌≤◌, ◌<◌}
 use lib.ListN.{length}
 use Rattle.floats.specs.Operators.{◌-₃₂◌, at}
 use Rattle.floats.specs.Exp.{exp_of}
+use Rattle.leading.specs.Rooms.{SameChosen}
 use Rattle.leading.specs.Steps.{held}
 use Rattle.posteriors.specs.Steps.{passes}
 use Rattle.posteriors.proofs.Gathering.{passing, gathered}
@@ -15,11 +16,10 @@ abbrev pub invariant-loop-after : goal.invariant-loop-after
 invariant-loop-after l = record {
   in_list : l.g < length l.loglikes;
   most : l.n ≤ l.num_gselect;
-  chosen_long : length l.chosen ≡ length l.initial.chosen;
-  posts_long : length l.posts ≡ length l.initial.posts;
+  same : SameChosen l.initial.chosen l.chosen;
   passes_here : passes l.cutoff (at l.loglikes l.g) ≡ true;
   likely : l.p ≡ exp_of (at l.loglikes l.g -₃₂ l.max_like);
-  are_held : held l.n l.chosen l.posts ≡ gathered l.num_gselect (passing l.cutoff) l.max_like l.loglikes l.g;
+  are_held : held l.n l.chosen.gauss.now l.chosen.posts.now ≡ gathered l.num_gselect (passing l.cutoff) l.max_like l.loglikes l.g;
 }
 
 abbrev pub decreases-loop-after : goal.decreases-loop-after

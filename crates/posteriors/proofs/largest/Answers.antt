@@ -1,45 +1,14 @@
 -- `posteriors::largest` meets its contract: the parts lie within the list (`row_in_lem` in loops/proofs/Cells.antt), and joined in their order they give the
 -- definition's largest (`eight-parts` in Maximum.antt).
-use mathlib.Core.Path.{sym, ap, ◌∙◌}
+use mathlib.Core.Path.{ap, ◌∙◌}
 use Prim.Native.Nat.{◌/◌}
-use native.Mathlib.Omega.{arith}
 use lib.ListN.{length}
-use Rattle.loops.proofs.Cells.{row_in_lem}
 use Rattle.posteriors.specs.Steps.{top}
 use Rattle.posteriors.proofs.Maximum.{eight-parts}
 use Rattle.posteriors.proofs.largest.Goals as goal
-
-pub eight-front-requires : goal.eight-front-requires
-eight-front-requires c =
-    let e = sym c.part.ensures.1 in
-    (c.part-2.ensures.1 ∙ e, c.part-3.ensures.1 ∙ e, c.part-4.ensures.1 ∙ e, c.part-5.ensures.1 ∙ e, c.part-6.ensures.1 ∙ e, c.part-7.ensures.1 ∙ e, c.part-8.ensures.1 ∙ e)
 
 pub returns : goal.returns
 returns c =
     let ls = c.args.loglikes.now in
     eight-parts (length ls / 8) ls c.part.ensures.0 c.part-2.ensures.0 c.part-3.ensures.0 c.part-4.ensures.0 c.part-5.ensures.0 c.part-6.ensures.0
     c.part-7.ensures.0 c.part-8.ensures.0 c.eight-front.ensures (c.rest.ensures ∙ ap (top c.eight-front.result) c.behind.ensures)
-
-pub part-requires : goal.part-requires
-part-requires c = row_in_lem 0 8 _ _ (omega arith) (omega arith)
-
-pub part-requires-2 : goal.part-requires-2
-part-requires-2 c = row_in_lem 1 8 _ _ (omega arith) (omega arith)
-
-pub part-requires-3 : goal.part-requires-3
-part-requires-3 c = row_in_lem 2 8 _ _ (omega arith) (omega arith)
-
-pub part-requires-4 : goal.part-requires-4
-part-requires-4 c = row_in_lem 3 8 _ _ (omega arith) (omega arith)
-
-pub part-requires-5 : goal.part-requires-5
-part-requires-5 c = row_in_lem 4 8 _ _ (omega arith) (omega arith)
-
-pub part-requires-6 : goal.part-requires-6
-part-requires-6 c = row_in_lem 5 8 _ _ (omega arith) (omega arith)
-
-pub part-requires-7 : goal.part-requires-7
-part-requires-7 c = row_in_lem 6 8 _ _ (omega arith) (omega arith)
-
-pub part-requires-8 : goal.part-requires-8
-part-requires-8 c = row_in_lem 7 8 _ _ (omega arith) (omega arith)

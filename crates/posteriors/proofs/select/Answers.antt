@@ -1,11 +1,15 @@
--- `posteriors::select` meets its contract: the four stages in turn are the definition's selection (`selection_is` in Selecting.antt).
+-- `posteriors::select` meets its contract: the best, pruned and scaled, are the definition's selection (`selection_is` in Selecting.antt).
+use Prim.Native.Nat.{◌≤◌}
 use native.Mathlib.Omega.{arith}
-use Rattle.posteriors.proofs.Folds.{front_sum}
+use lib.ListN.{length}
 use Rattle.posteriors.proofs.Selecting.{selection_is}
 use Rattle.posteriors.proofs.select.Goals as goal
 
-pub returns : goal.returns
-returns c =
-    let p = c.prune-left.ensures in
-    let q = c.requires in
-    selection_is _ _ _ _ _ _ (omega (arith, c.best-n.auto.chosen, q)) (omega (arith, c.best-n.auto.posts, q)) c.best-n.ensures.1 c.best-n.ensures.0 (front_sum _ _ _ (omega (arith, c.best-n.auto.posts, c.best-n.ensures.1, q)) c.total-tot.ensures) p.0 p.1 c.scale.ensures
+pub returns-clause-selected : goal.returns-clause-selected
+returns-clause-selected c =
+    let p = c.requires.places in
+    let b = c.best-n.ensures in
+    let r = c.renormalize.ensures in
+    let few : c.best-n.result ≤ length c.best-n.new.chosen.gauss.now = omega (arith, p, b) in
+    let z = selection_is _ _ _ _ _ _ c.renormalize.new.posts (omega (arith, p, b, r)) (omega (arith, p, b, r, c.renormalize.auto.posts)) b.best (r.scaled _ few) in
+    record { here = z.0; most = omega (arith, b.most, r.most); fair = z.1 }

@@ -5,35 +5,31 @@ use mathlib.Core.Bool.{not}
 use Rattle.program.specs.Rooms.{Rings}
 use Rattle.program.specs.Lent.{rings_in}
 use Rattle.register_bytes.proofs.Room.{Judged, judged, held_none, held_is, known, under_ten, room_is}
-use Rattle.register_bytes.proofs.push_room.Goals.{After-set_input_finished-c, Start}
+use Rattle.register_bytes.proofs.push_room.Goals.{After-set_input_finished}
 use Rattle.register_bytes.proofs.push_room.Goals as goal
 
-abbrev lent : Start → Rings
+abbrev lent : After-set_input_finished → Rings
 lent c = rings_in c.args.frames c.args.waiting
 
 -- what is known of its answer
-told : (c : After-set_input_finished-c) → Judged c.args.s.now (lent (goal.at.After-set_input_finished-c c).Start) c.set_input_finished-c.result.answer
-told c = judged c.args.s.now (lent (goal.at.After-set_input_finished-c c).Start) c.set_input_finished-c.ensures
+told : (c : After-set_input_finished) → Judged c.args.s.now (lent c) c.set_input_finished.result.answer
+told c = judged c.args.s.now (lent c) c.set_input_finished.ensures
 
 -- ---- the answers
 
 pub returns-then-a-ne0-clause-held : goal.returns-then-a-ne0-clause-held
-returns-then-a-ne0-clause-held c =
-    held_none c.args.s.now (lent (goal.at.returns-then-a-ne0-clause-held c).Start) (told (goal.at.returns-then-a-ne0-clause-held c).After-set_input_finished-c) c.if-a-ne0.true
+returns-then-a-ne0-clause-held c = let k = (goal.at.returns-then-a-ne0-clause-held c).After-set_input_finished in held_none c.args.s.now (lent k) (told k) c.if-a-ne0.true
 
 pub returns-then-a-ne0-clause-room : goal.returns-then-a-ne0-clause-room
-returns-then-a-ne0-clause-room c =
-    under_ten c.args.s.now (lent (goal.at.returns-then-a-ne0-clause-room c).Start) (told (goal.at.returns-then-a-ne0-clause-room c).After-set_input_finished-c) c.if-a-ne0.true
+returns-then-a-ne0-clause-room c = let k = (goal.at.returns-then-a-ne0-clause-room c).After-set_input_finished in under_ten c.args.s.now (lent k) (told k) c.if-a-ne0.true
 
 pub is_full-requires : goal.is_full-requires
 is_full-requires c =
-    let k = known c.args.s.now (lent (goal.at.is_full-requires c).Start) (told (goal.at.is_full-requires c).After-set_input_finished-c) c.if-a-ne0.false in
-    omega (arith, k.dims_are.some_base)
+    let k = (goal.at.is_full-requires c).After-set_input_finished in omega (arith, (known c.args.s.now (lent k) (told k) c.if-a-ne0.false).dims_are.some_base)
 
 pub returns-clause-held : goal.returns-clause-held
-returns-clause-held c =
-    held_is c.args.s.now (lent (goal.at.returns-clause-held c).Start) (told (goal.at.returns-clause-held c).After-set_input_finished-c) c.if-a-ne0.false
+returns-clause-held c = let k = (goal.at.returns-clause-held c).After-set_input_finished in held_is c.args.s.now (lent k) (told k) c.if-a-ne0.false
 
 pub returns-clause-room : goal.returns-clause-room
 returns-clause-room c =
-    ap not c.is_full.ensures ∙ room_is c.args.s.now (lent (goal.at.returns-clause-room c).Start) (told (goal.at.returns-clause-room c).After-set_input_finished-c) c.if-a-ne0.false
+    let k = (goal.at.returns-clause-room c).After-set_input_finished in ap not c.is_full.ensures ∙ room_is c.args.s.now (lent k) (told k) c.if-a-ne0.false

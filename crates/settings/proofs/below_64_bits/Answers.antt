@@ -1,6 +1,6 @@
 -- `below_64_bits` meets its contract. The loop's invariant: the digits that are left, behind x, make the number of them all. Where x with the next digit is 2^64 or
 -- more, so is that number (`digits_over` in Values.antt).
-use Rattle.std.proofs.Common.{◌≡◌, ℕ, ◌+◌, ◌*◌, ◌-◌, ◌^◌, ◌≤◌, get_or, None, drop, ap, sym, refl, ◌∙◌, arith, rules}
+use Rattle.std.proofs.Common.{◌≡◌, ℕ, ◌+◌, ◌*◌, ◌-◌, get_or, None, drop, ap, sym, refl, ◌∙◌, arith, rules}
 use Rattle.definition.specs.Text.{digits_value}
 use Rattle.settings.specs.Steps.{below64}
 use Rattle.settings.proofs.Values.{digits_turn, digits_over, digits-few}

@@ -1,5 +1,5 @@
 -- `trim_end` meets its contract: what `take_while` counts from the back is std's `suffix_len` (`end_trimmed` in Lines.antt).
-use Rattle.std.proofs.Common.{ℕ, ◌-◌, List, length, take, reverse, ap, ◌∙◌, rules, tests}
+use Rattle.std.proofs.Common.{ℕ, ◌-◌, length, take, reverse, ap, ◌∙◌, rules, tests}
 use Rattle.std.proofs.lemmas.Iterator.Adapters.{YieldsList-from_rev_slice}
 use Rattle.std.proofs.lemmas.Iterator.Consumers.{count_from_yields_List}
 use Rattle.std.proofs.lemmas.Iterator.Search.{YieldsList-from_take_while}

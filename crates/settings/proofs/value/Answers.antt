@@ -1,5 +1,5 @@
 -- `value` meets its contract. The loop's invariant: the first line with the key is among those from `at` on.
-use Rattle.std.proofs.Common.{◌≡◌, List, sym, ap, ◌∙◌, arith, rules, true, false, take, drop, length}
+use Rattle.std.proofs.Common.{◌≡◌, sym, ap, ◌∙◌, arith, rules, true, false, take, drop, length}
 use Rattle.definition.specs.Reader.{run, same}
 use Rattle.settings.specs.Settings as S
 use Rattle.settings.proofs.Lines.{going, rest_is, from_in, from_out, value_none, found_here, not_here}

@@ -1,7 +1,5 @@
 -- The one equation of `get_delta_weights`: refused, nothing asked for, or the walk's weights and changes, as the laws of `Calls` put together.
 use mathlib.Core.Path.{◌≡◌, refl, sym, ap, ◌∙◌}
-use mathlib.Core.Bool.{Bool}
-use mathlib.Core.List.{List}
 use native.Mathlib.Omega.{arith}
 use Prim.Native.Nat.{max}
 use lib.ListN.{length}
@@ -57,15 +55,15 @@ give_changes-changes-requires-clause-enough c =
     let n = size (goal.at.give_changes-changes-requires-clause-enough c).After-max in
     omega (arith, t.room_is, ap length (some_asked a.s.now z.known.now z.is_silence.now z.current_weight.now a.num_frames_ready a.first_decoder_frame c.if-num_frames_ready-first_decoder_frame.false _ n))
 
-pub fill-requires-clause-within : goal.fill-requires-clause-within
-fill-requires-clause-within c =
+pub fill-requires : goal.fill-requires
+fill-requires c =
     let t = delta_taken _ _ _ _ _ _ (sym (c.in_ok-check_deltas.ensures _ _ c.min-room.ensures)) in
-    omega (arith, size (goal.at.fill-requires-clause-within c).After-max, ap length c.give_changes-changes.ensures.known)
+    omega (arith, size (goal.at.fill-requires c).After-max, ap length c.give_changes-changes.ensures.known)
 
-pub fill-requires-2-clause-within : goal.fill-requires-2-clause-within
-fill-requires-2-clause-within c =
+pub fill-requires-2 : goal.fill-requires-2
+fill-requires-2 c =
     let t = delta_taken _ _ _ _ _ _ (sym (c.in_ok-check_deltas.ensures _ _ c.min-room.ensures)) in
-    omega (arith, size (goal.at.fill-requires-2-clause-within c).After-max, ap length c.give_changes-changes.ensures.is_silence)
+    omega (arith, size (goal.at.fill-requires-2 c).After-max, ap length c.give_changes-changes.ensures.is_silence)
 
 pub returns-clause-call : goal.returns-clause-call
 returns-clause-call c =

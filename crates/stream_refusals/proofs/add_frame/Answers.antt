@@ -15,47 +15,14 @@ use Rattle.stream_refusals.proofs.add_frame.Goals as goal
 pub loop-d-init : goal.loop-d-init
 loop-d-init c = search puts
 
-pub overflow_add-rows : goal.overflow_add-rows
-overflow_add-rows c = search rules
-
-pub offset_bounds-rows-last : goal.offset_bounds-rows-last
-offset_bounds-rows-last c = search rules
-
-pub bounds-rows-last : goal.bounds-rows-last
-bounds-rows-last c = search rules
-
-pub offset_bounds-frame-d : goal.offset_bounds-frame-d
-offset_bounds-frame-d c = search rules
-
-pub bounds-frame-d : goal.bounds-frame-d
-bounds-frame-d c = search rules
-
 pub float_to_float-rows : goal.float_to_float-rows
 float_to_float-rows c =
     let x : Float = at c.args.frame.now c.loop-d.d in
     let real = none_at (λ v. not (finite v)) nan c.args.frame.now c.loop-d.d c.requires.3 (omega arith) in
     and_i (fits binary64 x) (not (is_nan x)) (fits_widens x c.row_known-1.given) (no_nan x real)
 
-pub overflow_add-rows-in-loop-d : goal.overflow_add-rows-in-loop-d
-overflow_add-rows-in-loop-d c = search rules
-
-pub offset_bounds-rows-next : goal.offset_bounds-rows-next
-offset_bounds-rows-next c = search rules
-
-pub bounds-rows-next : goal.bounds-rows-next
-bounds-rows-next c = search rules
-
-pub overflow_step-d : goal.overflow_step-d
-overflow_step-d c = search rules
-
-pub loop-d-smaller : goal.loop-d-smaller
-loop-d-smaller c = search rules
-
 pub loop-d-preserved : goal.loop-d-preserved
 loop-d-preserved c = (omega arith, omega arith, search rules, sums_turn c.args.last c.args.next c.args.frame.now c.args.rows.now c.requires.1 c.requires.2 c.loop-d.d (omega arith) c.loop-d.invariant.3)
-
-pub shape_of-rows : goal.shape_of-rows
-shape_of-rows c = search rules
 
 pub returns : goal.returns
 returns c = put_end _ _ _ _ _ (omega arith) (omega arith) c.loop-d.invariant.3

@@ -1,11 +1,11 @@
--- `table_sums::add_next` meets its contract: a pass adds the rows that are left, at most four (`one-row` to `four_rows`, `pass_is` in Passes.antt); the rows
+-- `table_sums::add_next` meets its contract: a pass adds the rows that are left, at most four (`one-row` to `four_rows` in Passes.antt); the rows
 -- lie in the table (`row_in_lem` in loops/proofs/Cells.antt), by how many are left after each test (`two-left` to `four-left`).
 use mathlib.Core.Path.{◌≡◌, refl}
 use Prim.Native.Nat.{ℕ, ◌+◌, ◌-◌, ◌<◌}
 use native.Mathlib.Omega.{arith}
 use lib.ListN.{length}
 use Rattle.loops.proofs.Cells.{row_in_lem}
-use Rattle.table_sums.proofs.Passes.{one-row, two_rows, three_rows, four_rows, pass_is}
+use Rattle.table_sums.proofs.Passes.{one-row, two_rows, three_rows, four_rows}
 use Rattle.table_sums.proofs.add_next.Given.{Over}
 use Rattle.table_sums.proofs.add_next.Goals.{Else-left-eq1, Else-left-eq2, Else-left-eq3}
 use Rattle.table_sums.proofs.add_next.Goals as goal
@@ -40,9 +40,7 @@ returns-then-left-eq1 g c =
     record {
       onward = omega arith;
       within = omega arith;
-      sums = λ f h.
-          pass_is n a.table.now a.x.now f a.sum.now a.k _
-          (one-row n a.table.now a.x.now f a.sum.now a.k c.row_at-r0.ensures.0 (h _ _ c.times-v0.ensures)) c.add_one.ensures;
+      sums = λ f h. one-row n a.table.now a.x.now f a.sum.now a.k c.row_at-r0.ensures.0 (h _ _ c.times-v0.ensures) c.add_one.ensures;
     }
 
 -- ---- two
@@ -57,9 +55,7 @@ returns-then-left-eq2 g c =
     record {
       onward = omega arith;
       within = omega (arith, two-left g (goal.at.returns-then-left-eq2 g c).Else-left-eq1);
-      sums = λ f h.
-          pass_is n a.table.now a.x.now f a.sum.now a.k _
-          (two_rows n a.table.now a.x.now f a.sum.now a.k c.row_at-r0.ensures.0 (h _ _ c.times-v0.ensures) c.row_at-r1.ensures.0 (h _ _ c.times-v1.ensures)) c.add_two.ensures;
+      sums = λ f h. two_rows n a.table.now a.x.now f a.sum.now a.k c.row_at-r0.ensures.0 (h _ _ c.times-v0.ensures) c.row_at-r1.ensures.0 (h _ _ c.times-v1.ensures) c.add_two.ensures;
     }
 
 -- ---- three
@@ -74,9 +70,7 @@ returns-then-left-eq3 g c =
     record {
       onward = omega arith;
       within = omega (arith, three-left g (goal.at.returns-then-left-eq3 g c).Else-left-eq2);
-      sums = λ f h.
-          pass_is n a.table.now a.x.now f a.sum.now a.k _
-          (three_rows n a.table.now a.x.now f a.sum.now a.k c.row_at-r0.ensures.0 (h _ _ c.times-v0.ensures) c.row_at-r1.ensures.0 (h _ _ c.times-v1.ensures) c.row_at-r2.ensures.0 (h _ _ c.times-v2.ensures)) c.add_three.ensures;
+      sums = λ f h. three_rows n a.table.now a.x.now f a.sum.now a.k c.row_at-r0.ensures.0 (h _ _ c.times-v0.ensures) c.row_at-r1.ensures.0 (h _ _ c.times-v1.ensures) c.row_at-r2.ensures.0 (h _ _ c.times-v2.ensures) c.add_three.ensures;
     }
 
 -- ---- four
@@ -94,7 +88,5 @@ returns g c =
     record {
       onward = omega arith;
       within = omega (arith, four-left g (goal.at.returns g c).Else-left-eq3);
-      sums = λ f h.
-          pass_is n a.table.now a.x.now f a.sum.now a.k _
-          (four_rows n a.table.now a.x.now f a.sum.now a.k c.row_at-r0.ensures.0 (h _ _ c.times-v0.ensures) c.row_at-r1.ensures.0 (h _ _ c.times-v1.ensures) c.row_at-r2.ensures.0 (h _ _ c.times-v2.ensures) c.row_at-r3.ensures.0 (h _ _ c.times-v3.ensures)) c.add_four.ensures;
+      sums = λ f h. four_rows n a.table.now a.x.now f a.sum.now a.k c.row_at-r0.ensures.0 (h _ _ c.times-v0.ensures) c.row_at-r1.ensures.0 (h _ _ c.times-v1.ensures) c.row_at-r2.ensures.0 (h _ _ c.times-v2.ensures) c.row_at-r3.ensures.0 (h _ _ c.times-v3.ensures) c.add_four.ensures;
     }

@@ -1,41 +1,8 @@
--- `table_sums::add_one` meets its contract. The loop's invariant: the first m places are filled with the sums; the place that is written next has its old
--- value (`fill_ahead` in loops/proofs/Fill.antt).
-use native.Mathlib.Omega.{arith}
-use lib.Ieee.{nan}
-use Rattle.loops.proofs.Fill.{fills, fill_turn, fill_ahead}
+-- `table_sums::add_one` meets its contract. The loop's invariant: the first m places are filled with the sums; a turn does one more (`place_done` in Passes.antt).
+use lib.Ieee.{Float}
+use Rattle.floats.specs.Operators.{◌+₃₂◌, ◌*₃₂◌, at}
+use Rattle.table_sums.proofs.Passes.{place_done}
 use Rattle.table_sums.proofs.add_one.Goals as goal
 
 pub loop-m-preserved : goal.loop-m-preserved
-loop-m-preserved c =
-    let h = c.loop-m.invariant.3 in
-    (search fills, search fills, search fills, fill_turn _ _ _ (omega arith) h (cc (fill_ahead nan _ _ _ h)))
-
-pub loop-m-init : goal.loop-m-init
-loop-m-init c = search fills
-
-pub offset_bounds-row-m : goal.offset_bounds-row-m
-offset_bounds-row-m c = search fills
-
-pub bounds-row-m : goal.bounds-row-m
-bounds-row-m c = search fills
-
-pub offset_bounds-sum-m : goal.offset_bounds-sum-m
-offset_bounds-sum-m c = search fills
-
-pub bounds-sum-m : goal.bounds-sum-m
-bounds-sum-m c = search fills
-
-pub bounds-sum-m-in-loop-m : goal.bounds-sum-m-in-loop-m
-bounds-sum-m-in-loop-m c = search fills
-
-pub overflow_step-m : goal.overflow_step-m
-overflow_step-m c = search fills
-
-pub loop-m-smaller : goal.loop-m-smaller
-loop-m-smaller c = search fills
-
-pub shape_of-sum : goal.shape_of-sum
-shape_of-sum c = search fills
-
-pub returns : goal.returns
-returns c = search fills
+loop-m-preserved c = let a = c.args in place_done (λ m (s : Float). s +₃₂ at a.row.now m *₃₂ a.v) c.loop-m.m a.sum.now c.loop-m-test.true c.loop-m.invariant

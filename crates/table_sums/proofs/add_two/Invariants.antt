@@ -1,5 +1,4 @@
--- `table_sums::add_two` meets its contract. The loop's invariant: the first m places are filled with the sums; the place that is written next has its old
--- value (`fill_ahead` in loops/proofs/Fill.antt).
+-- `table_sums::add_two` meets its contract. The loop's invariant: the first m places are filled with the sums; a turn does one more (`place_done` in Passes.antt).
 use mathlib.Core.Path.{◌≡◌}
 use Prim.Native.Nat.{◌-◌, ◌≤◌}
 use lib.ListN.{length}

@@ -1,17 +1,10 @@
 -- `next_place` meets its contract: each part by its function, on the state that was drawn.
 use Rattle.std.specs.Prelude.{if◌then◌else◌}
-use borrow.Author.Rules.{rules}
 use mathlib.Core.Path.{ap, ◌∙◌}
 use Prim.Native.Nat.{ℕ, ◌+◌, ◌%◌}
 use lib.Dec.{eqb}
 use Rattle.try_load.specs.Draws.{state_after}
 use Rattle.try_load.proofs.next_place.Goals as goal
-
-pub draw-s-requires : goal.draw-s-requires
-draw-s-requires c = search rules
-
-pub after-state-requires : goal.after-state-requires
-after-state-requires c = search rules
 
 pub pushes_after-pushes-requires : goal.pushes_after-pushes-requires
 pushes_after-pushes-requires c = c.requires

@@ -1,5 +1,4 @@
 -- `pushes_of` meets its contract: after i turns the place is that after i calls.
-use borrow.Author.Rules.{rules}
 use native.Mathlib.Omega.{arith}
 use Rattle.loops.proofs.Loop.{at_end}
 use Rattle.try_load.specs.Draws.{drawing_at}
@@ -11,12 +10,6 @@ loop-i-init c = (omega arith, placed_none _ _)
 
 pub next_place-p-requires : goal.next_place-p-requires
 next_place-p-requires c = omega (arith, c.loop-i.invariant.1.few, c.loop-i-test.true, c.requires)
-
-pub overflow_step-i : goal.overflow_step-i
-overflow_step-i c = search rules
-
-pub loop-i-smaller : goal.loop-i-smaller
-loop-i-smaller c = search rules
 
 pub loop-i-preserved : goal.loop-i-preserved
 loop-i-preserved c =

@@ -1,20 +1,10 @@
 -- `try_load::skip` meets its contract: after i turns i draws are done.
-use borrow.Author.Rules.{rules}
 use native.Mathlib.Omega.{arith}
 use Rattle.try_load.proofs.Steps.{draws-none, draws-next, draws_end}
 use Rattle.try_load.proofs.skip.Goals as goal
 
 pub loop-i-init : goal.loop-i-init
 loop-i-init c = (omega arith, draws-none _)
-
-pub draw-t-requires : goal.draw-t-requires
-draw-t-requires c = search rules
-
-pub overflow_step-i : goal.overflow_step-i
-overflow_step-i c = search rules
-
-pub loop-i-smaller : goal.loop-i-smaller
-loop-i-smaller c = search rules
 
 pub loop-i-preserved : goal.loop-i-preserved
 loop-i-preserved c = let l = c.loop-i in (omega arith, draws-next _ l.i l.invariant.1 c.draw-t.ensures)

@@ -1,70 +1,45 @@
 -- `draw_call` meets its contract: what is coded is the drawn call, kind by kind (Drawn.antt).
-use borrow.Author.Rules.{rules}
-use mathlib.Core.Path.{◌≡◌, sym, ap, ◌∙◌}
+use Rattle.std.proofs.Common.{rules}
+use mathlib.Core.Path.{◌≡◌, ap}
 use Prim.Native.Nat.{ℕ, ◌%◌}
 use native.Mathlib.Omega.{arith}
-use lib.ListN.{length-set}
-use Rattle.try_load.specs.Draws.{Drawing, drawing}
+use Rattle.try_load.specs.Draws.{drawing}
 use Rattle.try_load.proofs.Steps.{wide-0}
-use Rattle.try_notes.proofs.Drawn.{push_coded, finish_coded, change_coded, forget_coded, fetch_coded, last_kind}
+use Rattle.try_notes.proofs.Drawn.{coded, push_coded, finish_coded, change_coded, forget_coded, fetch_coded, no_window, at_fetch}
 use Rattle.try_notes.proofs.draw_call.Goals as goal
 
-pub draw-s-requires : goal.draw-s-requires
-draw-s-requires c = search rules
-
-pub frame_of-frame-requires : goal.frame_of-frame-requires
-frame_of-frame-requires c = c.requires.3
-
 pub put_numbers-requires : goal.put_numbers-requires
-put_numbers-requires c = let a = c.args in omega (arith, wide-0 a.dim (c.draw-s.result % 5) c.draw-s.result c.if-kind-eq0.true, c.requires.1)
+put_numbers-requires c = let a = c.args in omega (arith, wide-0 a.dim (c.draw-s.result % 5) c.draw-s.result c.in-Push.ensures, c.requires.1)
 
-pub shape_of-samples-then-kind-eq0 : goal.shape_of-samples-then-kind-eq0
-shape_of-samples-then-kind-eq0 c = c.put_numbers.auto.frames
-
-pub returns-then-kind-eq0 : goal.returns-then-kind-eq0
-returns-then-kind-eq0 c =
+pub returns-in-Push : goal.returns-in-Push
+returns-in-Push c =
     let a = c.args in
-    let d : Drawing = drawing a.state a.pushes in
-    (push_coded a.dim d c.draw-s.result c.draw-s.ensures _ _ c.if-kind-eq0.true c.put_numbers.ensures, sym c.if-kind-eq0.true ∙ ap (λ (s : ℕ). s % 5) c.draw-s.ensures)
+    let zero : c.default.result ≡ coded 0 0 0 0 0 = search rules in
+    (rw zero (push_coded a.dim (drawing a.state a.pushes) c.draw-s.result c.draw-s.ensures _ _ c.in-Push.ensures c.put_numbers.ensures), ap (λ (s : ℕ). s % 5) c.draw-s.ensures)
 
-pub returns-then-kind-eq1 : goal.returns-then-kind-eq1
-returns-then-kind-eq1 c =
+pub returns-in-Finish : goal.returns-in-Finish
+returns-in-Finish c =
     let a = c.args in
-    let d : Drawing = drawing a.state a.pushes in
-    (finish_coded a.dim d c.draw-s.result c.draw-s.ensures _ _ c.if-kind-eq1.true, sym c.if-kind-eq1.true ∙ ap (λ (s : ℕ). s % 5) c.draw-s.ensures)
+    let zero : c.default-in-Finish.result ≡ coded 0 0 0 0 0 = search rules in
+    (rw zero (finish_coded a.dim (drawing a.state a.pushes) c.draw-s.result c.draw-s.ensures _ _ c.in-Finish.ensures), ap (λ (s : ℕ). s % 5) c.draw-s.ensures)
 
-pub bounds-lists-0 : goal.bounds-lists-0
-bounds-lists-0 c = omega (arith, c.requires.2)
-
-pub weight_of-requires : goal.weight_of-requires
-weight_of-requires c = search rules
-
-pub bounds-samples-0 : goal.bounds-samples-0
-bounds-samples-0 c = omega (arith, c.requires.0, c.requires.1)
-
-pub shape_of-lists-then-kind-eq2 : goal.shape_of-lists-then-kind-eq2
-shape_of-lists-then-kind-eq2 c = simp length-set
-
-pub shape_of-samples-then-kind-eq2 : goal.shape_of-samples-then-kind-eq2
-shape_of-samples-then-kind-eq2 c = simp length-set
-
-pub returns-then-kind-eq2 : goal.returns-then-kind-eq2
-returns-then-kind-eq2 c =
+pub returns-in-Change : goal.returns-in-Change
+returns-in-Change c =
     let a = c.args in
-    let d : Drawing = drawing a.state a.pushes in (
-      change_coded a.dim d c.draw-s.result c.draw-s.ensures a.lists.now a.samples.now c.if-kind-eq2.true c.requires.2 (omega (arith, c.requires.0, c.requires.1)) c.frame_of-frame.ensures c.weight_of.ensures,
-      sym c.if-kind-eq2.true ∙ ap (λ (s : ℕ). s % 5) c.draw-s.ensures,
-    )
+    let zero : c.default-in-Change.result ≡ coded 0 0 0 0 0 = search rules in
+    (rw zero (change_coded a.dim (drawing a.state a.pushes) c.draw-s.result c.draw-s.ensures a.lists.now a.samples.now c.in-Change.ensures c.requires.2 (omega (arith, c.requires.0, c.requires.1)) c.frame_of-frame.ensures c.weight_of.ensures), ap (λ (s : ℕ). s % 5) c.draw-s.ensures)
 
-pub returns-then-kind-eq3 : goal.returns-then-kind-eq3
-returns-then-kind-eq3 c =
+pub returns-in-Forget : goal.returns-in-Forget
+returns-in-Forget c =
     let a = c.args in
-    let d : Drawing = drawing a.state a.pushes in
-    (forget_coded a.dim d c.draw-s.result c.draw-s.ensures _ _ c.if-kind-eq3.true c.frame_of-frame.ensures, sym c.if-kind-eq3.true ∙ ap (λ (s : ℕ). s % 5) c.draw-s.ensures)
+    let zero : c.default-in-Forget.result ≡ coded 0 0 0 0 0 = search rules in
+    (rw zero (forget_coded a.dim (drawing a.state a.pushes) c.draw-s.result c.draw-s.ensures _ _ c.in-Forget.ensures c.frame_of-frame.ensures), ap (λ (s : ℕ). s % 5) c.draw-s.ensures)
 
-pub returns : goal.returns
-returns c =
+pub returns-in-Fetch : goal.returns-in-Fetch
+returns-in-Fetch c =
     let a = c.args in
-    let d : Drawing = drawing a.state a.pushes in
-    let four : c.draw-s.result % 5 ≡ 4 = last_kind a.dim d c.draw-s.result c.draw-s.ensures a.lists.now a.samples.now c.if-kind-eq0.false c.if-kind-eq1.false c.if-kind-eq2.false c.if-kind-eq3.false in
-    (fetch_coded a.dim d c.draw-s.result c.draw-s.ensures _ _ four c.frame_of-frame.ensures, sym four ∙ ap (λ (s : ℕ). s % 5) c.draw-s.ensures)
+    let zero : c.default-in-Fetch.result ≡ coded 0 0 0 0 0 = search rules in
+    (rw zero (fetch_coded a.dim (drawing a.state a.pushes) c.draw-s.result c.draw-s.ensures _ _ (at_fetch a.dim (drawing a.state a.pushes) c.draw-s.result c.draw-s.ensures a.lists.now a.samples.now c.in-Fetch.ensures.0) c.frame_of-frame.ensures), ap (λ (s : ℕ). s % 5) c.draw-s.ensures)
+
+pub returns-in-Window : goal.returns-in-Window
+returns-in-Window c = let a = c.args in absurd (no_window a.dim (drawing a.state a.pushes) c.draw-s.result c.draw-s.ensures a.lists.now a.samples.now c.in-Window.ensures)

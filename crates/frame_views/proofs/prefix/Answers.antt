@@ -1,6 +1,0 @@
--- `frame_views::prefix` meets its contract: the part that is lent is a row (`row_at` in Rings.antt).
-use Rattle.frame_views.proofs.Rings.{row_at}
-use Rattle.frame_views.proofs.prefix.Goals as goal
-
-pub returns : goal.returns
-returns c = row_at _ _ _ c.requires
