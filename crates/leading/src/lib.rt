@@ -67,7 +67,7 @@ fn up<T: Copy>(j: usize, room: &mut [T])
 }
 
 // From place `last` on towards the front, those that p is ahead of moved up by one, four at a time: the one at the answer stands there twice. The walk,
-// here and in `settle`, takes the two slices: after each write a struct's would be read again.
+// here and in `settle`, takes the two slices: after each write a struct's would be read again (tried: a small fetch took 1,452,644 instructions for 1,451,574).
 fn fours(p: f32, last: usize, chosen: &mut [usize], posts: &mut [f32]) -> usize
     requires { (last < length chosen.old) × (last < length posts.old) }
     ensures { Moved p last result chosen.old posts.old chosen.new posts.new }

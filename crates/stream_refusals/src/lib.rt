@@ -1,6 +1,7 @@
 // What the calls on a stream refuse, but for the fetch, and the stores of a push: in a crate of their own, so that a check of either stays short.
 // Each says how far a stream goes in the definition's own words, and takes a ring beside the place or the count of frames that its rows are told by, as
-// the definition does: these numbers are the record's, of which a copy would be slower.
+// the definition does: with the record in place of these numbers each clause would speak of its parts, and be no plainer. (As it is compiled, a push takes as
+// many instructions either way: counted.)
 #![tactic(auto)]
 
 ghost use Rattle.std.specs.Prelude.{◌≡◌, false, not, ◌||◌, ◌⊎◌, List, ◌+◌, ◌-◌, ◌<◌, ◌≤◌, length, leb, ltb, Float};
