@@ -1,34 +1,11 @@
-// Small functions that several crates use: differences and extremes of whole numbers, where a ring's row begins, rows cleared and added.
+// Small functions that several crates use: where a ring's row begins, rows cleared and added.
 #![tactic(auto)]
 
-ghost use Rattle.std.specs.Prelude.{◌≡◌, ◌+◌, ◌-◌, ◌<◌, ◌≤◌, min, max, leb, length, replicate, if◌then◌else◌};
+ghost use Rattle.std.specs.Prelude.{◌≡◌, ◌+◌, ◌-◌, ◌<◌, ◌≤◌, leb, length, replicate, if◌then◌else◌};
 ghost use Rattle.loops.specs.Lists.{over};
 ghost use Rattle.loops.specs.Ring.{rows_in, place};
 ghost use Rattle.loops.specs.Steps.{fill};
 ghost use Rattle.floats.specs.Operators.{◌+₆₄◌, ◌-₆₄◌, ◌*₆₄◌, zero₆₄, at};
-
-// These three are the library's methods, each under the definition's word for it.
-
-// a less b, not below 0: the definition's `-`.
-pub fn less(a: usize, b: usize) -> usize
-    ensures { result ≡ a - b }
-{
-    a.saturating_sub(b)
-}
-
-// The smaller of two: the definition's `min`.
-pub fn smaller(a: usize, b: usize) -> usize
-    ensures { result ≡ min a b }
-{
-    a.min(b)
-}
-
-// The larger of two: the definition's `max`.
-pub fn larger(a: usize, b: usize) -> usize
-    ensures { result ≡ max a b }
-{
-    a.max(b)
-}
 
 // Where row t of a ring of so many numbers begins.
 pub fn row_place(numbers: usize, dim: usize, t: usize) -> usize
@@ -60,14 +37,6 @@ pub fn row_after(numbers: usize, dim: usize, here: usize) -> usize
     } else {
         0
     }
-}
-
-// Zeros in all n places. The length is a number of its own, by which the definition says the room: a slice alone would be no plainer in a clause.
-pub fn clear(x: &mut [f64], n: usize)
-    requires { length x.old ≡ n }
-    ensures { x.new ≡ replicate n zero₆₄ }
-{
-    x.fill(0.0);
 }
 
 // Zeros in the first n places: what stands behind them is kept, so a part that the caller cuts would be no plainer.

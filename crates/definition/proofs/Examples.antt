@@ -17,7 +17,8 @@ use Rattle.definition.specs.declared.RoomLengths.{RoomLengths}
 use Rattle.definition.specs.declared.StreamAnswer.{StreamAnswer}
 use Rattle.definition.specs.declared.SilenceWeighting.{SilenceWeighting}
 use Rattle.definition.specs.declared.SilenceAnswer.{SilenceAnswer}
-use Rattle.definition.specs.Reader.{read, refused, text, by_width, byte_width, floats}
+use Rattle.floats.specs.Real.{by_width, byte_width}
+use Rattle.definition.specs.Reader.{read, refused, text, floats}
 use Rattle.definition.specs.Kaldi.{vector_tag, matrix_tag, packed_tag, block_width, skipped}
 use Rattle.definition.specs.Text.{number}
 use Rattle.definition.specs.Model.{tables_from, Model, Files, load}

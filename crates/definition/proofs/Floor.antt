@@ -15,7 +15,7 @@ use Rattle.loops.proofs.Choose.{by-test, or_none}
 use Rattle.loops.proofs.Tests.{none_at, at_none}
 use Rattle.definition.specs.declared.RingLengths.{RingLengths}
 use Rattle.definition.specs.Model.{Model}
-use Rattle.definition.specs.Machine.{Call, push, finish, change, forget, set_window, fetch, Machine, Move, moved, forgotten, push_tests, change_tests, window_tests, fetch_tests, fresh, caught_up, does, told_by, answer, answers_from, answers}
+use Rattle.definition.specs.Machine.{Never18, Call, push, finish, change, forget, set_window, fetch, Machine, Move, moved, forgotten, push_tests, change_tests, window_tests, fetch_tests, fresh, caught_up, does, told_by, answer, answers_from, answers}
 
 -- ---- the number of a list of tests
 
@@ -97,6 +97,6 @@ module _ (M : Model) (z : RingLengths) where
       let y : Move = does M z k c in
       or_none (eqb y.refusal 18) _ (ne_eqb y.refusal 18 (not_18 k c h)) (never_from (moved k y) (low_moved y.refusal k y.left h (low_left k c h)) cs)
 
-pub never-18 : (M : Model) (z : RingLengths) (cs : List Call) → any_of (λ a. eqb a.told.refusal 18) (answers M z cs) ≡ false
+pub never-18 : Never18
 unfolding answers fresh
 never-18 M z cs = never_from M z (fresh M) (omega arith) cs

@@ -5,7 +5,8 @@ use Rattle.std.specs.Float.Ieee.{of_bits}
 use Rattle.std.specs.Float.Ieee.Scale.{finite}
 use Rattle.loops.specs.Lists.{all_of}
 use Rattle.definition.specs.Options.{within, max_gauss, max_feat, max_ivector, max_columns}
-use Rattle.definition.specs.Reader.{read, refused, Parser, ◌>>=◌, ◌>>◌, give, need, times, bytes, run, text, same, little_endian, by_width, byte_width, floats}
+use Rattle.floats.specs.Real.{by_width, byte_width}
+use Rattle.definition.specs.Reader.{read, refused, Parser, ◌>>=◌, ◌>>◌, give, need, times, bytes, run, text, same, little_endian, floats}
 
 -- ---- items
 

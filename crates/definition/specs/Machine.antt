@@ -1,6 +1,6 @@
 -- "The stream and the keeping machine", and refusals 11 to 22. The keeping machine is the scope's word for the machine that drops no frame:
 -- a stream's answers are to be this machine's.
-use Rattle.std.specs.Prelude.{ℕ, ◌+◌, ◌-◌, min, max, Bool, true, false, not, ◌&&◌, ◌||◌, length, get_or, set, replicate, eqb, leb, ltb, Float, if◌then◌else◌}
+use Rattle.std.specs.Prelude.{◌≡◌, ℕ, ◌+◌, ◌-◌, min, max, Bool, true, false, not, ◌&&◌, ◌||◌, length, get_or, set, replicate, eqb, leb, ltb, Float, if◌then◌else◌}
 use mathlib.Core.List.{List, [], ◌∷◌, ◌++◌, map, foldl}
 use Rattle.std.specs.Float.{binary32}
 use Rattle.std.specs.Float.Ieee.{to_bits}
@@ -216,3 +216,7 @@ module _ (M : Model) where
   -- the keeping machine's answers to a list of calls, from a fresh stream
   unfoldable pub answers : RingLengths → List Call → List Answer
   answers z cs = answers_from z fresh cs
+
+-- request 8: whatever model, lent lengths and calls, no answer is 18
+abbrev pub Never18 : Type 0
+Never18 = (M : Model) (z : RingLengths) (cs : List Call) → any_of (λ a. eqb a.told.refusal 18) (answers M z cs) ≡ false

@@ -3,12 +3,12 @@
 use Rattle.std.specs.Prelude.{ℕ, zero, suc, ◌+◌, ◌-◌, ◌*◌, Bool, true, false, ◌&&◌, List, [], ◌∷◌, length, take, drop, get_or, leb, ltb, eqb, Float, if◌then◌else◌}
 use Prim.Native.Char.{code}
 use Prim.Native.String.{String, len, char_at}
-use Rattle.std.specs.Float.{Format, binary32, binary64}
+use Rattle.std.specs.Float.{Format}
 use Rattle.std.specs.Float.Ieee.{of_bits, lt}
 use Rattle.std.specs.Float.Ieee.Scale.{finite}
 use Rattle.loops.specs.Lists.{all_of, pairwise}
 use Rattle.floats.specs.Operators.{zero₃₂}
-use Rattle.floats.specs.Narrow.{narrowed}
+use Rattle.floats.specs.Real.{byte_width, kept_as}
 
 pub data Got (A : Type 0) : Type 0 where
   refused : ℕ → Got A
@@ -66,24 +66,10 @@ text t = letters (len t) 0 t
 abbrev pub same : List ℕ → List ℕ → Bool
 same = pairwise eqb
 
+-- a number from its bytes, the lowest first
 unfoldable pub little_endian : List ℕ → ℕ
 little_endian [] = 0
 little_endian (b ∷ s) = b + 256 * little_endian s
-
--- one thing for an f32, another for an f64
-abbrev pub by_width : {A : Type 0} → A → A → Format → A
-by_width a b binary32 = a
-by_width a b binary64 = b
-
--- bytes of a float
-abbrev pub byte_width : Format → ℕ
-byte_width = by_width 4 8
-
--- a number that is written at width w, as a table of width f keeps it: an f64 is narrowed for one of f32; an f32 is an f64 as it stands (request 5)
-abbrev pub kept_as : Format → Format → Float → Float
-kept_as binary32 binary32 x = x
-kept_as binary32 binary64 x = narrowed x
-kept_as binary64 w x = x
 
 -- the first n floats of a list of bytes, written at width w, as a table of width f keeps them
 unfoldable pub numbers : Format → Format → ℕ → List ℕ → List Float

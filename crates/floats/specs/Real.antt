@@ -1,9 +1,6 @@
 -- What the two widths of a float share, and how a table of one width keeps a number of another.
-use Rattle.std.specs.Prelude.{◌≡◌, refl, ℕ, Bool, true, false, Some, None, Float, if◌then◌else◌}
-use Rattle.std.specs.declared.cmp.Ordering.TheVariants.{Less, Equal, Greater}
-use Rattle.std.specs.Ordering.{is_lt, is_some_and, partial_lt, float_partial_cmp}
+use Rattle.std.specs.Prelude.{ℕ, Float}
 use Rattle.std.specs.Float.{Format, binary32, binary64}
-use Rattle.std.specs.Float.Ieee.{lt, eq}
 use Rattle.floats.specs.Narrow.{narrowed}
 
 -- one thing for an f32, another for an f64
@@ -20,13 +17,3 @@ abbrev pub kept_as : Format → Format → Float → Float
 kept_as binary32 binary32 x = x
 kept_as binary32 binary64 x = narrowed x
 kept_as binary64 w x = x
-
--- the library's `<` of floats, by its three-way comparison, is the format's
-pub lt_by_cmp : (x y : Float) → partial_lt float_partial_cmp x y ≡ lt x y
-lt_by_cmp x y = go (lt x y) (eq x y) (lt y x)
-  where
-    go : (a b c : Bool) → is_some_and is_lt (if a then Some Less else if b then Some Equal else if c then Some Greater else None) ≡ a
-    go true b c = refl
-    go false true c = refl
-    go false false true = refl
-    go false false false = refl

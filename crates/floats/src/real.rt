@@ -10,7 +10,8 @@ ghost use Rattle.std.specs.Ordering.{partial_lt};
 ghost use Rattle.std.specs.Float.Ieee.Scale.{finite};
 ghost use Rattle.floats.specs.Operators.{zero₃₂};
 ghost use Rattle.floats.specs.Decimal.{tens};
-ghost use Rattle.floats.specs.Real.{by_width, byte_width, kept_as, lt_by_cmp};
+ghost use Rattle.floats.specs.Real.{by_width, byte_width, kept_as};
+ghost use Rattle.loops.proofs.Comparing.{float_lt};
 ghost use Rattle.std.proofs.Common.{rules};
 
 use std::num::{
@@ -251,7 +252,7 @@ pub trait Arithmetic: Real
 impl Arithmetic for f32 {
     ghost eq_is = { Prim.search rules };
 
-    ghost lt_is = { lt_by_cmp };
+    ghost lt_is = { float_lt };
 
     ghost may_neg = { Prim.search rules };
 
@@ -278,7 +279,7 @@ impl Arithmetic for f32 {
 impl Arithmetic for f64 {
     ghost eq_is = { Prim.search rules };
 
-    ghost lt_is = { lt_by_cmp };
+    ghost lt_is = { float_lt };
 
     ghost may_neg = { Prim.search rules };
 

@@ -15,7 +15,8 @@ use Rattle.loops.specs.Lists.{all_of}
 use Rattle.loops.specs.Refusal.{first_of}
 use Rattle.loops.proofs.Choose.{by-test, and_holds}
 use Rattle.loops.proofs.Tests.{each_at, at_each}
-use Rattle.definition.specs.Reader.{little_endian, byte_width, kept_as, numbers, kept}
+use Rattle.floats.specs.Real.{byte_width, kept_as}
+use Rattle.definition.specs.Reader.{little_endian, numbers, kept}
 
 next-byte : (n : ℕ) (s : List ℕ) (at : ℕ) → at < length s → take (suc n) (drop at s) ≡ get_or s at 0 ∷ take n (drop (at + 1) s)
 next-byte n s at h = rw (drop_next 0 s at h)

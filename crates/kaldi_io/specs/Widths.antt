@@ -2,7 +2,8 @@ use Rattle.std.specs.Prelude.{◌≡◌, ℕ, ◌*◌, true, List, length}
 use Rattle.std.specs.Float.{Format, binary32, binary64}
 use Rattle.std.specs.Float.Ieee.Scale.{finite}
 use Rattle.loops.specs.Lists.{all_of}
-use Rattle.definition.specs.Reader.{byte_width, numbers}
+use Rattle.floats.specs.Real.{byte_width}
+use Rattle.definition.specs.Reader.{numbers}
 use Rattle.kaldi_io.specs.declared.widths.Width.{Width}
 use Rattle.kaldi_io.specs.declared.widths.Width.TheVariants as W
 

@@ -5,7 +5,8 @@ ghost use Rattle.std.specs.Float.{binary32, binary64};
 ghost use Rattle.std.specs.Float.Ieee.Scale.{finite};
 ghost use Rattle.loops.specs.Lists.{all_of};
 ghost use Rattle.floats.specs.Operators.{at};
-ghost use Rattle.definition.specs.Reader.{kept, little_endian, byte_width, numbers};
+ghost use Rattle.floats.specs.Real.{byte_width};
+ghost use Rattle.definition.specs.Reader.{kept, little_endian, numbers};
 ghost use Rattle.definition.specs.Kaldi.{triangle};
 ghost use Rattle.kaldi_io.specs.Widths.{format_of, Whole, AllFinite};
 

@@ -5,7 +5,8 @@ ghost use Rattle.std.specs.Prelude.{◌≡◌, ◌+◌, ◌-◌, ◌<◌, ◌≤
 ghost use Rattle.std.specs.Float.{binary32, binary64};
 ghost use Rattle.std.specs.List.{prefix_len};
 ghost use Rattle.definition.specs.Options.{max_feat};
-ghost use Rattle.definition.specs.Reader.{bytes, little_endian, by_width, byte_width, floats};
+ghost use Rattle.floats.specs.Real.{by_width, byte_width};
+ghost use Rattle.definition.specs.Reader.{bytes, little_endian, floats};
 ghost use Rattle.definition.specs.Kaldi.{binary, blank, word, token, dim, block_width, width_by, single, packed_matrix, vector, matrix, skipped};
 ghost use Rattle.kaldi_io.specs.Widths.{format_of};
 ghost use Rattle.kaldi_io.specs.Got.{got, list_of, itself, numbers_in, matrix_in, packed_in};

@@ -1,7 +1,7 @@
 //! The two widths that a file may write its numbers at.
 
 ghost use Rattle.std.specs.Prelude.{◌≡◌, ◌≤◌};
-ghost use Rattle.definition.specs.Reader.{byte_width};
+ghost use Rattle.floats.specs.Real.{byte_width};
 ghost use Rattle.kaldi_io.specs.Widths.{format_of};
 
 /// The width of a block's numbers: f32, or f64.

@@ -15,3 +15,4 @@ pub mod Parts
 pub mod Tests
 pub mod Std
 pub mod Folds
+pub mod Comparing

@@ -12,7 +12,8 @@ use lib.Ieee.{Float, Format, binary32, binary64, of_bits, to_bits, fits}
 use lib.Ieee.Bits.{of_bits-to_bits, to_bits-lt}
 use Rattle.loops.specs.Lists.{all_of}
 use Rattle.loops.proofs.Choose.{and_holds}
-use Rattle.definition.specs.Reader.{little_endian, byte_width, kept_as, numbers}
+use Rattle.floats.specs.Real.{byte_width, kept_as}
+use Rattle.definition.specs.Reader.{little_endian, numbers}
 use Rattle.model_bytes.specs.Written.{low_bytes, numbers_bytes, size_bytes}
 
 -- ---- lists that come apart

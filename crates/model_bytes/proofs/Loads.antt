@@ -20,7 +20,8 @@ use Rattle.loops.proofs.Tests.{each_of}
 use Rattle.definition.specs.declared.IvectorOptions.{IvectorOptions}
 use Rattle.definition.specs.declared.TableLengths.{TableLengths}
 use Rattle.definition.specs.Options.{within, max_gauss, max_feat, max_ivector, max_columns, options_in_range, dims_agree}
-use Rattle.definition.specs.Reader.{Got, read, refused, Parser, after, ◌>>=◌, ◌>>◌, give, need, times, text, same, byte_width, kept_as, kept}
+use Rattle.floats.specs.Real.{byte_width, kept_as}
+use Rattle.definition.specs.Reader.{Got, read, refused, Parser, after, ◌>>=◌, ◌>>◌, give, need, times, text, same, kept}
 use Rattle.definition.specs.Kaldi.{blank, token, dim, matrix_tag, skipped, Matrix, matrix, triangle, Packed, packed_matrix, Gmm, weights_heading, gmm, Extractor, rowless, extractor_heading, single, matrix_at, alike, extractor, lda}
 use Rattle.definition.specs.Model.{Contents, Files, Model, dims_of, contents_agree, model_of, tables_fit, load_scratch, judged, loading, load}
 use Rattle.definition.specs.Text.{cmvn}

@@ -15,7 +15,8 @@ use Rattle.loops.specs.Lists.{flat, build, all_of}
 use Rattle.loops.proofs.Choose.{and_holds}
 use Rattle.loops.proofs.Tests.{each_of, same-pair}
 use Rattle.definition.specs.Options.{within, max_feat}
-use Rattle.definition.specs.Reader.{Got, read, Parser, after, ◌>>=◌, ◌>>◌, give, need, times, bytes, run, same, little_endian, byte_width, kept_as, numbers, kept, floats}
+use Rattle.floats.specs.Real.{byte_width, kept_as}
+use Rattle.definition.specs.Reader.{Got, read, Parser, after, ◌>>=◌, ◌>>◌, give, need, times, bytes, run, same, little_endian, numbers, kept, floats}
 use Rattle.definition.specs.Kaldi.{binary, blank, word, token, dim, vector_tag, matrix_tag, packed_tag, width_by, block_width, vector, skipped, Matrix, matrix, triangle, Packed, packed_matrix, single}
 use Rattle.model_bytes.specs.Written.{low_bytes, numbers_bytes, size_bytes, mark, ended, vector_bytes, matrix_bytes, packed_bytes}
 use Rattle.model_bytes.proofs.Encoding.{length-low, low_back, number_back, length-numbers, numbers_back}

@@ -12,7 +12,8 @@ use Rattle.loops.proofs.Choose.{and_holds}
 use Rattle.loops.proofs.Refusal.{NoneFirst, Numbered, none_first}
 use Rattle.definition.specs.declared.IvectorOptions.{IvectorOptions}
 use Rattle.definition.specs.Options.{within, max_gauss, max_feat, max_ivector, max_columns, options_in_range, dims_agree}
-use Rattle.definition.specs.Reader.{Got, refused, read, kept_as, kept}
+use Rattle.floats.specs.Real.{kept_as}
+use Rattle.definition.specs.Reader.{Got, refused, read, kept}
 use Rattle.definition.specs.Kaldi.{triangle}
 use Rattle.definition.specs.Text.{cmvn}
 use Rattle.model_bytes.specs.declared.ModelSizes.{ModelSizes}

@@ -2,7 +2,7 @@
 use Rattle.std.specs.Prelude.{ℕ, ◌*◌, List, [], ◌∷◌, ◌++◌, Float}
 use Rattle.std.specs.Float.{Format}
 use Rattle.loops.specs.Lists.{flat}
-use Rattle.definition.specs.Reader.{byte_width}
+use Rattle.floats.specs.Real.{byte_width}
 use Rattle.definition.specs.Kaldi.{vector_tag, matrix_tag, triangle}
 use Rattle.model_bytes.specs.Written.{numbers_bytes, size_bytes, mark, ended, token_bytes, line_bytes, table_bytes, matrix_bytes, packed_bytes, part}
 

@@ -5,7 +5,8 @@ use Rattle.std.specs.Float.Ieee.{fits}
 use Rattle.loops.specs.Lists.{all_of, all_true, build}
 use Rattle.definition.specs.declared.IvectorOptions.{IvectorOptions}
 use Rattle.definition.specs.declared.TableLengths.{TableLengths}
-use Rattle.definition.specs.Reader.{Got, read, refused, kept_as}
+use Rattle.floats.specs.Real.{kept_as}
+use Rattle.definition.specs.Reader.{Got, read, refused}
 use Rattle.definition.specs.Kaldi.{triangle}
 use Rattle.definition.specs.Model.{Contents, Files, dims_of, model_of, tables_fit, load_scratch, load}
 use Rattle.definition.specs.Text.{cmvn}

@@ -9,7 +9,8 @@ use Rattle.loops.specs.Refusal.{first_of, taken}
 use Rattle.definition.specs.declared.IvectorOptions.{IvectorOptions}
 use Rattle.definition.specs.declared.Dimensions.{Dimensions}
 use Rattle.definition.specs.Options.{within, max_gauss, max_feat, max_ivector, max_columns, options_in_range, dims_agree}
-use Rattle.definition.specs.Reader.{Got, refused, read, text, byte_width, kept_as, kept}
+use Rattle.floats.specs.Real.{byte_width, kept_as}
+use Rattle.definition.specs.Reader.{Got, refused, read, text, kept}
 use Rattle.definition.specs.Kaldi.{vector_tag, matrix_tag, packed_tag, triangle}
 use Rattle.definition.specs.Text.{cmvn}
 use Rattle.model_bytes.specs.declared.ModelSizes.{ModelSizes}

@@ -7,7 +7,7 @@ use native.Mathlib.Omega.{arith}
 use lib.ListN.{length, length-append}
 use lib.Ieee.{Float, Format, binary32, binary64}
 use Rattle.loops.proofs.Flat.{length_flat}
-use Rattle.definition.specs.Reader.{byte_width}
+use Rattle.floats.specs.Real.{byte_width}
 use Rattle.definition.specs.Kaldi.{matrix_tag, packed_tag, triangle}
 use Rattle.model_bytes.specs.declared.ModelSizes.{ModelSizes}
 use Rattle.model_bytes.specs.Written.{numbers_bytes, size_bytes, ended, token_bytes, line_bytes, table_bytes, matrix_bytes, packed_bytes, Params, part, gmm_bytes, extractor_bytes, lda_bytes, model_bytes}

@@ -20,7 +20,8 @@ use Rattle.definition.specs.declared.refusal.Refusal.TheVariants as R
 use Rattle.definition.specs.Number.{number_of}
 use Rattle.definition.specs.declared.IvectorOptions.{IvectorOptions}
 use Rattle.definition.specs.Options.{within, options_in_range, dims_in_range, dims_agree}
-use Rattle.definition.specs.Reader.{Got, refused, read, byte_width, kept_as, kept}
+use Rattle.floats.specs.Real.{byte_width, kept_as}
+use Rattle.definition.specs.Reader.{Got, refused, read, kept}
 use Rattle.definition.specs.Text.{cmvn}
 use Rattle.model_bytes.specs.declared.ModelSizes.{ModelSizes}
 use Rattle.model_checks.specs.Steps.{BaseOf, InRange, gmm_tests, extractor_tests, lda_tests, total_length}

@@ -9,9 +9,8 @@ use lib.ListN.{length, get_or, take, drop, length-map}
 use lib.Seq.{length-take-le, take_all}
 use lib.Ieee.{Float, Format, binary32, binary64, to_bits}
 use Rattle.std.specs.Int.{w64, byte_at, bytes_low_first, to_le_bytes}
-use Rattle.floats.specs.Real.{by_width}
+use Rattle.floats.specs.Real.{by_width, byte_width}
 use Rattle.loops.proofs.Parts.{lent_is}
-use Rattle.definition.specs.Reader.{byte_width}
 use Rattle.definition.specs.Kaldi.{vector_tag, matrix_tag, packed_tag}
 use Rattle.byte_writer.specs.declared.Writer.{Writer}
 use Rattle.byte_writer.specs.Wrote.{HasRoom, Wrote}

@@ -7,3 +7,4 @@ pub mod Keeping
 pub mod Played
 pub mod Loud
 pub mod Habit
+pub mod Examples

@@ -8,7 +8,8 @@ use Rattle.std.proofs.Math.Nat.{div-div-eq-div-mul}
 use mir.Val.{bool_byte}
 use native.Mathlib.Omega.{arith}
 use borrow.Author.Tests.{ne_eqb}
-use Rattle.register_bytes.specs.Board.{byte, little_endian, bytes_of, bit, interrupt_of, call_flags, rewritten}
+use Rattle.definition.specs.Reader.{little_endian}
+use Rattle.register_bytes.specs.Board.{byte, bytes_of, bit, interrupt_of, call_flags, rewritten}
 
 -- ---- bits
 

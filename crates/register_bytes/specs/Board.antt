@@ -8,6 +8,7 @@ use Rattle.floats.specs.Operators.{zero₃₂}
 use Rattle.definition.specs.declared.IvectorInfo.{IvectorInfo}
 use Rattle.definition.specs.declared.IvectorStream.{IvectorStream}
 use Rattle.definition.specs.declared.StreamCall.{StreamCall}
+use Rattle.definition.specs.Reader.{little_endian}
 use Rattle.definition.specs.Model.{Tables, table_lengths_of, model_in}
 use Rattle.definition.specs.Machine.{Call, push, finish, forget, fetch, Answer, answers, frames_held, bits_of}
 use Rattle.program.specs.Rooms.{Rings, Rooms, ring_lengths_of, room_lengths_of}
@@ -20,11 +21,7 @@ use Rattle.program.specs.Session.{Program, program, stepped, step_of, program_af
 abbrev pub byte : List ℕ → ℕ → ℕ
 byte b i = get_or b i 0
 
--- a number from its bytes, the lowest first; and its first k bytes
-unfoldable pub little_endian : List ℕ → ℕ
-little_endian [] = 0
-little_endian (b ∷ bs) = b + 256 * little_endian bs
-
+-- the first k bytes of a number, the lowest first
 unfoldable pub bytes_of : ℕ → ℕ → List ℕ
 bytes_of zero n = []
 bytes_of (suc k) n = (n % 256) ∷ bytes_of k (n / 256)

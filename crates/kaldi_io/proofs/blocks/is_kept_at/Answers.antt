@@ -1,6 +1,7 @@
 -- `is_kept_at` meets its contract: a number that is not narrowed is kept as it is written (`whole_at` in Values.antt).
 use Rattle.std.proofs.Common.{◌≤◌, ap, ◌∙◌, arith, from_bits}
-use Rattle.definition.specs.Reader.{little_endian, kept, byte_width}
+use Rattle.floats.specs.Real.{byte_width}
+use Rattle.definition.specs.Reader.{little_endian, kept}
 use Rattle.kaldi_io.proofs.Values.{whole_at}
 use Rattle.kaldi_io.proofs.blocks.is_kept_at.Goals as goal
 

@@ -2,7 +2,8 @@
 use Rattle.std.proofs.Common.{◌≡◌, sym, ap, ◌∙◌, arith, from_bits}
 use lib.Ieee.{binary32, binary64}
 use lib.Ieee.Scale.{finite}
-use Rattle.definition.specs.Reader.{little_endian, kept_as}
+use Rattle.floats.specs.Real.{kept_as}
+use Rattle.definition.specs.Reader.{little_endian}
 use Rattle.kaldi_io.proofs.Values.{numbers_at, finite_at, of_four, of_eight}
 use Rattle.kaldi_io.proofs.blocks.kept_at.Goals as goal
 
