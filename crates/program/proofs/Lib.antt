@@ -10,6 +10,7 @@ pub mod Steps
 pub mod Moves
 pub mod Fresh
 pub mod Keeps
+pub mod Never18
 pub mod Loud
 pub mod Quiet
 pub mod Habit

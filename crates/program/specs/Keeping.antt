@@ -1,14 +1,15 @@
 -- The claim over every list of calls: the program's answers are the keeping machine's, and what the program holds after any list.
-use Rattle.std.specs.Prelude.{◌≡◌, ℕ, ◌+◌, ◌-◌, ◌≤◌, ◌<◌, false, List, [], ◌∷◌, length, get_or, eqb, Float, Ok}
+use Rattle.std.specs.Prelude.{◌≡◌, ◌≢◌, ℕ, ◌+◌, ◌-◌, ◌≤◌, ◌<◌, false, List, [], ◌∷◌, length, get_or, eqb, Float, Ok}
 use Rattle.loops.specs.Lists.{any_of}
 use Rattle.loops.specs.Refusal.{taken}
 use Rattle.floats.specs.Operators.{zero₆₄, at, sum₆₄}
 use Rattle.definition.specs.declared.IvectorInfo.{IvectorInfo}
+use Rattle.definition.specs.declared.IvectorStream.{IvectorStream}
 use Rattle.definition.specs.declared.StreamCall.{StreamCall}
 use Rattle.definition.specs.Model.{Tables, table_lengths_of, model_in}
 use Rattle.definition.specs.Machine.{Call, push, finish, change, forget, set_window, fetch, Answer, Machine, frames_held, fresh, told_by, machine_after, answers}
-use Rattle.program.specs.Rooms.{Rooms, ring_lengths_of, room_lengths_of, ring_at}
-use Rattle.program.specs.Calls.{new_answer, fresh_rooms}
+use Rattle.program.specs.Rooms.{Rings, Rooms, ring_lengths_of, room_lengths_of, ring_at}
+use Rattle.program.specs.Calls.{new_answer, fresh_rooms, update_frame_weights}
 use Rattle.program.specs.Session.{Program, program, program_after, program_answers}
 
 -- whatever model's record and tables, lent rooms with whatever contents, a stream made without refusal, and whatever is called: the answer of
@@ -29,6 +30,17 @@ Never18 =
     → new_answer i (table_lengths_of t) (room_lengths_of z n) ≡ Ok c
     → (cs : List Call)
     → any_of (λ a. eqb a.told.refusal 18) (program_answers t n (program c.stream (fresh_rooms i z)) cs) ≡ false
+
+-- a change is refused 18 by no record at all, whatever the rings hold and the lists name: where the mark is above the floor less left context, so that a
+-- frame at the floor could reach below it, the record is 10 first
+abbrev pub ChangeNever18 : Type 0
+ChangeNever18 = (s : IvectorStream) (z : Rings) (fs : List ℕ) (ws : List Float) → (update_frame_weights s z fs ws).refusal ≢ 18
+
+-- and no answer of any list of calls is 18, whatever record and rooms it begins with
+abbrev pub AnyNever18 : Type 0
+AnyNever18 =
+    (t : Tables) (n : ℕ) (p : Program) (cs : List Call)
+    → any_of (λ a. eqb a.told.refusal 18) (program_answers t n p cs) ≡ false
 
 -- the frames of the pushes that were taken, by the calls and their answers
 unfoldable pub frames_taken : List Call → List Answer → List (List Float)
