@@ -8,11 +8,10 @@ use mathlib.Core.List.{List, [], ◌∷◌, map}
 use native.Mathlib.Omega.{arith}
 use borrow.Author.Tests.{eq-eqb, le-ltb}
 use lib.Dec.{eqb, leb, ltb}
-use lib.IntN.{ℤ}
 use lib.ListN.{length, length-map, get_or-map}
 use lib.Ieee.{Float, nan}
 use Rattle.loops.specs.Lists.{build, over}
-use Rattle.loops.specs.Refusal.{first_of, taken}
+use Rattle.loops.specs.Refusal.{taken}
 use Rattle.loops.proofs.Choose.{by-test, or_none, or_fails}
 use Rattle.loops.proofs.Build.{build_ext, build_list}
 use Rattle.loops.proofs.Fill.{length_over, over_at}
@@ -21,69 +20,14 @@ use Rattle.definition.specs.declared.InputFrame.{InputFrame}
 use Rattle.definition.specs.declared.DecoderFrame.{DecoderFrame}
 use Rattle.definition.specs.declared.SilenceWeighting.{SilenceWeighting}
 use Rattle.definition.specs.declared.SilenceAnswer.{SilenceAnswer}
-use Rattle.definition.specs.Silence.{decoder, FrameInfo, TableRooms, Table, table_in, over_rooms, segments, traced, settings_refusal, new_table, places, table_broken, traceback_tests, wanted, asked, asked_table, delta_tests}
-use Rattle.definition.specs.Silence.{compute_current_traceback, get_delta_weights, silence_answer, TableCall, table_call, table_done}
+use Rattle.definition.specs.Silence.{decoder, FrameInfo, TableRooms, Table, table_in, over_rooms, segments, settings_refusal, new_table, places, table_broken, traceback_tests, wanted, asked, asked_table, delta_tests}
+use Rattle.definition.specs.Silence.{compute_current_traceback, get_delta_weights, silence_answer, TableCall}
+use Rattle.silence_weighting.specs.Chain.{Call, traceback, deltas, Answer, number, made, after, saying, said, answers, with_lists, Run, none, recorded, weighs, Chained}
 use Rattle.silence_weighting.proofs.Refusals.{sound, traceback_taken, delta_taken}
 use Rattle.silence_weighting.proofs.Tables.{length_table}
 use Rattle.silence_weighting.proofs.Marks.{length-traced}
 use Rattle.silence_weighting.proofs.Walk.{length-weighted}
 use Rattle.silence_weighting.proofs.Calls.{knowns, silences, weights}
-
--- ---- the table machine
-
--- a call, with what it is lent besides the table: the silence phones, the segments' phones, starts and ends, and the frames decoded; or
--- the frames ready, the first, and the answer's two lists
-pub data Call : Type 0 where
-  traceback : List ℤ → List ℤ → List ℕ → List ℕ → DecoderFrame → Call
-  deltas : InputFrame → InputFrame → List ℕ → List Float → Call
-
--- what it answers: its refusal, how many changes it gives, and its two lists afterwards
-pub record Answer : Type 0 where
-  pub refusal : ℕ
-  pub changes : ℕ
-  pub frames : List ℕ
-  pub weights : List Float
-
--- the refusal, with no record and no room that could break: 10 only for another number of silence phones
-abbrev pub number : SilenceWeighting → Table → Call → ℕ
-number s t (traceback phones ps starts ends decoded) = first_of (traceback_tests s (length phones) decoded (length ps) (length starts) (length ends))
-number s t (deltas ready first fs os) = first_of (delta_tests s ready first t (length fs) (length os))
-
--- the table that a call makes, where it is taken
-abbrev pub made : SilenceWeighting → Table → Call → Table
-made s t (traceback phones ps starts ends decoded) = traced phones decoded (segments ps starts ends) t
-made s t (deltas ready first fs os) = asked_table s ready first t
-
-abbrev pub after : SilenceWeighting → Table → Call → Table
-after s t c = taken (number s t c) (made s t c) t
-
--- the answer of a call whose refusal is r
-abbrev pub saying : ℕ → SilenceWeighting → Table → Call → Answer
-saying r s t (traceback phones ps starts ends decoded) = record { refusal = r; changes = 0; frames = []; weights = [] }
-saying r s t (deltas ready first fs os) =
-    let cs = asked s ready first t in
-    record { refusal = r; changes = taken r (length cs) 0; frames = taken r (over (map (λ x. x.0) cs) fs) fs; weights = taken r (over (map (λ x. x.1) cs) os) os }
-
-abbrev pub said : SilenceWeighting → Table → Call → Answer
-said s t c = saying (number s t c) s t c
-
-abbrev pub answers : SilenceWeighting → Table → List Call → List Answer
-answers s t [] = []
-answers s t (c ∷ cs) = said s t c ∷ answers s (after s t c) cs
-
--- ---- the calls as their contracts give them, from a record and three rooms
-
-abbrev pub answer_of : SilenceAnswer → List ℕ → List Float → Answer
-answer_of r fs os = record { refusal = r.refusal; changes = r.changes; frames = fs; weights = os }
-
-pub data Run : SilenceWeighting → TableRooms → List Call → List Answer → Type 0 where
-  none : {s : SilenceWeighting} {z : TableRooms} → Run s z [] []
-  recorded : {s : SilenceWeighting} {z z' : TableRooms} {phones ps : List ℤ} {starts ends : List ℕ} {n : DecoderFrame} {r : SilenceAnswer} {cs : List Call} {as' : List Answer}
-      → table_call r z' [] [] ≡ table_done s z [] [] (compute_current_traceback s z phones ps starts ends n) → Run r.silence z' cs as'
-      → Run s z (traceback phones ps starts ends n ∷ cs) (answer_of r [] [] ∷ as')
-  weighs : {s : SilenceWeighting} {z z' : TableRooms} {ready first : InputFrame} {fs fs' : List ℕ} {os os' : List Float} {r : SilenceAnswer} {cs : List Call} {as' : List Answer}
-      → table_call r z' fs' os' ≡ table_done s z fs os (get_delta_weights s z ready first (length fs) (length os)) → Run r.silence z' cs as'
-      → Run s z (deltas ready first fs os ∷ cs) (answer_of r fs' os' ∷ as')
 
 -- ---- the rooms at exit hold the new table
 
@@ -183,23 +127,23 @@ chain b none = refl
 chain {s} {z} b (recorded {z' = z'} {phones = phones} {ps = ps} {starts = starts} {ends = ends} {n = n} {r = r} {cs = cs} {as' = as'} h run) =
     let k : ℕ = (compute_current_traceback s z phones ps starts ends n).refusal in
     let er = ap (λ (x : TableCall). x.answer) h in
-    more s z b (traceback phones ps starts ends n) k 0 r z' (answer_of r [] []) cs as' (first_past _ _ b)
+    more s z b (traceback phones ps starts ends n) k 0 r z' (with_lists r [] []) cs as' (first_past _ _ b)
     (λ q.
     let d = traceback_taken s _ _ _ (length phones) n (length ps) (length starts) (length ends) q in
     omega (arith, length-traced phones n.0 (segments ps starts ends) (table_in s.length z), length_table s.length.0 z.known z.is_silence z.current_weight))
     er (ap (λ (x : TableCall). x.rooms) h)
-    (ap (λ (x : SilenceAnswer). answer_of x [] []) er ∙ ap (λ (i : ℕ). record { refusal = k; changes = i; frames = []; weights = [] }) (taken_same k 0))
+    (ap (λ (x : SilenceAnswer). with_lists x [] []) er ∙ ap (λ (i : ℕ). record { refusal = k; changes = i; frames = []; weights = [] }) (taken_same k 0))
     (λ d. chain d run)
 chain {s} {z} b (weighs {z' = z'} {ready = ready} {first = first} {fs = fs} {fs' = fs'} {os = os} {os' = os'} {r = r} {cs = cs} {as' = as'} h run) =
     let k : ℕ = (get_delta_weights s z ready first (length fs) (length os)).refusal in
     let t : Table = table_in s.length z in
     let er = ap (λ (x : TableCall). x.answer) h in
-    more s z b (deltas ready first fs os) k (length (asked s ready first t)) r z' (answer_of r fs' os') cs as' (first_past _ _ b)
+    more s z b (deltas ready first fs os) k (length (asked s ready first t)) r z' (with_lists r fs' os') cs as' (first_past _ _ b)
     (λ q.
     let d = delta_taken s z ready first (length fs) (length os) q in
     omega (arith, length-made s ready first t, length_table s.length.0 z.known z.is_silence z.current_weight))
     er (ap (λ (x : TableCall). x.rooms) h)
-    (ap (λ (x : SilenceAnswer). answer_of x fs' os') er
+    (ap (λ (x : SilenceAnswer). with_lists x fs' os') er
     ∙ ap (λ (l : List ℕ). record { refusal = k; changes = taken k (length (asked s ready first t)) 0; frames = l; weights = os' }) (ap (λ (x : TableCall). x.frames) h)
     ∙ ap (λ (l : List Float). record { refusal = k; changes = taken k (length (asked s ready first t)) 0; frames = taken k (over (map (λ x. x.0) (asked s ready first t)) fs) fs; weights = l }) (ap (λ (x : TableCall). x.weights) h))
     (λ d. chain d run)
@@ -209,10 +153,7 @@ made_is : (r : ℕ) (s s' : SilenceWeighting) → taken r (Ok s) (Err r) ≡ Ok 
 made_is zero s s' e = (refl, cc)
 made_is (suc r) s s' e = let z : ◌≡◌ {A = ℕ} 0 1 = cc in absurd (omega arith)
 
--- From a table that was made without refusal, in rooms of its length with whatever in them: every list of calls is answered as the
--- definition answers it from the empty table. So 10 comes only for another number of silence phones.
-pub chained : (phones : ℕ) (w : Float) (subsampling n : ℕ) (s : SilenceWeighting) (z : TableRooms) (cs : List Call) (as' : List Answer)
-    → new_table phones w subsampling n ≡ Ok s → length z.known ≡ n → length z.is_silence ≡ n → length z.current_weight ≡ n → Run s z cs as' → as' ≡ answers s [] cs
+pub chained : Chained
 unfolding new_table table_broken table_in build
 chained phones w subsampling n s z cs as' e lk ls lw run =
     let m = made_is (settings_refusal phones w subsampling) _ s e in

@@ -2,3 +2,5 @@
 pub mod Steps
 -- what a call is lent and what it answers
 pub mod Rooms
+-- lists of calls
+pub mod Chain
