@@ -9,6 +9,7 @@ pub mod Sound
 pub mod Steps
 pub mod Moves
 pub mod Fresh
+pub mod Returned
 pub mod Keeps
 pub mod Never18
 pub mod Loud

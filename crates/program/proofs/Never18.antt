@@ -19,8 +19,9 @@ use Rattle.definition.specs.Model.{Tables}
 use Rattle.definition.specs.Machine.{Call, push, finish, change, forget, set_window, fetch, push_tests, change_tests, window_tests, fetch_tests}
 use Rattle.definition.specs.Stream.{breaks, is_broken}
 use Rattle.definition.proofs.Floor.{first-not}
-use Rattle.program.specs.Calls.{answer_of, Step, push_frame, set_input_finished, update_frame_weights, forget_before, set_cmn_window, fetch_refusal, get_frame}
+use Rattle.program.specs.Calls.{Step, push_frame, set_input_finished, update_frame_weights, forget_before, set_cmn_window, fetch_refusal, get_frame}
 use Rattle.program.specs.Session.{Program, stepped, reply, step_of, program_answers}
+use Rattle.program.proofs.Returned.{number_is}
 use Rattle.program.specs.Keeping.{ChangeNever18, AnyNever18}
 
 -- not n by the first test, nor by the others where it fails
@@ -62,17 +63,12 @@ module _ (t : Tables) (n : ℕ) where
   step_not p (set_window w) e = first-not 18 _ (omega arith) (omega arith, (omega arith, (omega arith, (omega arith, tt)))) e
   step_not p (fetch f m) e = first-not 18 _ (omega arith) (omega arith, (omega arith, (omega arith, (omega arith, (omega arith, (omega arith, tt)))))) e
 
-  -- the number that is answered is the step's, 10 too
-  told_is : (r : ℕ) (s : IvectorStream) (a b : ℕ) → (answer_of r s a b).refusal ≡ r
-  unfolding answer_of
-  told_is r s a b = by-test (eqb r 10) (λ q. rw q) (λ q. rw q)
-
   none_18 : (p : Program) (cs : List Call) → any_of (λ a. eqb a.told.refusal 18) (program_answers t n p cs) ≡ false
   unfolding program_answers any_of reply
   none_18 p [] = refl
   none_18 p (c ∷ cs) =
       let x : Step = step_of t n p c in
-      or_none (eqb (reply p x).told.refusal 18) _ (ne_eqb _ 18 (λ e. step_not p c (sym (told_is x.refusal _ _ _) ∙ e))) (none_18 (stepped p x) cs)
+      or_none (eqb (reply p x).told.refusal 18) _ (ne_eqb _ 18 (λ e. step_not p c (sym (number_is x.refusal _ _ _) ∙ e))) (none_18 (stepped p x) cs)
 
 pub any-never-18 : AnyNever18
 any-never-18 t n p cs = none_18 t n p cs

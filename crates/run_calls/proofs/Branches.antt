@@ -14,38 +14,9 @@ use Rattle.definition.specs.Machine.{Call, set_window, fetch, not_finite}
 use Rattle.program.specs.Rooms.{Rings, Rooms, rooms_from}
 use Rattle.program.specs.Calls.{RingStep, RingCall, ring_call, done_on, push_frame, set_input_finished, update_frame_weights, forget_before, set_cmn_window, Step, FetchCall, fetch_call, fetched_on, get_frame}
 use Rattle.program.specs.Session.{Program, program, on_rings, stepped, reply, step_of}
+use Rattle.program.proofs.Returned.{left, fetched_is, done_is, left_program, left_told, left_output}
 use Rattle.run_calls.specs.Listed.{of_kind}
 use Rattle.run_calls.specs.Turns.{ring_step_of}
-
--- ---- a step, by its refusal number
-
--- what a step on p returns
-abbrev returned : Program → Step → StreamCall
-returned p x = record { answer = (reply p x).told; stream = (stepped p x).stream }
-
-abbrev left : Program → List ℕ → Step → FetchCall
-left p out x = fetch_call (returned p x) (stepped p x).rooms (over (reply p x).vector out)
-
-module _ (p : Program) (out : List ℕ) where
-  fetched_is : (x : Step) → fetched_on p.stream p.rooms out x ≡ left p out x
-  unfolding reply not_finite those over
-  fetched_is x = by x.refusal
-    where
-      by : (r : ℕ) → let y : Step = record { refusal = r; stream = x.stream; rooms = x.rooms; vector = x.vector; nans = x.nans } in
-          fetched_on p.stream p.rooms out y ≡ left p out y
-      by zero = refl
-      by (suc r) = refl
-
-  done_is : (x : RingStep) → let d = done_on p.stream p.rooms.rings x in
-      fetch_call d.call (rooms_from d.rings p.rooms.estimate) out ≡ left p out (on_rings p.rooms x)
-  unfolding reply not_finite those over
-  done_is x = by x.refusal
-    where
-      by : (r : ℕ) → let y : RingStep = record { refusal = r; stream = x.stream; rings = x.rings } in
-          let d = done_on p.stream p.rooms.rings y in
-          fetch_call d.call (rooms_from d.rings p.rooms.estimate) out ≡ left p out (on_rings p.rooms y)
-      by zero = refl
-      by (suc r) = refl
 
 -- one call of program p: what it returns, and the rooms and the output afterwards
 pub record Called (t : Tables) (n : ℕ) (p : Program) (c : Call) (r : StreamCall) (z : Rooms) (out out' : List ℕ) : Type 0 where
@@ -57,9 +28,9 @@ called : (t : Tables) (n : ℕ) (p : Program) (c : Call) (out : List ℕ) (x : S
     → step_of t n p c ≡ x → fetch_call r z out' ≡ left p out x → Called t n p c r z out out'
 called t n p c out x e h =
     record {
-      step = ap (stepped p) e ∙ sym (ap₂ program (ap (λ (q : FetchCall). q.call.stream) h) (ap (λ (q : FetchCall). q.rooms) h));
-      told_is = ap (λ (x : Step). (reply p x).told) e ∙ sym (ap (λ (q : FetchCall). q.call.answer) h);
-      output_is = ap (λ (q : FetchCall). q.output) h ∙ ap (λ (x : Step). over (reply p x).vector out) (sym e);
+      step = ap (stepped p) e ∙ left_program p out x h;
+      told_is = ap (λ (x : Step). (reply p x).told) e ∙ left_told p out x h;
+      output_is = left_output p out x h ∙ ap (λ (x : Step). over (reply p x).vector out) (sym e);
     }
 
 -- ---- a call of each kind
