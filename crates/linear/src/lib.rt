@@ -25,6 +25,7 @@ fn less_products(s: f64, x: &[f64], y: &[f64]) -> f64
 }
 
 // The lower factor L of A = L Lᵗ, by rows of n, or false at the first pivot that is at most 0. A bool is as plain as an Option here: L lies in the room.
+// The labelled loops, left from inside, are the form that the scope names; a `return` would do as well.
 fn factor(a: Symmetric<'_>, l: &mut [f64]) -> bool
     requires few { a.n ≤ 128 }
     requires room { length l.old ≡ a.n * a.n }
@@ -32,7 +33,8 @@ fn factor(a: Symmetric<'_>, l: &mut [f64]) -> bool
 {
     let n = a.n;
     l.fill(0.0);
-    for i in 0..n {
+    let mut has_factor = true;
+    'rows: for i in 0..n {
         let row = i * n;
         let end = i + 1;
         for j in 0..end {
@@ -41,7 +43,8 @@ fn factor(a: Symmetric<'_>, l: &mut [f64]) -> bool
             let s = less_products(a.cells[place], &l[row..row + j], &l[other..other + j]);
             if i == j {
                 if s <= 0.0 {
-                    return false;
+                    has_factor = false;
+                    break 'rows;
                 }
                 l[row + i] = floats::sqrt(s);
             } else {
@@ -49,7 +52,7 @@ fn factor(a: Symmetric<'_>, l: &mut [f64]) -> bool
             }
         }
     }
-    true
+    has_factor
 }
 
 // Numbers laid out square, n by n: a symmetric matrix, or a factor by rows.
