@@ -1,5 +1,5 @@
 -- Laws of the spliced row: what a fetch leaves and adds, the loop over its places with the LDA's sums so far (`lda_on` in LdaSums.antt), and the whole row.
-use Rattle.std.proofs.Common.{◌≡◌, ℕ, zero, suc, ◌+◌, ◌-◌, ◌*◌, ◌<◌, ◌≤◌, min, Bool, true, false, List, length, take, drop, sym, refl, ap, ◌∙◌, suc-mul, zero-mul, arith, length-append}
+use Rattle.std.proofs.Common.{◌≡◌, ℕ, zero, suc, ◌+◌, ◌-◌, ◌*◌, ◌<◌, ◌≤◌, min, Bool, true, false, List, length, take, drop, sym, refl, ap, ◌∙◌, suc-mul, zero-mul, arith, length-append, if◌then◌else◌}
 use lib.Ieee.{Float}
 use Rattle.loops.specs.Loop.{iter}
 use Rattle.loops.specs.Lists.{build, flat}
@@ -21,19 +21,17 @@ use Rattle.frame_views.proofs.LdaSums.{lda_none, lda_on}
 
 -- ---- what a fetch leaves, and what it adds
 
-length-viewed : (dim : ℕ) (F : Frames) (normalized : Bool) (t : ℕ) (state : List Float) → length (viewed dim F normalized t state) ≡ dim
+pub length-viewed : (dim : ℕ) (F : Frames) (normalized : Bool) (t : ℕ) (state : List Float) → length (viewed dim F normalized t state) ≡ dim
 unfolding viewed cmvn_frame
 length-viewed dim F true t state = length_build dim _
 length-viewed dim F false t state = length_build dim _
 
-module _ (dim : ℕ) (F : Frames) (t : ℕ) (state : List Float) {normalized : Bool} where
-  pub viewed_true : {row : List Float} → normalized ≡ true → row ≡ cmvn_frame dim F t state → row ≡ viewed dim F normalized t state
-  unfolding viewed
-  viewed_true e h = choose_true _ e h
-
-  pub viewed_false : {row : List Float} → normalized ≡ false → row ≡ build dim (F.frame t) → row ≡ viewed dim F normalized t state
-  unfolding viewed
-  viewed_false e h = choose_false _ e h
+-- a part of the normalised row, or of the raw store
+pub viewed_on : (dim : ℕ) (F : Frames) (t : ℕ) (state : List Float) (normalized : Bool) {row view raw : List Float} → row ≡ (if normalized then view else raw)
+    → (normalized ≡ true → view ≡ cmvn_frame dim F t state) → raw ≡ build dim (F.frame t) → row ≡ viewed dim F normalized t state
+unfolding viewed
+viewed_on dim F t state true e h g = e ∙ h refl
+viewed_on dim F t state false e h g = e ∙ g
 
 module _ (o : IvectorOptions) (dim : ℕ) (global : List Float) (F : Frames) (t : ℕ) (s : List Float) {normalized : Bool} where
   pub fetched_true : {s' : List Float} → normalized ≡ true → s' ≡ cmvn_state o dim global F t s → s' ≡ fetched o dim global F normalized t s

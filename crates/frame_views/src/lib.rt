@@ -33,6 +33,24 @@ fn row<T>(ring: &[T], start: usize, n: usize) -> &[T]
     &ring[start..end]
 }
 
+// What a frame gives to a spliced row: a part of the raw store, from where the frame begins, or of the room for normalised rows.
+fn spliced_row<'a>(
+    raw: &'a [f32],
+    normalised: &'a [f32],
+    features: Features,
+    here: usize,
+    dim: usize,
+) -> &'a [f32]
+    requires raw { here + dim ≤ length raw.now }
+    requires normalised { dim ≤ length normalised.now }
+    ensures { result.now ≡ (if is_normalized features then take dim normalised.now else take (here + dim - here) (drop here raw.now)) }
+{
+    match features {
+        Features::Normalized => &normalised[..dim],
+        Features::Raw => row(raw, here, dim),
+    }
+}
+
 // A raw frame less the mean of the CMVN state.
 #[tactic(auto, using(loops::proofs::Fill::fills))]
 fn raw_less_mean(raw: &[f32], cmvn: &[f64], out: &mut [f32])
@@ -111,6 +129,21 @@ impl StreamView<'_> {
         raw_less_mean(row(self.frames, p.here, self.dim), cmvn, out);
     }
 
+    // A frame, fetched: one to be normalised leaves its CMVN state, and its view in the front of the room.
+    fn fetch_frame(&self, features: Features, p: Places, cmvn: &mut [f64], view: &mut [f32])
+        requires there { p.frame < self.now.accepted }
+        requires state { length cmvn.old ≡ self.now.dim + 1 }
+        requires view { self.now.dim ≤ length view.old }
+        requires placed { Placed self.now (is_normalized features) p }
+        ensures state { cmvn.new ≡ fetched self.now.options self.now.dim self.now.global.now (frames_of self.now) (is_normalized features) p.frame cmvn.old }
+        ensures view { is_normalized features ≡ true → take self.now.dim view.new ≡ cmvn_frame self.now.dim (frames_of self.now) p.frame cmvn.new }
+    {
+        match features {
+            Features::Normalized => self.cmvn_frame(p, cmvn, &mut view[..self.dim]),
+            Features::Raw => {}
+        }
+    }
+
     // A frame, fetched, and added to the LDA's sums. `part` is the rows of the LDA's table for this frame; `view` has room for its normalised
     // numbers, and raw ones are added where they lie.
     fn add_frame(
@@ -124,23 +157,16 @@ impl StreamView<'_> {
     )
         requires there { p.frame < self.now.accepted }
         requires state { length cmvn.old ≡ self.now.dim + 1 }
-        requires view { length view.old ≡ self.now.dim }
+        requires view { self.now.dim ≤ length view.old }
         requires part { self.now.dim * length out.old ≤ length part.now }
         requires placed { Placed self.now (is_normalized features) p }
         ensures state { cmvn.new ≡ fetched self.now.options self.now.dim self.now.global.now (frames_of self.now) (is_normalized features) p.frame cmvn.old }
         ensures out { out.new ≡ fill (length out.old) (λ r. sum₃₂ (at out.old r) self.now.dim (λ c. at part.now (c * length out.old + r)
             *₃₂ at (viewed self.now.dim (frames_of self.now) (is_normalized features) p.frame cmvn.new) c)) out.old }
     {
-        match features {
-            Features::Normalized => {
-                self.cmvn_frame(p, cmvn, view);
-                table_sums::add_rows(part, view, |v| v, self.dim, out);
-            }
-            Features::Raw => {
-                let raw = row(self.frames, p.here, self.dim);
-                table_sums::add_rows(part, raw, |v| v, self.dim, out);
-            }
-        }
+        self.fetch_frame(features, p, cmvn, view);
+        let spliced = spliced_row(self.frames, view, features, p.here, self.dim);
+        table_sums::add_rows(part, spliced, |v| v, self.dim, out);
     }
 
     // The frame at place n of the row spliced around t, the ends clamped to frames 0 and last.
@@ -244,7 +270,7 @@ impl StreamView<'_> {
         let width = self.options.left_context + 1 + self.options.right_context;
         let d = out.len();
         let size = dim * d;
-        // room for the longest frame, as there is no heap: it is cut to the dimension
+        // room for the longest frame, as there is no heap: its front is as long as the dimension
         let mut view = [0.0f32; 64];
         copy_offset(lda.offset, out);
         let mut p = self.first_places(features, t.saturating_sub(self.options.left_context));
@@ -252,14 +278,7 @@ impl StreamView<'_> {
         for n in 0..width {
             let start = n * size;
             let end = start + size;
-            self.add_frame(
-                features,
-                p,
-                &lda.table[start..end],
-                cmvn,
-                &mut view[..dim],
-                out,
-            );
+            self.add_frame(features, p, &lda.table[start..end], cmvn, &mut view, out);
             let v = self.splice_at(t, n + 1);
             p = self.next_places(features, p, v);
         }

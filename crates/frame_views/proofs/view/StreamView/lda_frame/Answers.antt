@@ -1,16 +1,15 @@
 -- `frame_views::lda_frame` meets its contract. The loop's invariant: the state is that after the first n frames of the row, and the sums are the LDA's over
 -- their numbers (`lda_start`, `spliced_turn`, `lda_place`, `spliced_end`, `lda_end` in SplicedRows.antt); p is the frame at place n, and where it and its window
 -- begin (`splice_first`, `splice_next`). A place's part lies in the table (`row_in_lem` in loops/proofs/Cells.antt).
-use Rattle.std.proofs.Common.{◌+◌, ◌*◌, ◌≤◌, length, sym, refl, ◌∙◌, mul_assoc, mul_comm, arith, length-take-le}
+use Rattle.std.proofs.Common.{◌+◌, ◌*◌, ◌≤◌, length, sym, refl, ◌∙◌, mul_assoc, mul_comm, arith}
 use Rattle.loops.proofs.Cells.{row_in_lem}
 use Rattle.loops.proofs.Parts.{length_lent}
-use Rattle.loops.proofs.Fill.{lent_length}
 use Rattle.definition.specs.Options.{width}
 use Rattle.frame_views.proofs.SplicedRows.{splice_first, splice_next, splice_under, spliced_none, lda_start, spliced_turn, lda_place, spliced_end, lda_end}
-use Rattle.frame_views.proofs.view.StreamView.lda_frame.Goals.{After-splice_at-v, At-loop-n, In-loop-n, Start}
+use Rattle.frame_views.proofs.view.StreamView.lda_frame.Goals.{In-loop-n, Start}
 use Rattle.frame_views.proofs.view.StreamView.lda_frame.Goals as goal
 
--- ---- a place's part lies in the table, and the view has room for a frame
+-- ---- a place's part lies in the table
 
 table_long : (c : Start) → width c.args.self.now.options * (c.args.self.now.dim * length c.args.out.now) ≤ length c.args.lda.table.now
 table_long c =
@@ -21,9 +20,6 @@ part_in : (c : In-loop-n) → let size = c.args.self.now.dim * length c.args.out
 part_in c =
     let v = c.args.self.now in
     row_in_lem c.loop-n.n (width v.options) (v.dim * length c.args.out.now) _ (table_long (goal.at.In-loop-n c).Start) c.loop-n-test.true
-
-view-holds : (c : At-loop-n) → c.args.self.now.dim ≤ length c.loop-n.view
-view-holds c = omega (arith, c.loop-n.invariant.3, c.args.self.now.some.1)
 
 -- ---- before the loop
 
@@ -65,12 +61,6 @@ offset_bounds-lda-start c = omega (arith, part_in (goal.at.offset_bounds-lda-sta
 pub slice_bounds-add_frame-end : goal.slice_bounds-add_frame-end
 slice_bounds-add_frame-end c = part_in (goal.at.slice_bounds-add_frame-end c).In-loop-n
 
-pub slice_bounds-view-end : goal.slice_bounds-view-end
-slice_bounds-view-end c = view-holds (goal.at.slice_bounds-view-end c).At-loop-n
-
-pub slice_bounds-add_frame-end-in-loop-n : goal.slice_bounds-add_frame-end-in-loop-n
-slice_bounds-add_frame-end-in-loop-n c = sym (length-take-le _ _ (view-holds (goal.at.slice_bounds-add_frame-end-in-loop-n c).At-loop-n))
-
 pub add_frame-requires : goal.add_frame-requires
 add_frame-requires c =
     let v = c.args.self.now in
@@ -80,7 +70,7 @@ add_frame-requires c =
     record {
       there = splice_under v.options v.accepted c.args.t c.loop-n.n c.requires.there h.6;
       state = h.1;
-      view = length-take-le _ _ (view-holds (goal.at.add_frame-requires c).At-loop-n);
+      view = omega (arith, h.3, v.some.1);
       part = rw h.2 (omega (arith, length_lent first size (first + size) c.args.lda.table.now refl (part_in (goal.at.add_frame-requires c).In-loop-n)));
       placed = h.7;
     }
@@ -117,7 +107,7 @@ loop-n-preserved c =
       omega (arith, c.loop-n-test.true),
       c.add_frame.auto.cmvn ∙ h.1,
       c.add_frame.auto.out ∙ h.2,
-      lent_length v.dim loop.view c.add_frame.new.view (c.add_frame.auto.view ∙ length-take-le _ _ (view-holds (goal.at.loop-n-preserved c).At-loop-n)) (view-holds (goal.at.loop-n-preserved c).At-loop-n) ∙ h.3,
+      c.add_frame.auto.view ∙ h.3,
       spliced_turn _ _ _ _ _ _ _ loop.n h.6 h.4 c.add_frame.ensures.state,
       lda_place _ _ _ _ _ _ _ loop.n h.6 h.4 c.add_frame.ensures.state (length c.args.out.now) lda.table.now lda.offset.now refl refl refl h.5 c.add_frame.ensures.out,
       c.next_places-p.ensures.frame ∙ c.splice_at-v.ensures.0,
