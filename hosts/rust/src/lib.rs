@@ -3,8 +3,8 @@
 //! memory which the calls are lent. Names and the order of arguments are those of the original, pyscape/utter.
 //!
 //! A model is opened once ([`IvectorInfo::open`], or [`IvectorInfo::from_bytes`]), and any number of streams work on it. A stream is given its
-//! [`Room`] when it is made and allocates it then; its calls allocate nothing. Whatever is outside the limits is refused by a [`Refusal`], a
-//! number with a sentence, and changes nothing.
+//! [`Room`] when it is made and allocates it then; its calls allocate nothing, but for the lists of a [`round`](IvectorStream::round). Whatever is outside the
+//! limits is refused by a [`Refusal`], a number with a sentence, and changes nothing; a round, which is several calls, keeps those before the refused one.
 //!
 //! ```
 //! use shofrakin::{IvectorInfo, IvectorStream, Room};
@@ -22,8 +22,10 @@
 //!     }
 //!     pushed += length;
 //!     // the utterance is over: its vector is fetched, and what lies before the next one is forgotten
-//!     let fetched = stream.get_frame(stream.num_frames_ready() - 1, &mut vector)?;
-//!     assert_eq!(fetched.not_finite, 0);
+//!     if let Some(last) = stream.num_frames_ready().checked_sub(1) {
+//!         let fetched = stream.get_frame(last, &mut vector)?;
+//!         assert_eq!(fetched.not_finite, 0);
+//!     }
 //!     stream.forget_before(pushed)?;
 //! }
 //! // the contexts, one frame each in this model, are all that is held
@@ -37,6 +39,7 @@
 #![warn(missing_docs)]
 
 pub mod archive;
+mod memory;
 mod model;
 mod refusal;
 mod registers;

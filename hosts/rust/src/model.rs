@@ -1,3 +1,4 @@
+use crate::memory::zeros;
 use crate::sys::TableLengths;
 pub use crate::sys::{Dimensions, IvectorOptions};
 use crate::{sys, Refusal};
@@ -92,7 +93,7 @@ impl IvectorInfo {
         })
     }
 
-    /// Loads a model from the bytes of its four files. Refusals 1 to 7.
+    /// Loads a model from the bytes of its four files. Refusals 1 to 7, and 8 where no memory holds its tables.
     #[rustfmt::skip]
     pub fn from_bytes(opts: IvectorOptions, gmm: &[u8], extractor: &[u8], lda: &[u8], cmvn: &[u8]) -> Result<IvectorInfo, Refusal> {
         let (mut t, mut scratch) = Tables::needed(opts, [gmm, extractor, lda, cmvn])?;
@@ -110,7 +111,7 @@ impl IvectorInfo {
         IvectorInfo::of(a, t)
     }
 
-    /// The same with the options of the two settings files' bytes ([`IvectorOptions::from_settings`]). Refusals 25, then 1 to 7.
+    /// The same with the options of the two settings files' bytes ([`IvectorOptions::from_settings`]). Refusals 25, then 1 to 8.
     #[rustfmt::skip]
     pub fn from_bytes_with_settings(
         splice: &[u8], online_cmvn: &[u8], gmm: &[u8], extractor: &[u8], lda: &[u8], cmvn: &[u8],
@@ -179,27 +180,27 @@ impl fmt::Debug for IvectorInfo {
 }
 
 impl Tables {
-    fn new(n: TableLengths) -> Tables {
-        Tables {
-            gconsts: vec![0.0; n.gconsts],
-            means_invvars_t: vec![0.0; n.means_invvars_t],
-            inv_vars_t: vec![0.0; n.inv_vars_t],
-            sigma_inv_m: vec![0.0; n.sigma_inv_m],
-            u: vec![0.0; n.u],
-            lda_t: vec![0.0; n.lda_t],
-            lda_offset: vec![0.0; n.lda_offset],
-            global_mean_stats: vec![0.0; n.global_mean_stats],
-        }
+    fn new(n: TableLengths) -> Result<Tables, Refusal> {
+        Ok(Tables {
+            gconsts: zeros(n.gconsts)?,
+            means_invvars_t: zeros(n.means_invvars_t)?,
+            inv_vars_t: zeros(n.inv_vars_t)?,
+            sigma_inv_m: zeros(n.sigma_inv_m)?,
+            u: zeros(n.u)?,
+            lda_t: zeros(n.lda_t)?,
+            lda_offset: zeros(n.lda_offset)?,
+            global_mean_stats: zeros(n.global_mean_stats)?,
+        })
     }
 
-    /// The tables that the model in these files needs, of exactly their lengths, and a load's scratch. Refusals 1 to 7.
+    /// The tables that the model in these files needs, of exactly their lengths, and a load's scratch. Refusals 1 to 8.
     fn needed(opts: IvectorOptions, files: [&[u8]; 4]) -> Result<(Tables, Vec<f64>), Refusal> {
         let d = dimensions(opts, files);
         Refusal::of(d.refusal)?;
         // SAFETY: numbers alone.
         let n = unsafe { sys::shofrakin_tables_needed(opts, d.dims) };
         Refusal::of(n.refusal)?;
-        Ok((Tables::new(n.tables), vec![0.0; n.scratch]))
+        Ok((Tables::new(n.tables)?, zeros(n.scratch)?))
     }
 }
 
@@ -247,7 +248,7 @@ fn at_fault(opts: IvectorOptions, [gmm, extractor, lda, cmvn]: [&[u8]; 4], r: Re
 pub enum OpenError {
     /// A file of it can't be read.
     Unread(PathBuf, std::io::Error),
-    /// It is refused, because of this file, or of several in this folder that don't go together.
+    /// It is refused, because of this file, or of several in this folder that don't go together; or no memory holds its tables (8).
     Refused(Refusal, PathBuf),
 }
 

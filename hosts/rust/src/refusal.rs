@@ -1,8 +1,11 @@
 use std::fmt;
 
-/// Why a call was not taken: a number and a sentence. A refused call has changed nothing.
+/// Why a call was not taken: a number and a sentence. A refused call has changed nothing; of a round the steps before the refused one remain done.
 #[derive(Clone, Copy, PartialEq, Eq, Hash, PartialOrd, Ord)]
-pub struct Refusal(usize);
+pub struct Refusal {
+    number: usize,
+    sentence: &'static str,
+}
 
 impl Refusal {
     /// The refusal of an answer, where its number is not 0.
@@ -10,23 +13,26 @@ impl Refusal {
         if number == 0 {
             Ok(())
         } else {
-            Err(Refusal(number))
+            Err(Refusal::numbered(number))
         }
     }
 
-    /// A refusal that this crate gives in the library's place.
-    pub(crate) const fn numbered(number: usize) -> Refusal {
-        Refusal(number)
+    /// One of the library's.
+    pub(crate) fn numbered(number: usize) -> Refusal {
+        Refusal { number, sentence: Refusal::sentence_of(number).unwrap_or("a number that this crate has no sentence for") }
     }
+
+    /// The system has no memory for a room. The library refuses one that is too short with this number, and so include/shofrakin_live.h one that is not there.
+    pub(crate) const NO_MEMORY: Refusal = Refusal { number: 8, sentence: "no memory holds a room of that size" };
 
     /// The number, as in include/shofrakin.h.
     pub fn number(self) -> usize {
-        self.0
+        self.number
     }
 
     /// What it says, without the number and without a full stop.
     pub fn sentence(self) -> &'static str {
-        Refusal::sentence_of(self.0).unwrap_or("a number that this crate has no sentence for")
+        self.sentence
     }
 
     /// What a number says; nothing for one that is no refusal. The sentences are those of include/shofrakin_live.h.
@@ -72,7 +78,7 @@ impl Refusal {
 
 impl fmt::Display for Refusal {
     fn fmt(&self, f: &mut fmt::Formatter) -> fmt::Result {
-        write!(f, "refused, {}: {}", self.0, self.sentence())
+        write!(f, "refused, {}: {}", self.number, self.sentence)
     }
 }
 

@@ -1,3 +1,4 @@
+use crate::memory::zeros;
 use crate::{sys, Refusal};
 
 /// A number of input frames, or the number of one.
@@ -32,7 +33,7 @@ pub struct SilenceWeighting {
 
 impl SilenceWeighting {
     /// A table with room for `table` decoder frames, of which at most 1,000,000 are used. At most 64 phones, subsampling 1..16, a finite
-    /// weight: refusal 9.
+    /// weight: refusal 9; 8 where no memory holds the table.
     pub fn new(silence_phones: &[i32], silence_weight: f32, subsampling: usize, table: DecoderFrame) -> Result<SilenceWeighting, Refusal> {
         let n = table.0.min(1_000_000);
         // SAFETY: a slice's pointer with its length.
@@ -41,9 +42,9 @@ impl SilenceWeighting {
         Ok(SilenceWeighting {
             record: a.silence,
             silence_phones: silence_phones.to_vec(),
-            known: vec![false; n],
-            is_silence: vec![false; n],
-            current_weight: vec![0.0; n],
+            known: zeros(n)?,
+            is_silence: zeros(n)?,
+            current_weight: zeros(n)?,
         })
     }
 
@@ -80,14 +81,14 @@ impl SilenceWeighting {
 
     /// The changes of weight up to `num_frames_ready`, by input frame, decoder frame 0 beginning at `first_decoder_frame`. They are not
     /// given again. They can be more than one change call takes:
-    /// [`update_frame_weights_in_parts`](crate::IvectorStream::update_frame_weights_in_parts). Refusal 23.
+    /// [`update_frame_weights_in_parts`](crate::IvectorStream::update_frame_weights_in_parts). Refusal 23, and 8 where no memory holds the lists.
     #[rustfmt::skip]
     pub fn get_delta_weights(&mut self, num_frames_ready: InputFrame, first_decoder_frame: InputFrame) -> Result<Vec<(usize, f32)>, Refusal> {
         // the walk begins a hundred frames before the old length, and each decoder frame is `subsampling` input frames
         let (old, table, by) = (self.record.length.number, self.known.len(), self.record.subsampling);
         let wanted = num_frames_ready.0.saturating_sub(first_decoder_frame.0).div_ceil(by).min(table);
         let room = (old.max(wanted) - old.saturating_sub(100)) * by;
-        let (mut frames, mut weights) = (vec![0usize; room], vec![0f32; room]);
+        let (mut frames, mut weights) = (zeros::<usize>(room)?, zeros::<f32>(room)?);
         // SAFETY: as above.
         let a = unsafe {
             sys::shofrakin_get_delta_weights(

@@ -1,3 +1,4 @@
+use crate::memory::zeros;
 use crate::sys::RoomLengths;
 use crate::{sys, IvectorInfo, Refusal};
 use std::fmt;
@@ -5,7 +6,11 @@ use std::fmt;
 /// The most entries of one change call.
 pub const MAX_CHANGES: usize = 384;
 
-/// How much a stream has room for. It is allocated when the stream is made, exactly that much; its calls allocate nothing.
+/// The most frames of a stream: a change names one below.
+const MAX_FRAMES: usize = 1_000_000_000;
+
+/// How much a stream has room for. It is allocated when the stream is made, exactly that much; its calls allocate nothing but the lists of a
+/// [`round`](IvectorStream::round).
 ///
 /// How much is enough is proved over every list of calls, refused ones among them (docs/PROOFS.md and crates/program/specs/Habit.antt of the
 /// repository):
@@ -52,13 +57,14 @@ impl Room {
         self.rows.unwrap_or(self.frames.saturating_add(info.options().cmn_window))
     }
 
-    /// The bytes of a stream's rooms. Refusal 8, as [`IvectorStream::new`].
+    /// The bytes of a stream's rooms. Refusal 8 for a room outside its limits, or of more bytes than a `usize` counts.
     pub fn memory(&self, info: &IvectorInfo) -> Result<usize, Refusal> {
         let n = self.lengths(info)?;
         let (r, e) = (n.rings, n.estimate);
-        let floats = [r.frames, r.waiting_weights].map(|n| n.saturating_mul(4));
-        let others = [r.rows, r.waiting_frames, e.cmvn_stats, e.linear, e.quadratic, e.current, e.scratch].map(|n| n.saturating_mul(8));
-        Ok(floats.into_iter().chain(others).fold(0, usize::saturating_add))
+        let sum = |lengths: &[usize]| lengths.iter().try_fold(0usize, |sum, &n| sum.checked_add(n));
+        let floats = sum(&[r.frames, r.waiting_weights]).and_then(|n| n.checked_mul(4));
+        let others = sum(&[r.rows, r.waiting_frames, e.cmvn_stats, e.linear, e.quadratic, e.current, e.scratch]).and_then(|n| n.checked_mul(8));
+        floats.zip(others).and_then(|(a, b)| a.checked_add(b)).ok_or(Refusal::NO_MEMORY)
     }
 
     /// The lengths of a stream's rooms: the least that hold as much.
@@ -94,7 +100,7 @@ pub struct Fetched {
 /// The per-stream state: frames as they arrive, statistics up to the last frame asked for, and the current estimate. Old frames are
 /// dropped where [`forget_before`](IvectorStream::forget_before) allows it, so that a stream can stay open all day in the same memory.
 ///
-/// A refused call changes nothing.
+/// A refused call changes nothing; a [`round`](IvectorStream::round), which is several calls, keeps those before the one that is refused.
 pub struct IvectorStream {
     pub(crate) info: IvectorInfo,
     pub(crate) record: sys::IvectorStream,
@@ -111,19 +117,20 @@ pub struct IvectorStream {
 }
 
 impl IvectorStream {
-    /// A fresh stream on a model. Refusal 8 where the room has no frame or fewer than two rows, or more than 1,000,000,000 frames or twice as many rows.
+    /// A fresh stream on a model. Refusal 8 where the room has no frame or fewer than two rows, or more than 1,000,000,000 frames or twice as many rows, or
+    /// where no memory holds it.
     #[rustfmt::skip]
     pub fn new(info: &IvectorInfo, room: Room) -> Result<IvectorStream, Refusal> {
         let n = room.lengths(info)?;
-        let mut frames = vec![0f32; n.rings.frames];
-        let mut rows = vec![0f64; n.rings.rows];
-        let waiting_frames = vec![0usize; n.rings.waiting_frames];
-        let waiting_weights = vec![0f32; n.rings.waiting_weights];
-        let mut cmvn_stats = vec![0f64; n.estimate.cmvn_stats];
-        let mut linear = vec![0f64; n.estimate.linear];
-        let mut quadratic = vec![0f64; n.estimate.quadratic];
-        let mut current = vec![0f64; n.estimate.current];
-        let mut scratch = vec![0f64; n.estimate.scratch];
+        let mut frames = zeros::<f32>(n.rings.frames)?;
+        let mut rows = zeros::<f64>(n.rings.rows)?;
+        let waiting_frames = zeros::<usize>(n.rings.waiting_frames)?;
+        let waiting_weights = zeros::<f32>(n.rings.waiting_weights)?;
+        let mut cmvn_stats = zeros::<f64>(n.estimate.cmvn_stats)?;
+        let mut linear = zeros::<f64>(n.estimate.linear)?;
+        let mut quadratic = zeros::<f64>(n.estimate.quadratic)?;
+        let mut current = zeros::<f64>(n.estimate.current)?;
+        let mut scratch = zeros::<f64>(n.estimate.scratch)?;
         let (loaded, m) = (info.loaded().info, &info.loaded().tables);
         // SAFETY: every pointer is a slice's with its length, initialised and aligned; what is written is borrowed alone.
         let a = unsafe {
@@ -165,19 +172,25 @@ impl IvectorStream {
         self.change(&frames[..n], &weights[..n])
     }
 
-    /// The same for any number of changes: in as many calls as it takes, at least one, which together do what one would. Where one of them
-    /// is refused, none is taken: for that, a list that needs several calls has the waiting changes copied first.
+    /// The same for any number of changes: in as many calls as it takes, at least one, which together do what one would. The whole list is judged before the
+    /// first of them, by a call's own rules, so that all of it is taken or nothing. Refusals 17, 30 and 19.
     pub fn update_frame_weights_in_parts(&mut self, deltas: &[(usize, f32)]) -> Result<Held, Refusal> {
         if deltas.len() <= MAX_CHANGES {
             return self.update_frame_weights(deltas);
         }
-        // a change call writes the record and the waiting lists
-        let before = (self.record, self.held, self.waiting_frames.clone(), self.waiting_weights.clone());
+        let places = self.waiting_frames.len() - self.record.waiting;
+        let refusal = if deltas.iter().any(|&(f, w)| f >= MAX_FRAMES || !w.is_finite()) {
+            17
+        } else if deltas.iter().any(|&(f, _)| f < self.record.floor) {
+            30
+        } else if deltas.len() > places {
+            19
+        } else {
+            0
+        };
+        Refusal::of(refusal)?;
         for part in deltas.chunks(MAX_CHANGES) {
-            if let Err(r) = self.update_frame_weights(part) {
-                (self.record, self.held, self.waiting_frames, self.waiting_weights) = before;
-                return Err(r);
-            }
+            self.update_frame_weights(part)?;
         }
         Ok(self.held)
     }
@@ -195,8 +208,9 @@ impl IvectorStream {
         self.answered(a)
     }
 
-    /// An utterance begins at `frame`, and no change may name a frame before it from now on (30): frees what neither it nor a waiting change can need. Any
-    /// frame number is taken and none is taken back: a forget far ahead ends all changes of this stream for good, but for the empty one.
+    /// An utterance begins at `frame`, and no change may name a frame before it from now on (30): frees what neither it, nor a frame that is not in the
+    /// statistics yet, nor a waiting change can need. Any frame number is taken and none is taken back: a forget far ahead ends all changes of this stream for
+    /// good, but for the empty one.
     ///
     /// Where all frames below `frame` were fetched and no change below it waits, at most the frames from it on and the left context are held
     /// (`held-after-forget` of docs/PROOFS.md).

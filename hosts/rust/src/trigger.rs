@@ -1,3 +1,5 @@
+use crate::memory::zeros;
+use crate::voice::at_most_taken;
 use crate::{sys, IvectorStream, PhoneSegment, Refusal, SilenceWeighting, Voice};
 
 /// How a round ended.
@@ -7,7 +9,7 @@ pub enum RoundEnd {
     Full(Option<Voice>),
     /// No frame is ready, and none was fetched. This is no refusal.
     NoVector,
-    /// Refused at a step from 1 to 7. The steps before it remain done.
+    /// Refused at a step from 1 to 7. What was done before remains done: the earlier steps, and of step 2 the pushes before the refused one.
     Refused(Refusal, usize),
 }
 
@@ -39,6 +41,7 @@ impl IvectorStream {
         let starts: Vec<usize> = path.iter().map(|s| s.start).collect();
         let ends: Vec<usize> = path.iter().map(|s| s.end).collect();
         let dim = self.ivector_dim();
+        let enrolled = at_most_taken(enrolled);
         let mut all: Vec<f32> = enrolled.iter().flat_map(|v| v.as_ref()).copied().collect();
         // the call sees only the length of all vectors together: one more number where that would fit by chance
         if all.len() == enrolled.len() * dim && enrolled.iter().any(|v| v.as_ref().len() != dim) {
@@ -50,7 +53,8 @@ impl IvectorStream {
         let wanted = (self.record.accepted + numbers.len() / self.info.base_dim()).saturating_sub(start).div_ceil(by);
         let last = wanted.max(ends.iter().copied().max().unwrap_or(0)).clamp(old, table);
         let room = (last - old.saturating_sub(100)) * by;
-        let (mut frames, mut weights) = (vec![0usize; room], vec![0f32; room]);
+        // where no memory holds them they are empty, and step 4 is refused (24)
+        let (mut frames, mut weights) = (zeros::<usize>(room).unwrap_or_default(), zeros::<f32>(room).unwrap_or_default());
         let m = &self.info.loaded().tables;
         // SAFETY: every pointer is a slice's with its length, initialised and aligned, every bool 0 or 1; what is written is borrowed alone; f32 and u32 have
         // the same size and alignment, and any bits are a number of either.

@@ -1,4 +1,5 @@
 //! A model written back, in Kaldi's bytes.
+use crate::memory::zeros;
 pub use crate::sys::ModelSizes;
 use crate::{sys, IvectorOptions, Refusal};
 
@@ -69,11 +70,11 @@ macro_rules! write_at {
                 Ok(Written { gmm: a.gmm, extractor: a.extractor, lda: a.lda })
             }
 
-            /// The three files, each for itself: GMM, extractor, LDA. Refusals 1 and 4 to 7.
+            /// The three files, each for itself: GMM, extractor, LDA. Refusals 1 and 4 to 7, and 8 where no memory holds them.
             pub fn files(&self, opts: &IvectorOptions, cmvn: &[u8]) -> Result<[Vec<u8>; 3], Refusal> {
                 // sizes that would take more are refused whatever the output is
                 let room = length(std::mem::size_of::<$t>(), &self.sizes).map_or(0, |n| n.min(MOST));
-                let mut gmm = vec![0; room];
+                let mut gmm = zeros(room)?;
                 let z = self.write(opts, cmvn, &mut gmm)?;
                 let mut extractor = gmm.split_off(z.gmm);
                 let lda = extractor.split_off(z.extractor);

@@ -303,6 +303,35 @@ fn changes_in_parts_are_taken_whole_or_not_at_all() {
     assert_eq!(number(none.get_frame(0, &mut [0.0; 3])), 22);
 }
 
+/// A list that needs several calls is judged as one call judges a list of the same faults, and where it is refused the stream is as it was.
+#[test]
+fn changes_in_parts_are_refused_as_one_call_refuses() {
+    let info = info();
+    for faults in 0..16 {
+        let [not_finite, too_far, behind, short] = [1, 2, 4, 8].map(|bit| faults & bit != 0);
+        let judged = [300, 1000].map(|n| {
+            let mut s = IvectorStream::new(&info, Room { waiting: if short { 100 } else { n }, ..Room::default() }).unwrap();
+            s.forget_before(10).unwrap();
+            let mut deltas: Vec<(usize, f32)> = (10..10 + n).map(|t| (t, 0.5)).collect();
+            if not_finite {
+                deltas[n - 1].1 = f32::NAN;
+            }
+            if too_far {
+                deltas[n - 2].0 = 1_000_000_000;
+            }
+            if behind {
+                deltas[n - 3].0 = 9;
+            }
+            let before = format!("{s:?}");
+            let r = s.update_frame_weights_in_parts(&deltas);
+            assert_eq!(r.is_err(), format!("{s:?}") == before);
+            r.map_or_else(Refusal::number, |_| 0)
+        });
+        let want = [(not_finite || too_far, 17), (behind, 30), (short, 19)].into_iter().find(|f| f.0).map_or(0, |f| f.1);
+        assert_eq!(judged, [want; 2]);
+    }
+}
+
 #[test]
 fn forgetting_changes_no_vector() {
     let info = info();
