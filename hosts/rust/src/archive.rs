@@ -289,9 +289,18 @@ pub enum Form {
     Binary,
 }
 
-/// Writes a key and a matrix whose rows have `columns` numbers.
+/// Writes a key and a matrix whose rows have `columns` numbers. Numbers that make no whole rows, and 2^31 rows or columns in binary, are an error before
+/// anything is written.
 pub fn write_matrix(w: &mut impl Write, form: Form, key: &[u8], columns: usize, numbers: &[f32]) -> io::Result<()> {
+    let invalid = |what| Err(io::Error::new(io::ErrorKind::InvalidInput, what));
     let rows = numbers.len().checked_div(columns).unwrap_or(0);
+    if rows * columns != numbers.len() {
+        return invalid("numbers that make no whole rows");
+    }
+    let columns = if rows == 0 { 0 } else { columns };
+    if form == Form::Binary && rows.max(columns) > i32::MAX as usize {
+        return invalid("a matrix of 2^31 rows or columns");
+    }
     w.write_all(key)?;
     w.write_all(b" ")?;
     match form {
@@ -306,11 +315,10 @@ pub fn write_matrix(w: &mut impl Write, form: Form, key: &[u8], columns: usize, 
             w.write_all(if rows == 0 { b" ]\n" } else { b"]\n" })
         }
         Form::Binary => {
-            let n = |n: usize| i32::try_from(n).map_err(|_| io::Error::new(io::ErrorKind::InvalidInput, "a matrix of 2^31 rows or columns"));
             w.write_all(b"\0BFM ")?;
-            for n in [n(rows)?, n(if rows == 0 { 0 } else { columns })?] {
+            for n in [rows, columns] {
                 w.write_all(&[4])?;
-                w.write_all(&n.to_le_bytes())?;
+                w.write_all(&(n as i32).to_le_bytes())?;
             }
             for x in numbers {
                 w.write_all(&x.to_le_bytes())?;

@@ -1,8 +1,13 @@
 //! The program `shofrakin`: vectors of a Kaldi archive of features, and what a model is.
+mod output;
+mod standard;
+
+use output::Output;
 use shofrakin::archive::{write_matrix, Archive, ArchiveError, Specifier};
-use shofrakin::{IvectorInfo, IvectorStream, Refusal, Room};
+use shofrakin::{IvectorInfo, IvectorStream, Refusal, Room, MODEL_FILES, SETTINGS_FILES};
+use standard::Messages;
 use std::fs::File;
-use std::io::{self, BufWriter, IsTerminal, Read, Write};
+use std::io::{self, ErrorKind, Read, Write};
 use std::path::Path;
 use std::process::ExitCode;
 use std::time::{Duration, Instant};
@@ -13,50 +18,83 @@ shofrakin extract [--ivector-period=10] [--max-frames=N] MODEL FEATS OUT
     at the frames 0, PERIOD, 2 PERIOD and so on. Every utterance is a fresh stream, and what is behind is forgotten on the way.
       MODEL   a folder with final.dubm, final.ie, final.mat and global_cmvn.stats; splice.conf and online_cmvn.conf count where they are there
       FEATS   ark:FILE, ark,t:FILE or FILE, - for standard input: an archive, text or binary
-      OUT     likewise, - for standard output; ark,t: writes text
+      OUT     likewise, - for standard output; ark,t: writes text. A file is written beside its place, and takes it when all is read and written:
+              else what was there stays. It is none of the files that are read
     --ivector-period=N   1 to 1,000,000
     --max-frames=N       how many frames a stream has room for; as many as the period and the contexts need if it is not given
 
 shofrakin info MODEL
     Prints the model's dimensions, its options and the memory that it and a stream need.
 
-Exit status: 0; 1 where something is refused, damaged or can't be read or written; 2 for a wrong command line.
+Exit status: 0; 1 where something is refused, damaged or can't be read or written, a message too; 2 for a wrong command line. Where nobody reads
+the output any more, nothing is said.
 ";
 
-/// What ends the program: a wrong command line, or a message about something else.
+/// What ends the program: a wrong command line, a message about something else, or an output that nobody reads.
 enum Fault {
     Usage(String),
     Other(String),
+    Unread,
 }
 
 fn other(e: impl ToString) -> Fault {
     Fault::Other(e.to_string())
 }
 
-fn main() -> ExitCode {
-    let words: Vec<String> = std::env::args_os().skip(1).map(|w| w.to_string_lossy().into_owned()).collect();
-    let (options, rest): (Vec<&str>, Vec<&str>) = words.iter().map(String::as_str).partition(|w| w.starts_with("--"));
-    if options.contains(&"--help") {
-        print!("{USAGE}");
-        return ExitCode::SUCCESS;
+/// An output's error.
+fn unwritten(name: &str, e: io::Error) -> Fault {
+    match e.kind() {
+        ErrorKind::BrokenPipe => Fault::Unread,
+        _ => Fault::Other(format!("{name}: {e}")),
     }
-    let done = match rest[..] {
-        ["extract", model, feats, out] => extract(&options, model, feats, out),
-        ["info", model] if options.is_empty() => info(model),
-        _ => Err(Fault::Usage("no such command".into())),
-    };
-    match done {
-        Ok(true) => ExitCode::SUCCESS,
-        Ok(false) => ExitCode::from(1),
+}
+
+fn main() -> ExitCode {
+    let mut messages = Messages::new();
+    let status = match run(&mut messages) {
+        Ok(true) => 0,
+        Ok(false) => 1,
         Err(Fault::Usage(s)) => {
-            eprint!("shofrakin: {s}\n\n{USAGE}");
-            ExitCode::from(2)
+            messages.show(&format!("shofrakin: {s}\n\n{USAGE}"));
+            2
         }
         Err(Fault::Other(s)) => {
-            eprintln!("shofrakin: {s}");
-            ExitCode::from(1)
+            messages.line(&s);
+            1
         }
+        Err(Fault::Unread) => {
+            messages.show("");
+            1
+        }
+    };
+    ExitCode::from(if messages.lost() { status.max(1) } else { status })
+}
+
+/// True where nothing was refused.
+fn run(messages: &mut Messages) -> Result<bool, Fault> {
+    if let Some(name) = standard::closed() {
+        return Err(other(format!("{name} is closed")));
     }
+    let words = std::env::args_os().skip(1).map(|w| w.into_string().map_err(|w| Fault::Usage(format!("{}: not UTF-8", w.to_string_lossy()))));
+    let words: Vec<String> = words.collect::<Result<_, _>>()?;
+    let (options, rest): (Vec<&str>, Vec<&str>) = words.iter().map(String::as_str).partition(|w| w.starts_with("--"));
+    if options.contains(&"--help") {
+        return print(USAGE);
+    }
+    match rest[..] {
+        ["extract", model, feats, out] => extract(&options, model, feats, out, messages),
+        ["info", model] if options.is_empty() => info(model),
+        _ => Err(Fault::Usage("no such command".into())),
+    }
+}
+
+/// On the standard output.
+fn print(text: &str) -> Result<bool, Fault> {
+    let printed = Output::open(None, &[]).and_then(|mut to| {
+        to.write_all(text.as_bytes())?;
+        to.end(true)
+    });
+    printed.map_err(|e| unwritten("standard output", e))
 }
 
 /// The value of `--name=value`.
@@ -71,7 +109,7 @@ fn option(options: &[&str], name: &str) -> Result<Option<usize>, Fault> {
 }
 
 /// True where nothing was refused.
-fn extract(options: &[&str], model: &str, feats: &str, out: &str) -> Result<bool, Fault> {
+fn extract(options: &[&str], model: &str, feats: &str, out: &str, messages: &mut Messages) -> Result<bool, Fault> {
     if let Some(w) = options.iter().find(|w| !w.starts_with("--ivector-period=") && !w.starts_with("--max-frames=")) {
         return Err(Fault::Usage(format!("unknown option {w}")));
     }
@@ -81,21 +119,18 @@ fn extract(options: &[&str], model: &str, feats: &str, out: &str) -> Result<bool
     let to = Specifier::parse(out).map_err(Fault::Usage)?;
 
     let info = IvectorInfo::open(Path::new(model)).map_err(other)?;
-    let input: Box<dyn Read> = match &from.file {
-        Some(p) => Box::new(File::open(p).map_err(|e| other(format!("{}: {e}", p.display())))?),
-        None => Box::new(io::stdin().lock()),
-    };
-    let unwritten = |e: io::Error| other(format!("{out}: {e}"));
-    let mut output: BufWriter<Box<dyn Write>> = BufWriter::new(match &to.file {
-        Some(p) => Box::new(File::create(p).map_err(unwritten)?),
-        None => Box::new(io::stdout().lock()),
-    });
+    let unread = |e| other(format!("{}: {e}", from.file.as_ref().map_or("standard input".into(), |p| p.display().to_string())));
+    let input = from.file.as_ref().map_or_else(standard::input, File::open).map_err(unread)?;
+    let mut read = vec![input.metadata().map_err(unread)?];
+    read.extend(MODEL_FILES.iter().chain(&SETTINGS_FILES).filter_map(|name| Path::new(model).join(name).metadata().ok()));
+    let unwritten = |e| unwritten(out, e);
+    let mut output = Output::open(to.file.as_deref(), &read).map_err(unwritten)?;
     // every vector begins an utterance: at most a period is pushed from one to the next, and before the first as much as makes it ready
     let enough = Room { waiting: 0, ..Room::for_utterances(&info, period.max(info.options().right_context + 1)) };
     let room = Room { frames: max_frames.unwrap_or(enough.frames), ..enough };
 
     let mut archive = Archive::new(input);
-    let mut tally = Tally::new();
+    let mut tally = Tally::new(messages);
     let damaged = loop {
         let key = match archive.next_key() {
             Ok(Some(k)) => k.to_vec(),
@@ -107,7 +142,7 @@ fn extract(options: &[&str], model: &str, feats: &str, out: &str) -> Result<bool
                 write_matrix(&mut output, to.form, &key, info.ivector_dim(), &u.vectors).map_err(unwritten)?;
                 tally.written += 1;
                 if u.not_finite + u.nan_likelihoods > 0 {
-                    tally.say(&format!(
+                    tally.messages.line(&format!(
                         "utterance {}: {} elements of its vectors are not finite, {} likelihoods were NaN",
                         String::from_utf8_lossy(&key),
                         u.not_finite,
@@ -117,13 +152,21 @@ fn extract(options: &[&str], model: &str, feats: &str, out: &str) -> Result<bool
             }
             Ok(Err((frame, r))) => {
                 tally.refused += 1;
-                tally.say(&format!("utterance {}, frame {frame}: {r}", String::from_utf8_lossy(&key)));
+                tally.messages.line(&format!("utterance {}, frame {frame}: {r}", String::from_utf8_lossy(&key)));
             }
             Err(e) => break Some(e),
         }
     };
-    output.flush().map_err(unwritten)?;
+    // where each utterance is refused there is nothing to put in the place of what was there
+    let whole = damaged.is_none() && (tally.written > 0 || tally.refused == 0);
+    let stands = output.end(whole).map_err(unwritten)?;
+    if !stands {
+        tally.written = 0;
+    }
     tally.end();
+    if !stands {
+        tally.messages.line(&format!("{out}: left as it was"));
+    }
     if let Some(e) = damaged {
         return Err(other(format!("{feats}: {e}")));
     }
@@ -182,8 +225,8 @@ fn utterance(
 }
 
 /// What was done, said on standard error: while it goes on only to a terminal.
-struct Tally {
-    terminal: bool,
+struct Tally<'a> {
+    messages: &'a mut Messages,
     began: Instant,
     said: Instant,
     utterances: u64,
@@ -192,10 +235,10 @@ struct Tally {
     refused: u64,
 }
 
-impl Tally {
-    fn new() -> Tally {
+impl Tally<'_> {
+    fn new(messages: &mut Messages) -> Tally<'_> {
         let now = Instant::now();
-        Tally { terminal: io::stderr().is_terminal(), began: now, said: now, utterances: 0, frames: 0, written: 0, refused: 0 }
+        Tally { messages, began: now, said: now, utterances: 0, frames: 0, written: 0, refused: 0 }
     }
 
     fn rate(&self) -> String {
@@ -205,19 +248,14 @@ impl Tally {
 
     fn frame(&mut self) {
         self.frames += 1;
-        if self.terminal && self.frames & 63 == 0 && self.said.elapsed() > Duration::from_millis(200) {
+        if self.messages.terminal() && self.frames & 63 == 0 && self.said.elapsed() > Duration::from_millis(200) {
             self.said = Instant::now();
-            eprint!("\rutterances: {}; {}\x1b[K", self.utterances, self.rate());
+            self.messages.show(&format!("utterances: {}; {}", self.utterances, self.rate()));
         }
     }
 
-    /// A line of its own, over the progress.
-    fn say(&self, line: &str) {
-        eprintln!("{}shofrakin: {line}", if self.terminal { "\r\x1b[K" } else { "" });
-    }
-
-    fn end(&self) {
-        self.say(&format!("utterances: {} written, {} refused; {}", self.written, self.refused, self.rate()));
+    fn end(&mut self) {
+        self.messages.line(&format!("utterances: {} written, {} refused; {}", self.written, self.refused, self.rate()));
     }
 }
 
@@ -269,6 +307,5 @@ a stream         {} bytes with room for {} frames, {} rows and {} changes; {} fo
         room.waiting,
         more - bytes,
     );
-    io::stdout().write_all(text.as_bytes()).map_err(other)?;
-    Ok(true)
+    print(&text)
 }

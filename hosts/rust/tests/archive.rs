@@ -58,6 +58,17 @@ fn both_forms_are_written_as_they_stand_in_the_files() {
 }
 
 #[test]
+fn numbers_that_are_no_matrix_are_not_written() {
+    for form in [Form::Text, Form::Binary] {
+        for (columns, numbers) in [(2, &[1f32; 3] as &[f32]), (4, &[1.0; 3]), (0, &[1.0])] {
+            let mut w = Vec::new();
+            assert_eq!(write_matrix(&mut w, form, b"key", columns, numbers).unwrap_err().to_string(), "numbers that make no whole rows");
+            assert_eq!(w, b"");
+        }
+    }
+}
+
+#[test]
 fn every_float_comes_back_from_text() {
     let mut x = 1u32;
     let mut numbers = vec![f32::INFINITY, f32::NEG_INFINITY, 0.0, -0.0, f32::MIN_POSITIVE, f32::MAX, 1e-45];
