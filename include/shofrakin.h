@@ -8,13 +8,15 @@
  * - A room that a call writes overlaps nothing else that the call is lent.
  * - The record of a stream or of a silence table stays where the host keeps it. A call on it takes a pointer to it, first, and writes the
  *   numbers that change; a question only reads. During a call nothing else reads or writes the record, during a question nothing writes
- *   it, and it overlaps no slice lent. A model's record goes in by value. Records may be copied, and are not written by hand.
+ *   it, and it overlaps no slice lent. A model's record goes in by value, and a round takes both records so and answers the new ones.
+ *   Records may be copied, and are not written by hand.
  * - A bool is 0 or 1, in records and in rooms.
  * - A room keeps its contents from call to call; its length is the one that the record was made with.
  * The calls ask nothing else: whatever numbers they get, they return; the questions answer any record. They keep no state, allocate
  * nothing, and may run in several threads on different records and rooms.
  *
- * Answers: `refusal` is 0 for a call that is taken, else a number from 1 to 32. A refused call writes nowhere.
+ * Answers: `refusal` is 0 for a call that is taken, else a number from 1 to 32. A refused call leaves the record and all that it is lent as
+ * they were. A round is several calls: those before the refused one remain done.
  *   1 an option is outside its range               13 push: 1,000,000,000 frames are in
  *   2 bytes end before an item does                14 push: the frame room is full
  *   3 the mark, a token or a size byte is wrong    15 push: the row room is full
@@ -224,8 +226,8 @@ typedef struct {
     size_t nan_likelihoods;
 } shofrakin_stream_answer;
 
-/* The answer of a fresh stream: its numbers (no frame is held, and one row), and the record, which is one that every call refuses with 10 where the
- * refusal is not 0. */
+/* The answer of a fresh stream: its numbers (no frame is held, and one row; none beside a refusal), and the record, which is one that every call refuses
+ * with 10 where the refusal is not 0. */
 typedef struct {
     shofrakin_stream_answer answer;
     shofrakin_stream stream;
@@ -265,15 +267,15 @@ shofrakin_stream_answer shofrakin_set_input_finished(shofrakin_stream *s,
     const float *frames, size_t frames_len, const double *rows, size_t rows_len,
     const size_t *waiting_frames, size_t waiting_frames_len, const float *waiting_weights, size_t waiting_weights_len);
 
-/* Changes of weights, by frame, at most 384 in one call: more go into several, which do what one would. From the first such call on, even an
- * empty one, fetches are weighted. Refusals 10, 16, 17, 30, 19, in that order (18 stands between 30 and 19, and never occurs). */
+/* Changes of weights, by frame, at most 384 in one call. More go into several: taken, they do what one would, and where one is refused, as for want
+ * of room, those before it stay. From the first such call on, even an empty one, fetches are weighted. Refusals 10, 16, 17, 30, 19, in that order (18 stands between 30 and 19, and never occurs). */
 shofrakin_stream_answer shofrakin_update_frame_weights(shofrakin_stream *s,
     const size_t *delta_frames, size_t delta_frames_len, const float *delta_weights, size_t delta_weights_len,
     const float *frames, size_t frames_len, const double *rows, size_t rows_len,
     size_t *waiting_frames, size_t waiting_frames_len, float *waiting_weights, size_t waiting_weights_len);
 
-/* An utterance begins at `frame`, and no change may name a frame before it from now on: frees what neither it nor a waiting change can need.
- * Refusal 10. Any frame number is taken and none is taken back: a forget far ahead, of SIZE_MAX say, ends all changes of this stream for
+/* An utterance begins at `frame`, and no change may name a frame before it from now on: frees what neither it, nor a frame that is not in the statistics
+ * yet, nor a waiting change can need. Refusal 10. Any frame number is taken and none is taken back: a forget far ahead, of SIZE_MAX say, ends all changes of this stream for
  * good (30), but for the empty one. */
 shofrakin_stream_answer shofrakin_forget_before(shofrakin_stream *s, size_t frame,
     const float *frames, size_t frames_len, const double *rows, size_t rows_len,
@@ -342,7 +344,8 @@ typedef struct {
     size_t changes;
 } shofrakin_silence_counts;
 
-/* A table of no frames yet, for three rooms of `table` places each: at most 64 phones, subsampling 1..16, a finite weight. Refusal 9. */
+/* A table of no frames yet, for three rooms of `table` places each, of which at most 1,000,000 are used: at most 64 phones, subsampling 1..16, a finite
+ * weight. Refusal 9. */
 shofrakin_new_table_answer shofrakin_new_silence_weighting(
     const int32_t *silence_phones, size_t silence_phones_len, float silence_weight, size_t subsampling, size_t table);
 

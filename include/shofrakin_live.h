@@ -3,8 +3,9 @@
  * memory, as long as its .._memory function tells (aligned as malloc does), and keeps it and the struct where they are as long as it is used.
  *
  * What shofrakin.h asks of a caller is seen to: blocks are cleared, rooms lie beside each other in them and have the lengths that the
- * record was made with, bools are 0 or 1. Left to the caller: no pointer is null, files and lists are initialised and overlap no
- * block, and a stream, or a table, is used by one thread at a time. A model is only read once it is open, and may be shared.
+ * record was made with, bools are 0 or 1. Left to the caller: no pointer is null but a block's (as one that is too short: 8), files and lists
+ * are initialised and overlap no block, and a stream, or a table, is used by one thread at a time. A model is only read once it is open, and
+ * may be shared.
  *
  *     shofrakin_options opts = shofrakin_settings(splice, splice_len, online_cmvn, online_cmvn_len).opts;
  *     shofrakin_model m;
@@ -294,20 +295,22 @@ static inline size_t shofrakin_silence_live_memory(size_t table) {
     return table > 1000000 ? SIZE_MAX : table * (sizeof(float) + 2 * sizeof(bool));
 }
 
-/* A table in a block of memory. Its refusal: 8 for a block that is too short, or 9. */
+/* A table in a block of memory. Its refusal: 8 for a block that is too short, or 9. After either every call on it is refused 10. */
 static inline size_t shofrakin_silence_live_open(shofrakin_silence_live *s, const int32_t *silence_phones, size_t silence_phones_len,
     float silence_weight, size_t subsampling, size_t table, void *memory, size_t bytes) {
+    static float any; /* an address for rooms of no length */
     size_t need = shofrakin_silence_live_memory(table);
+    bool fits = memory && bytes >= need;
     shofrakin_new_table_answer a;
-    if (!memory || bytes < need) return 8;
-    memset(memory, 0, need);
+    /* subsampling 0 is refused, with a record of no places */
+    if (!fits) table = subsampling = 0;
     s->silence_phones = silence_phones;
-    s->current_weight = (float *)memory;
+    s->current_weight = fits ? (float *)memset(memory, 0, need) : &any;
     s->known = (bool *)(s->current_weight + table);
     s->is_silence = s->known + table;
     a = shofrakin_new_silence_weighting(silence_phones, silence_phones_len, silence_weight, subsampling, table);
     s->silence = a.silence;
-    return a.refusal;
+    return fits ? a.refusal : 8;
 }
 
 static inline bool shofrakin_silence_live_active(const shofrakin_silence_live *s) { return shofrakin_silence_active(&s->silence); }

@@ -204,7 +204,11 @@ static void live(bool exact) {
     shofrakin_silence_live table;
     size_t q = shofrakin_silence_live_memory(8);
     unsigned char *places = block(q, exact);
+    is("a table, before one that is refused", shofrakin_silence_live_open(&table, phones, 2, 0.25f, 3, 8, places, q), 0);
     is("a table, short block", shofrakin_silence_live_open(&table, phones, 2, 0.25f, 3, 8, places, q - 1), 8);
+    is("no table", shofrakin_silence_live_traceback(&table, path, from, to, 1, (shofrakin_decoder_frame){3}).refusal, 10);
+    is("a table, no block", shofrakin_silence_live_open(&table, phones, 2, 0.25f, 3, 8, NULL, q), 8);
+    is("no table", shofrakin_silence_live_delta_weights(&table, (shofrakin_input_frame){4}, (shofrakin_input_frame){0}, by, weights, 16).refusal, 10);
     is("a table, subsampling 17", shofrakin_silence_live_open(&table, phones, 2, 0.25f, 17, 8, places, q), 9);
     is("a table", shofrakin_silence_live_open(&table, phones, 2, 0.25f, 3, 8, places, q), 0);
     is("active", shofrakin_silence_live_active(&table), true);
