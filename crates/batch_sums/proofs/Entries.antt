@@ -40,7 +40,7 @@ module _ (es : List Entry) (e : Entry) where
 
 -- ---- a Gaussian that was not seen has no entry
 
-any_append : {A : Type 0} (p : A → Bool) (xs ys : List A) → any_of p (xs ++ ys) ≡ false → (any_of p xs ≡ false) × (any_of p ys ≡ false)
+pub any_append : {A : Type 0} (p : A → Bool) (xs ys : List A) → any_of p (xs ++ ys) ≡ false → (any_of p xs ≡ false) × (any_of p ys ≡ false)
 unfolding any_of
 any_append p [] ys e = (refl, e)
 any_append p (x ∷ xs) ys e =

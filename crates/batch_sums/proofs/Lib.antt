@@ -1,7 +1,7 @@
 -- Laws that the proofs of the functions cite; those of Batches are for callers too.
 pub mod Totals
-mod Entries
+pub mod Entries
 pub mod Places
-mod Slots
+pub mod Slots
 pub mod Batches
 pub mod Rows

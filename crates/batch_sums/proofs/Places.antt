@@ -34,11 +34,11 @@ few (suc n) (suc r) f below once =
 -- g, which is not among the first r, is put behind the first m
 module _ (n m g : ℕ) (gs : List ℕ) (fair : Fair n m gs) (low : g < n) (r : ℕ) (all : m ≤ r) (new : (k : ℕ) → k < r → get_or gs k 0 ≡ g → ⊥) where
   module _ (f : ℕ → ℕ) (last : f m ≡ g) (same : (k : ℕ) → k < m → f k ≡ get_or gs k 0) where
-    below_more : (k : ℕ) → k < m + 1 → f k < n
+    pub below_more : (k : ℕ) → k < m + 1 → f k < n
     below_more k l =
         by-test (eqb k m) (λ t. rw (eqb-true k m t, last) low) (λ t. let q = eqb-false k m t in rw (same k (omega arith)) (fair.below k (omega arith)))
 
-    once_more : (j k : ℕ) → j < k → k < m + 1 → f j ≡ f k → ⊥
+    pub once_more : (j k : ℕ) → j < k → k < m + 1 → f j ≡ f k → ⊥
     once_more j k l p =
         by-test (eqb k m) (λ t. let q = eqb-true k m t in rw (q, last, same j (omega arith)) (new j (omega arith)))
         (λ t. let q = eqb-false k m t in rw (same j (omega arith), same k (omega arith)) (fair.once j k l (omega arith)))

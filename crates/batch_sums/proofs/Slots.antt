@@ -19,11 +19,11 @@ use Rattle.batch_sums.proofs.Places.{slots_apart, slot_tot, slot_sum}
 
 -- ---- one number of each slot, by r: over the entries es, the sum of what v is of each
 
-abbrev Summed : (Entry → Float) → List Entry → ℕ → List ℕ → (ℕ → Float) → Type 0
+abbrev pub Summed : (Entry → Float) → List Entry → ℕ → List ℕ → (ℕ → Float) → Type 0
 Summed v es m gs r = (k : ℕ) → k < m → r k ≡ sum_for es (get_or gs k 0) v
 
 module _ (v : Entry → Float) (es : List Entry) (m : ℕ) (gs : List ℕ) (r r' : ℕ → Float) (h : Summed v es m gs r) where
-  summed_give : (n k : ℕ) (e : Entry) → Fair n m gs → k < m → get_or gs k 0 ≡ e.gauss → r' k ≡ r k +₆₄ v e → ((j : ℕ) → (j ≡ k → ⊥) → r' j ≡ r j)
+  pub summed_give : (n k : ℕ) (e : Entry) → Fair n m gs → k < m → get_or gs k 0 ≡ e.gauss → r' k ≡ r k +₆₄ v e → ((j : ℕ) → (j ≡ k → ⊥) → r' j ≡ r j)
       → Summed v (es ++ (e ∷ [])) m gs r'
   summed_give n k e fair l own new old j p =
       by-test (eqb j k)

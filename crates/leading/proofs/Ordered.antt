@@ -18,7 +18,7 @@ and_asym true y a b h e = absurd (false≢true e)
 and_asym false true a b h e = refl
 and_asym false false a b h e = h e
 
-ahead_asym : (p q : Post) → ahead p q ≡ true → ahead q p ≡ false
+pub ahead_asym : (p q : Post) → ahead p q ≡ true → ahead q p ≡ false
 ahead_asym p q e = and_asym (is_nan p.1) (is_nan q.1) (lt q.1 p.1) (lt p.1 q.1) (lt_asym q.1 p.1) e
 
 and_trans : (x y z a b c : Bool) → (y ≡ false → a ≡ false → b ≡ false → c ≡ false) → (not x && (y || a)) ≡ false → (not y && (z || b)) ≡ false → (not x && (z || c)) ≡ false

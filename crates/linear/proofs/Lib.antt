@@ -1,3 +1,3 @@
 -- Laws of the solver: Cholesky's factor and its two solves, and the conjugate gradient's turns.
-mod Cells
-mod Turns
+pub mod Cells
+pub mod Turns
