@@ -1,8 +1,8 @@
 //! Reads the original Rust from the folder UTTER_SRC at build time, patches it and writes two variants into OUT_DIR: `orig.rs` (as
 //! published, with the scope's exponential and logarithm, sums from -0.0, and a start on the solution kept) and `orig_nan.rs` (the same with NaN ordered last
 //! instead of a panic). No original text is kept here; each patch asserts how often it applies. Where UTTER_SRC is not set, without.rs stands
-//! in the place of both. The library comes with hosts/rust; where SHOFRAKIN_CRATE names another crate, the archive that `rt lib` wrote of it to
-//! the folder SHOFRAKIN_LIB is linked.
+//! in the place of both. What is changed of its arithmetic stands in patches.txt. The library comes with hosts/rust; where SHOFRAKIN_CRATE names another
+//! crate, the archive that `rt lib` wrote of it to the folder SHOFRAKIN_LIB is linked.
 use std::{env, fs, path::Path};
 
 /// Replace `from` by `to`, which must occur exactly `n` times.
@@ -18,9 +18,29 @@ fn cut<'a>(t: &'a str, a: &str, b: &str) -> (usize, usize, &'a str) {
     (i, j, &t[i..j])
 }
 
+/// The patches of that kind in patches.txt, which `original/translate` reads too: (from, to, how often).
+fn patches(kind: &str) -> Vec<(String, String, usize)> {
+    let table = fs::read_to_string("patches.txt").unwrap();
+    let mut found = Vec::new();
+    for block in table.split("\n\n") {
+        let field = |name: &str| block.lines().find_map(|l| l.strip_prefix(name)?.strip_prefix(": ")).map(|v| v.replace("\\n", "\n"));
+        if field("kind").as_deref() == Some(kind) {
+            let to = field("rust").or_else(|| field("to")).expect("patches.txt: rust: or to:");
+            found.push((field("from").expect("patches.txt: from:"), to, field("times").expect("patches.txt: times:").parse().unwrap()));
+        }
+    }
+    assert!(!found.is_empty(), "patches.txt has none of {kind:?}");
+    found
+}
+
+fn patched(t: &str, kind: &str) -> String {
+    patches(kind).iter().fold(t.to_string(), |t, (from, to, n)| sub(&t, from, to, *n))
+}
+
 fn main() {
     println!("cargo:rerun-if-env-changed=UTTER_SRC");
     println!("cargo:rerun-if-changed=build.rs");
+    println!("cargo:rerun-if-changed=patches.txt");
     println!("cargo:rerun-if-env-changed=SHOFRAKIN_CRATE");
     println!("cargo:rerun-if-env-changed=SHOFRAKIN_LIB");
     if let Ok(name) = env::var("SHOFRAKIN_CRATE") {
@@ -52,11 +72,7 @@ fn main() {
     let mut sil = sub(&silence, "use crate::decoder::Path;", "use super::decoder::Path;", 1);
 
     // (1) the scope's logarithm and exponential.
-    iv = sub(&iv, "(2.0 * std::f64::consts::PI).ln()", "crate::fns::ln64(2.0 * std::f64::consts::PI)", 1);
-    iv = sub(&iv, "(weights[m] as f64).ln()", "crate::fns::ln64(weights[m] as f64)", 1);
-    iv = sub(&iv, "iv.ln()", "crate::fns::ln64(iv)", 1);
-    iv = sub(&iv, "min_post.ln()", "crate::fns::ln32(min_post)", 1);
-    iv = sub(&iv, "(l - max_like).exp()", "crate::fns::exp32(l - max_like)", 2);
+    iv = patched(&iv, "the scope's exponential and logarithm");
     assert!(!iv.contains(".ln()") && !iv.contains(".exp()"));
     // Sums start at -0.0 whatever the standard library does.
     iv = sub(&iv, ".map(|(x, y)| x * y).sum()", ".map(|(x, y)| x * y).fold(-0.0f64, |a, b| a + b)", 1);
@@ -84,7 +100,7 @@ fn main() {
     assert!(!iv.contains("std::fs"));
 
     // (3) request 9: a start on the solution is kept.
-    iv = sub(&iv, "let r_initial = r_cur;", "let r_initial = r_cur;\n    if r_cur <= f64::MIN_POSITIVE {\n        return;\n    }", 1);
+    iv = patched(&iv, "a start on the solution is kept");
 
     // Access to private items.
     iv.push_str(
@@ -148,6 +164,5 @@ impl SilenceWeighting {
         fs::write(Path::new(&out).join(name), t).unwrap();
     };
     write("orig.rs", &iv);
-    let ivn = sub(&iv, "b.1.partial_cmp(&a.1).unwrap().then(a.0.cmp(&b.0))", "crate::fns::nan_last(a, b)", 1);
-    write("orig_nan.rs", &ivn);
+    write("orig_nan.rs", &patched(&iv, "NaN stands last"));
 }
