@@ -20,6 +20,7 @@ pub mod requests_window;
 pub mod script;
 pub mod settings;
 pub mod timed;
+pub mod translated;
 pub mod trigger;
 pub mod writer;
 #[allow(dead_code, warnings)]

@@ -118,7 +118,7 @@ fn us(v: &[u64]) -> Vec<usize> {
 }
 
 /// The model's files as the original reads them: each block at its own width.
-fn original_bytes(run: &Runner) -> [Vec<u8>; 4] {
+pub fn original_bytes(run: &Runner) -> [Vec<u8>; 4] {
     let mut b = run.bytes.clone();
     if let Some((m, _)) = &run.model {
         for (f, p) in b.iter_mut().zip(&m.by_place) {

@@ -9,12 +9,13 @@
 //! compare write FIRST COUNT          a model written and loaded back, COUNT sets at each width from the seed FIRST
 //! compare write-lines                the same on cases with their answers, on standard input (FORMAT.md)
 //! compare loads FIRST COUNT          request 14's program, COUNT inputs from the seed FIRST
+//! compare translated FIRST COUNT FOLDER [KIND]   the original's answers to lists, for its translation (original/), into a folder
 //! compare gen FIRST COUNT [KIND]     the lists as a script (FORMAT.md), on standard output
 //! compare answer                     the machine's answers to a script on standard input
 //! KIND: calls wild damage edges rooms forged silence long limit exact nan registers floor widths window trigger big cuts, or all (all but big and cuts).
 //! THREADS: how many (2).
 //! Exit status 1 on any difference.
-use compare::{day, gen, lists, loads, loud, nearest, requests_widths, script, settings, writer};
+use compare::{day, gen, lists, loads, loud, nearest, requests_widths, script, settings, translated, writer};
 use std::io::{BufRead, Write};
 
 fn kinds(s: &str) -> Vec<gen::What> {
@@ -76,6 +77,7 @@ fn main() {
         Some("write") => std::process::exit(i32::from(writer::run(num(2, 1), num(3, 1000)) != 0)),
         Some("write-lines") => std::process::exit(i32::from(writer::lines(std::io::stdin().lock()) != 0)),
         Some("loads") => std::process::exit(i32::from(loads::run(num(2, 1), num(3, 1000)) != 0)),
+        Some("translated") => translated::run(num(2, 1), num(3, 1), &kind(5), std::path::Path::new(&a[4])),
         Some("gen") => {
             let mut w = std::io::BufWriter::new(std::io::stdout().lock());
             for seed in num(2, 1)..num(2, 1) + num(3, 1) {
@@ -97,7 +99,7 @@ fn main() {
         }
         _ => {
             eprintln!(
-                "compare lists FIRST COUNT [KIND] | day [FRAMES [SEED]] | nearest FIRST COUNT | nearest-lines | loud FIRST COUNT | load-lines | settings FIRST COUNT | settings-lines | write FIRST COUNT | write-lines | loads FIRST COUNT | gen FIRST COUNT [KIND] | answer"
+                "compare lists FIRST COUNT [KIND] | day [FRAMES [SEED]] | nearest FIRST COUNT | nearest-lines | loud FIRST COUNT | load-lines | settings FIRST COUNT | settings-lines | write FIRST COUNT | write-lines | loads FIRST COUNT | translated FIRST COUNT FOLDER [KIND] | gen FIRST COUNT [KIND] | answer"
             );
             std::process::exit(2);
         }
