@@ -166,7 +166,7 @@ fn a_file_takes_its_place_when_it_is_whole() {
     let out = file(&dir, "out", OLD);
     // root alone may give it away
     let _ = chown(&out, Some(1), Some(1));
-    fs::set_permissions(&out, fs::Permissions::from_mode(0o604)).unwrap();
+    fs::set_permissions(&out, fs::Permissions::from_mode(0o606)).unwrap();
     let owner = || fs::metadata(&out).map(|m| (m.uid(), m.gid())).unwrap();
     let owned = owner();
     symlink("out", dir.join("link")).unwrap();
@@ -186,7 +186,7 @@ fn a_file_takes_its_place_when_it_is_whole() {
         assert!(dir.join(link).is_symlink());
     }
     let mode = |name: &str| fs::metadata(dir.join(name)).unwrap().permissions().mode() & 0o7777;
-    assert_eq!((mode("out"), owner()), (0o604, owned));
+    assert_eq!((mode("out"), owner()), (0o606, owned));
     // as any new file's
     file(&dir, "plain", b"");
     assert_eq!((mode("new"), mode("fresh")), (mode("plain"), mode("plain")));
@@ -202,14 +202,12 @@ fn a_file_that_can_not_take_its_place_is_removed() {
     fs::write(dir.join("out/in"), b"").unwrap();
     assert_eq!(ended(child), (1, format!("shofrakin: {out}: Is a directory (os error 21)\n")));
     assert_eq!(names(&dir), ["out"]);
-    // one that may not be written is not replaced; root may write any
-    let locked = file(&dir, "locked", OLD);
-    fs::set_permissions(&locked, fs::Permissions::from_mode(0o444)).unwrap();
-    if OpenOptions::new().write(true).open(&locked).is_err() {
-        let says = format!("shofrakin: {locked}: Permission denied (os error 13)\n");
-        assert_eq!(run(program(&["extract", MODEL, "-", &locked])), (1, vec![], says));
-    }
-    fs::remove_file(&locked).unwrap();
+    // one that may not be written is not replaced: the program that runs may not, not even by root
+    let own = dir.join("own");
+    fs::hard_link(PROGRAM, &own).unwrap();
+    let says = format!("shofrakin: {}: Text file busy (os error 26)\n", own.display());
+    assert_eq!(run(program(&["extract", MODEL, "-", own.to_str().unwrap()])), (1, vec![], says));
+    fs::remove_file(&own).unwrap();
     // none can be begun
     let nowhere = dir.join("none/out");
     let (status, _, said) = run(program(&["extract", MODEL, "-", nowhere.to_str().unwrap()]));
@@ -235,22 +233,20 @@ fn what_is_no_file_is_written_as_it_stands() {
     File::open(&pipe).unwrap().read_to_end(&mut bytes).unwrap();
     assert_eq!((ended(child).0, keys(&bytes)), (0, vec!["a".into(), "b".into()]));
     assert_eq!(run(program(&["extract", MODEL, &from, "/dev/null"])).0, 0);
-    // the standard output, a descriptor: what stands in the file before is not ours
-    for (to, fd) in [("/dev/stdout", 1), ("/dev/fd/7", 7), ("/dev/stderr", 2)] {
+    // the standard output, a descriptor, a link to one: what stands in the file before is not ours
+    let link = dir.join("link");
+    symlink("/proc/self/fd/8", &link).unwrap();
+    for (to, fd) in [("/dev/stdout", 1), ("/dev/fd/7", 7), (link.to_str().unwrap(), 8)] {
         let out = file(&dir, "out", b"x [ 1 ]\n");
         let mut c = shell(&format!("exec \"$0\" \"$@\" {fd}>>\"$OUT\""), &["extract", MODEL, &from, to]);
         c.env("OUT", &out);
         let (status, _, said) = run(c);
         assert_eq!(status, 0, "{said}");
-        let mut bytes = fs::read(&out).unwrap();
-        if to == "/dev/stderr" {
-            bytes.truncate(bytes.windows(10).position(|w| w == b"shofrakin:").unwrap());
-        }
-        assert_eq!(keys(&bytes), ["x", "a", "b"], "{to}");
+        assert_eq!(keys(&fs::read(&out).unwrap()), ["x", "a", "b"], "{to}");
     }
     let (status, out, _) = run(program(&["extract", MODEL, &from, "/dev/stdout"]));
     assert_eq!((status, keys(&out)), (0, vec!["a".into(), "b".into()]));
-    assert_eq!(names(&dir), ["from", "out", "pipe"]);
+    assert_eq!(names(&dir), ["from", "link", "out", "pipe"]);
 }
 
 /// To a device that takes nothing.
