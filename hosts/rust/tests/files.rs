@@ -257,8 +257,12 @@ fn full() -> File {
 /// To a pipe that nobody reads.
 fn unread() -> Stdio {
     let mut ended = Command::new("true").stdin(Stdio::piped()).spawn().unwrap();
-    let pipe = ended.stdin.take().unwrap();
+    let mut pipe = ended.stdin.take().unwrap();
     ended.wait().unwrap();
+    // a program that another test begins may have the other end for a moment
+    while pipe.write(&[0]).is_ok() {
+        std::thread::sleep(Duration::from_millis(1));
+    }
     pipe.into()
 }
 
