@@ -64,6 +64,11 @@ fn blank(c: u8) -> bool {
     c == b' ' || (9..=13).contains(&c)
 }
 
+/// Room for more numbers of a row, which may be as long as a file.
+fn reserve(row: &mut Vec<f32>, more: usize) -> Result<(), ArchiveError> {
+    row.try_reserve(more).map_err(|_| ArchiveError::Unread(io::ErrorKind::OutOfMemory.into()))
+}
+
 impl<R: Read> Archive<R> {
     /// An archive from its first byte on.
     pub fn new(input: R) -> Archive<R> {
@@ -216,6 +221,7 @@ impl<R: Read> Archive<R> {
             let n = left.min(1024);
             part.clear();
             self.bytes(n * width, &mut part)?;
+            reserve(row, n)?;
             if width == 4 {
                 row.extend(part.chunks_exact(4).map(|c| f32::from_le_bytes([c[0], c[1], c[2], c[3]])));
             } else {
@@ -260,6 +266,7 @@ impl<R: Read> Archive<R> {
                     if self.peek()?.is_none() {
                         return self.damaged(self.position(), format!("the archive ends {}", self.inside()));
                     }
+                    reserve(row, 1)?;
                     match word.parse() {
                         Ok(x) => row.push(x),
                         Err(_) => {

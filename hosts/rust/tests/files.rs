@@ -383,6 +383,20 @@ fn a_stream_that_no_memory_holds() {
     assert!(said.starts_with("shofrakin: utterance a, frame 0: refused, 8: no memory holds a room of that size\n"), "{said}");
 }
 
+/// In binary by its number of columns, in text by the numbers that come.
+#[test]
+fn a_row_that_no_memory_holds() {
+    let dir = folder("row");
+    let binary = [b"a \0BFM \x04\x01\0\0\0\x04\xff\xff\xff\x7f" as &[u8], &[0; 18 << 20]].concat();
+    let text = [b"a [" as &[u8], &b" 1".repeat(9 << 19)].concat();
+    for bytes in [binary, text] {
+        let from = file(&dir, "from", &bytes);
+        let (status, out, said) = run(shell("ulimit -v 20000; exec \"$0\" \"$@\"", &["extract", MODEL, &from, "-"]));
+        assert_eq!((status, out), (1, vec![]), "{said}");
+        assert!(said.ends_with("from: out of memory\n"), "{said}");
+    }
+}
+
 #[test]
 fn a_name_that_is_no_text() {
     let mut c = program(&["extract", MODEL, "-"]);
