@@ -39,7 +39,7 @@ impl From<u8> for Command {
 }
 
 /// The frame number of a block.
-#[tactic(auto, unfolding(crate::specs::Board::little_endian))]
+#[tactic(auto, unfolding(definition::specs::Reader::little_endian))]
 pub fn frame_number(block: &[u8]) -> usize
     requires { length block.now ≡ 16 }
     ensures { result ≡ frame_number block.now }
