@@ -1,5 +1,5 @@
 -- What the answers of inner functions say.
-use Rattle.std.specs.Prelude.{◌≡◌, Bool, not, ◌&&◌, Result, Ok, Err, List, [], ℕ, ◌+◌, ◌≤◌, min, length, eqb, Float}
+use Rattle.std.specs.Prelude.{◌≡◌, Bool, true, false, not, ◌&&◌, Result, Ok, Err, List, [], ℕ, ◌+◌, ◌≤◌, min, length, eqb, Float}
 use Rattle.std.specs.Float.{Format}
 use Rattle.floats.specs.Operators.{zero₆₄}
 use Rattle.definition.specs.declared.refusal.Refusal.{Refusal}
@@ -7,9 +7,37 @@ use Rattle.definition.specs.Number.{number_of}
 use Rattle.definition.specs.Reader.{Got, read, refused}
 use Rattle.definition.specs.Text as T
 use Rattle.definition.specs.Text.{space, last, to_nearest}
+use Rattle.kaldi_text.specs.declared.Kind.{Kind}
+use Rattle.kaldi_text.specs.declared.Kind.TheVariants as K
 use Rattle.kaldi_text.specs.declared.Power.{Power}
 use Rattle.kaldi_text.specs.declared.types.Decimal.{Decimal}
 use Rattle.kaldi_text.specs.declared.Row.{Row}
+
+-- ---- kinds of bytes
+
+abbrev pub is_digit : Kind → Bool
+is_digit K.Digit = true
+is_digit k = false
+
+abbrev pub is_sign : Kind → Bool
+is_sign (K.Sign minus) = true
+is_sign k = false
+
+abbrev pub is_minus : Kind → Bool
+is_minus (K.Sign minus) = minus
+is_minus k = false
+
+abbrev pub is_point : Kind → Bool
+is_point K.Point = true
+is_point k = false
+
+abbrev pub is_exponent : Kind → Bool
+is_exponent K.Exponent = true
+is_exponent k = false
+
+abbrev pub is_blank : Kind → Bool
+is_blank K.Blank = true
+is_blank k = false
 
 -- a blank that ends no row
 abbrev pub gap : ℕ → Bool

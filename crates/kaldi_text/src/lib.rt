@@ -10,7 +10,7 @@ ghost use Rattle.definition.specs.Reader.{read, run, here};
 ghost use Rattle.definition.specs.Text.{sign, digits, fraction, digits_value, exponent, to_nearest, number, space, stop, skip, row, line, bracket, ending, cmvn_rows, cmvn};
 ghost use Rattle.kaldi_text.specs.Got.{got, given, peeked};
 ghost use Rattle.kaldi_text.specs.Answers.{cmvn_of, cmvn_in, RowIn, cells};
-ghost use Rattle.kaldi_text.specs.Steps.{gap, capped, power_of, nearest_of, Outlines};
+ghost use Rattle.kaldi_text.specs.Steps.{is_digit, is_sign, is_minus, is_point, is_exponent, is_blank, gap, capped, power_of, nearest_of, Outlines};
 
 mod types;
 
@@ -25,10 +25,41 @@ const MOST_DIGITS: u64 = 9_007_199_254_740_992;
 
 // ---- bytes
 
+/// What a byte is in a number: a sign says whether it is a minus.
+#[derive(Clone, Copy, Debug, PartialEq, Eq)]
+pub enum Kind {
+    Digit,
+    Sign { minus: bool },
+    Point,
+    Exponent,
+    Blank,
+    Other,
+}
+
+#[tactic(auto, unfolding(definition::specs::Text::space))]
+fn kind_of(b: u8) -> Kind
+    ensures digit { is_digit result ≡ within 48 57 b }
+    ensures sign { is_sign result ≡ (eqb b 43 || eqb b 45) }
+    ensures minus { is_minus result ≡ eqb 45 b }
+    ensures point { is_point result ≡ eqb 46 b }
+    ensures exponent { is_exponent result ≡ (eqb b 69 || eqb b 101) }
+    ensures blank { is_blank result ≡ space b }
+{
+    match b {
+        b'0'..=b'9' => Kind::Digit,
+        b'+' => Kind::Sign { minus: false },
+        b'-' => Kind::Sign { minus: true },
+        b'.' => Kind::Point,
+        b'e' | b'E' => Kind::Exponent,
+        b' ' | 9..=13 => Kind::Blank,
+        _ => Kind::Other,
+    }
+}
+
 fn is_digit(b: u8) -> bool
     ensures { result ≡ within 48 57 b }
 {
-    matches!(b, b'0'..=b'9')
+    matches!(kind_of(b), Kind::Digit)
 }
 
 pub fn digit_value(b: u8) -> u64
@@ -38,11 +69,10 @@ pub fn digit_value(b: u8) -> u64
     u64::from(b.saturating_sub(b'0'))
 }
 
-#[tactic(auto, unfolding(definition::specs::Text::space))]
 pub fn is_space(b: u8) -> bool
     ensures { result ≡ space b }
 {
-    matches!(b, b' ' | 9..=13)
+    matches!(kind_of(b), Kind::Blank)
 }
 
 // A blank that ends no row.
@@ -164,6 +194,19 @@ impl<'a> TextReader<'a> {
         self.src.get(self.at).copied()
     }
 
+    // What the next byte is: past the end, `Other`.
+    #[tactic(auto, unfolding(definition::specs::Reader::here))]
+    fn kind(&self) -> Kind
+        ensures digit { is_digit result ≡ here (within 48 57) self.now.src.now self.now.at }
+        ensures sign { is_sign result ≡ here (λ b. eqb b 43 || eqb b 45) self.now.src.now self.now.at }
+        ensures minus { is_minus result ≡ here (eqb 45) self.now.src.now self.now.at }
+        ensures point { is_point result ≡ here (eqb 46) self.now.src.now self.now.at }
+        ensures exponent { is_exponent result ≡ here (λ b. eqb b 69 || eqb b 101) self.now.src.now self.now.at }
+        ensures blank { is_blank result ≡ here space self.now.src.now self.now.at }
+    {
+        self.peek().map_or(Kind::Other, kind_of)
+    }
+
     // Whether a row ends here.
     #[tactic(auto, unfolding(definition::specs::Reader::here))]
     fn stops(&self) -> bool
@@ -236,14 +279,10 @@ impl<'a> TextReader<'a> {
         ensures value { read result self.new.at ≡ sign self.old.src.now self.old.at }
         ensures same_bytes { self.new.src.now ≡ self.old.src.now }
     {
-        match self.peek() {
-            Some(b'+') => {
+        match self.kind() {
+            Kind::Sign { minus } => {
                 self.at += 1;
-                false
-            }
-            Some(b'-') => {
-                self.at += 1;
-                true
+                minus
             }
             _ => false,
         }
@@ -256,11 +295,12 @@ impl<'a> TextReader<'a> {
         ensures same_bytes { self.new.src.now ≡ self.old.src.now }
         ensures in_bounds { length result.now ≤ length self.old.src.now }
     {
-        if self.peek() == Some(b'.') {
-            self.at += 1;
-            self.digits()
-        } else {
-            &[]
+        match self.kind() {
+            Kind::Point => {
+                self.at += 1;
+                self.digits()
+            }
+            _ => &[],
         }
     }
 
@@ -271,8 +311,8 @@ impl<'a> TextReader<'a> {
         ensures same_bytes { self.new.src.now ≡ self.old.src.now }
         ensures bound { IfOk result (λ p. p.magnitude ≤ 100000) }
     {
-        match self.peek() {
-            Some(b'e' | b'E') => {
+        match self.kind() {
+            Kind::Exponent => {
                 self.at += 1;
                 let under = self.sign();
                 let digits = self.digits();
