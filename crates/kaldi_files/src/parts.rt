@@ -12,13 +12,13 @@ pub struct Gmm<'a> {
     pub weights: Numbers<'a>,
     pub means_invvars: Matrix<'a>,
     pub inv_vars: Matrix<'a>,
-    ghost rows_agree: { means_invvars.rows ≡ inv_vars.rows },
-    ghost cols_agree: { means_invvars.cols ≡ inv_vars.cols },
-    ghost weights_agree: { weights.count ≡ means_invvars.rows },
-    ghost gauss_low: { 1 ≤ means_invvars.rows },
-    ghost gauss_high: { means_invvars.rows ≤ max_gauss },
-    ghost dim_low: { 1 ≤ means_invvars.cols },
-    ghost dim_high: { means_invvars.cols ≤ max_feat },
+    pub ghost rows_agree: { means_invvars.rows ≡ inv_vars.rows },
+    pub ghost cols_agree: { means_invvars.cols ≡ inv_vars.cols },
+    pub ghost weights_agree: { weights.count ≡ means_invvars.rows },
+    pub ghost gauss_low: { 1 ≤ means_invvars.rows },
+    pub ghost gauss_high: { means_invvars.rows ≤ max_gauss },
+    pub ghost dim_low: { 1 ≤ means_invvars.cols },
+    pub ghost dim_high: { means_invvars.cols ≤ max_feat },
 }
 
 /// The extractor: its sizes, a reader at its first M and one at its first Σ⁻¹, and the prior's offset.

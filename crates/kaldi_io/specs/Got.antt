@@ -14,6 +14,16 @@ abbrev pub got : {A B : Type 0} → (A → B) → Result A Refusal → ℕ → G
 got f (Ok a) at = read (f a) at
 got f (Err e) at = refused (number_of e)
 
+-- the same of an item that is given with the place behind it
+abbrev pub got_at : {A B : Type 0} → (A → B) → Result (A × ℕ) Refusal → Got B
+got_at f (Ok r) = read (f r.0) r.1
+got_at f (Err e) = refused (number_of e)
+
+-- of one that is passed over: the place behind it
+abbrev pub passed : Result ℕ Refusal → Got (Unit {0})
+passed (Ok next) = read tt next
+passed (Err e) = refused (number_of e)
+
 abbrev pub itself : {A : Type 0} → A → A
 itself a = a
 

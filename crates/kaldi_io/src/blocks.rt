@@ -19,8 +19,8 @@ pub struct Numbers<'a> {
     pub bytes: &'a [u8],
     pub width: Width,
     pub count: usize,
-    ghost whole: { Whole width count bytes.now },
-    ghost finite: { AllFinite (format_of width) count bytes.now },
+    pub ghost whole: { Whole width count bytes.now },
+    pub ghost finite: { AllFinite (format_of width) count bytes.now },
 }
 
 /// A matrix, row after row.
@@ -29,7 +29,7 @@ pub struct Matrix<'a> {
     pub rows: usize,
     pub cols: usize,
     pub numbers: Numbers<'a>,
-    ghost sized: { numbers.count ≡ rows * cols },
+    pub ghost sized: { numbers.count ≡ rows * cols },
 }
 
 /// A symmetric matrix: its lower triangle, row after row.
@@ -37,7 +37,7 @@ pub struct Matrix<'a> {
 pub struct Packed<'a> {
     pub dim: usize,
     pub numbers: Numbers<'a>,
-    ghost sized: { numbers.count ≡ triangle dim },
+    pub ghost sized: { numbers.count ≡ triangle dim },
 }
 
 // ---- numbers at a width

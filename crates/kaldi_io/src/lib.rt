@@ -3,6 +3,7 @@
 #![tactic(auto)]
 
 pub mod blocks;
+mod items;
 pub mod reader;
 pub mod widths;
 
