@@ -11,6 +11,7 @@ use Rattle.definition.specs.declared.RingLengths.{RingLengths}
 use Rattle.definition.specs.Model.{Model}
 use Rattle.definition.specs.Machine.{Call, push, finish, change, forget, set_window, fetch, Machine, moved, does, answer, told_by, answers_from, fresh, answers, push_tests, change_tests, window_tests, fetch_tests}
 use Rattle.try_play.specs.Totals.{refusal_of}
+use Rattle.try_play.specs.Theorems.{AllCounted}
 
 first_below : (ts : List (Bool × ℕ)) → all_of (λ t. ltb t.1 34) ts ≡ true → ltb (first_of ts) 34 ≡ true
 unfolding first_of all_of
@@ -33,6 +34,6 @@ module _ (M : Model) (z : RingLengths) where
   from_below k [] = refl
   from_below k (c ∷ cs) = and_both _ _ (move_below k c) (from_below (moved k (does M z k c)) cs)
 
-  pub all_counted : (cs : List Call) → all_of (λ a. ltb (refusal_of a) 34) (answers M z cs) ≡ true
-  unfolding answers
-  all_counted cs = from_below (fresh M) cs
+pub all_counted : AllCounted
+unfolding answers
+all_counted M z cs = from_below M z (fresh M) cs
