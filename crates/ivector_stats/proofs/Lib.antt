@@ -1,6 +1,6 @@
 -- Laws that the proofs of the functions cite.
-mod Gaussians
-mod Rescaling
+pub mod Gaussians
+pub mod Rescaling
 mod Diagonal
 mod Fresh
 mod Solving
