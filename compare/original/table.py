@@ -18,10 +18,11 @@ WHY = {
     LOGARITHM: 'The scope sets `ln` and `exp` bit for bit; the original calls the platform\'s. The same places as in compare\'s copy.',
     START: 'Request 9: a start that solves the equation is kept, where the original divides 0 by 0. The same place as in compare\'s copy.',
     NAN: 'Where the original panics at a NaN likelihood, a NaN stands last and the lower index first. The same place as in compare\'s copy.',
-    METHOD: 'Rust\'s `sqrt`, `abs`, `min` and `max` of floats are here functions of `floats`, proved equal to IEEE 754\'s. Of two equal numbers Rust leaves open which `min` or `max` '
-            'gives (a zero\'s sign); here it is the first.',
+    METHOD: 'Rust\'s `sqrt`, `abs`, `min` and `max` of a float are here the functions of `floats` of those names, proved equal to their definitions: the root rounded, the number without '
+            'its sign, the other number where one is a NaN. Of two equal numbers Rust leaves open which one `min` or `max` gives (a zero\'s sign); here it is the first.',
     CAST: '`as` between `f32` and `f64` is exact or rounds to nearest, NaN to NaN; `to_bits` is the bit pattern. Rattle names them.',
-    COUNT: 'The count of turns, never negative within the limits, as `usize`: the test that it is not negative goes with the sign.',
+    COUNT: 'The count of turns begins at 0, rises by 1 and ends at 133 at most; as a `usize` it needs no test of its sign. The option that it is compared with is not negative within '
+           'the limits.',
     ZIP: '`a.iter_mut().zip(b)` visits the places of both in order; by the index of `a` the same, where `b` is as long, which the prover sees to.',
     BORROW: 'A row that a `let` borrows once is borrowed at each read: between them nothing writes to it.',
     DROP: 'Rattle asks a type to say that its values may be let go. No step is added.',
@@ -33,6 +34,8 @@ DEPS = 'loops floats definition basics packed_matrix linear leading posteriors d
 
 IVECTOR = 'ivector.rs'
 SILENCE = 'silence_weighting.rs'
+# the branch: the files whose functions are to be here
+BRANCH = [IVECTOR, SILENCE, 'kaldi_io.rs']
 
 
 def item(name, at, source=IVECTOR, open=False, subs=(), alloc=()):
@@ -149,6 +152,9 @@ ITEMS = [
     item('IvectorOptions.default', 'impl Default for IvectorOptions {'),
     item('IvectorInfo', 'pub struct IvectorInfo {', subs=[
         (DROP, 'pub struct IvectorInfo {', '#[derive(Drop)]\npub struct IvectorInfo {'),
+    ]),
+    impl('IvectorInfo', 'impl IvectorInfo {', [
+        item('ivector_dim', 'pub fn ivector_dim('),
     ]),
     item('IvectorStream', "pub struct IvectorStream<'a> {", subs=[
         (DROP, "pub struct IvectorStream<'a> {", "#[derive(Drop)]\npub struct IvectorStream<'a> {"),

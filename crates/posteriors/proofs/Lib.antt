@@ -1,6 +1,6 @@
 -- The laws that the proofs of the functions cite. Apart and Selecting are for readers.
 mod Maximum
-mod Pruning
+pub mod Pruning
 mod Gathering
 mod Choosing
 mod Counting

@@ -13,7 +13,7 @@ use Rattle.leading.specs.Steps.{held}
 use Rattle.leading.proofs.Rooms.{held_at}
 
 module _ (ps : List Post) (cut tot last : Float) where
-  turn : (m : ℕ) → 1 < m → last ≡ (get_or ps (m - 1) (0, nan)).1 → lt last cut ≡ true → pruned ps cut (m - 1) (tot -₃₂ last) ≡ pruned ps cut m tot
+  pub turn : (m : ℕ) → 1 < m → last ≡ (get_or ps (m - 1) (0, nan)).1 → lt last cut ≡ true → pruned ps cut (m - 1) (tot -₃₂ last) ≡ pruned ps cut m tot
   unfolding pruned
   turn zero h e t = absurd (not-suc-le-zero h)
   turn (suc zero) h e t = absurd (not-suc-le-zero (le_of_suc-le-suc h))
@@ -22,7 +22,7 @@ module _ (ps : List Post) (cut tot last : Float) where
       let e' : last ≡ (get_or ps (suc m) (0, nan)).1 = rw o at e in
       rw (o, ← e', t)
 
-  keep : (m : ℕ) → 1 < m → last ≡ (get_or ps (m - 1) (0, nan)).1 → lt last cut ≡ false → (m, tot) ≡ pruned ps cut m tot
+  pub keep : (m : ℕ) → 1 < m → last ≡ (get_or ps (m - 1) (0, nan)).1 → lt last cut ≡ false → (m, tot) ≡ pruned ps cut m tot
   unfolding pruned
   keep zero h e t = absurd (not-suc-le-zero h)
   keep (suc zero) h e t = absurd (not-suc-le-zero (le_of_suc-le-suc h))
