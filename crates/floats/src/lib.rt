@@ -9,7 +9,7 @@ ghost use Rattle.std.specs.Float.Ieee.Scale.{finite};
 ghost use Rattle.floats.specs.Narrow.{narrowed};
 ghost use Rattle.floats.specs.Sqrt.{square_root};
 ghost use Rattle.floats.specs.Ln.{chained, ln_sum, ln_of, ln_narrow};
-ghost use Rattle.floats.specs.Exp.{series, squares, exp_of};
+ghost use Rattle.floats.specs.Exp.{series, squares, wide_exp, exp_of};
 ghost use Rattle.floats.specs.Extremes.{larger, smaller, absolute};
 ghost use Rattle.floats.specs.Decimal.{scaled, tens};
 ghost use Rattle.floats.specs.Steps.{mag_bits, IsSplit};
@@ -193,15 +193,30 @@ fn squared(h: f64) -> f64
     f * f
 }
 
-// The exponential of x: 0 below -104.
-pub fn exp(x: f32) -> f32
+// What the exponential of x is narrowed from. With no test and no narrowing in it, so that of several at once it is compiled to vector instructions.
+pub fn exp_wide(x: f32) -> f64
+    ensures { result ≡ wide_exp x }
+{
+    let y = std::num::f32_to_f64_with_nan(x) / 128.0;
+    squared(powers(y))
+}
+
+// The exponential of x, made from that: 0 below -104.
+pub fn exp_narrow(x: f32, wide: f64) -> f32
+    requires { wide ≡ wide_exp x }
     ensures { result ≡ exp_of x }
 {
     if x < -104.0 {
         return 0.0;
     }
-    let y = std::num::f32_to_f64_with_nan(x) / 128.0;
-    narrow(squared(powers(y)))
+    narrow(wide)
+}
+
+// The exponential of x.
+pub fn exp(x: f32) -> f32
+    ensures { result ≡ exp_of x }
+{
+    exp_narrow(x, exp_wide(x))
 }
 
 // The larger of a and b, or the other where one is a NaN.

@@ -1,15 +1,17 @@
 -- For readers: the sorted list is in order. No posterior is ahead of the one in front of it, and so of none in front of it.
-use mathlib.Core.Path.{◌≡◌, refl}
+use mathlib.Core.Path.{◌≡◌, refl, sym, ◌∙◌}
 use mathlib.Core.Bool.{Bool, true, false, not, ◌&&◌, ◌||◌, true≢false, false≢true}
 use mathlib.Core.List.{List, [], ◌∷◌}
 use Prim.Native.Nat.{ℕ, zero, suc, ◌<◌}
 use native.Mathlib.Nat.{not-suc-le-zero, le_of_suc-le-suc}
+use native.Mathlib.Omega.{arith}
 use lib.ListN.{length, get_or, take}
 use lib.Ieee.{is_nan, lt}
 use Rattle.loops.proofs.Choose.{by-test}
 use Rattle.loops.proofs.Folds.{foldl_keeps}
 use Rattle.floats.proofs.Order.{lt_asym, not-lt_trans}
 use Rattle.definition.specs.Posteriors.{Post, ahead, insert, sorted}
+use Rattle.leading.specs.Steps.{into}
 
 -- ---- the order of posteriors
 
@@ -39,7 +41,7 @@ pub data Ordered : List Post → Type 0 where
   one : {p : Post} → Ordered (p ∷ [])
   more : {p q : Post} {ps : List Post} → ahead q p ≡ false → Ordered (q ∷ ps) → Ordered (p ∷ q ∷ ps)
 
-insert_ordered : (p : Post) {ps : List Post} → Ordered ps → Ordered (insert p ps)
+pub insert_ordered : (p : Post) {ps : List Post} → Ordered ps → Ordered (insert p ps)
 unfolding insert
 insert_ordered p none = one
 insert_ordered p (one {p = x}) = by-test (ahead p x) (λ t. rw t (more (ahead_asym p x t) one)) (λ t. rw t (more t one))
@@ -47,9 +49,12 @@ insert_ordered p (more {p = x} {q = y} h o) =
     by-test (ahead p x) (λ t. rw t (more (ahead_asym p x t) (more h o)))
     (λ t. by-test (ahead p y) (λ u. rw (t, u) (more t (rw u at (insert_ordered p o)))) (λ u. rw (t, u) (more h (rw u at (insert_ordered p o)))))
 
+pub into_ordered : {l : List Post} (ps : List Post) → Ordered l → Ordered (into l ps)
+into_ordered {l} ps o = foldl_keeps (λ qs p. insert p qs) Ordered l ps (λ qs p. insert_ordered p) o
+
 pub sort_ordered : (ps : List Post) → Ordered (sorted ps)
 unfolding sorted
-sort_ordered ps = foldl_keeps (λ qs p. insert p qs) Ordered [] ps (λ qs p. insert_ordered p) none
+sort_ordered ps = into_ordered ps none
 
 -- ---- nor of any in front of it
 
@@ -73,3 +78,13 @@ behind_any d i (suc j) one h l = absurd (not-suc-le-zero (le_of_suc-le-suc l))
 behind_any d i zero (more e o) h l = absurd (not-suc-le-zero h)
 behind_any d zero (suc j) (more {p = p} {q = q} e o) h l = behind-first d j (more {p = p} {q = q} e o) (le_of_suc-le-suc l)
 behind_any d (suc i) (suc j) (more e o) h l = behind_any d i j o (le_of_suc-le-suc h) (le_of_suc-le-suc l)
+
+-- what is behind one that another is ahead of, or level with it, that other is ahead of
+pub through : (p x y : Post) → ahead p x ≡ true → ahead y x ≡ false → ahead p y ≡ true
+through p x y e f = by-test (ahead p y) (λ t. t) (λ t. absurd (true≢false (sym e ∙ not-ahead_trans p y x t f)))
+
+-- a list of which none is ahead of the one in front of it is in order
+pub steps_ordered : (d : Post) (ps : List Post) → ((i : ℕ) → suc i < length ps → ahead (get_or ps (suc i) d) (get_or ps i d) ≡ false) → Ordered ps
+steps_ordered d [] h = none
+steps_ordered d (p ∷ []) h = one
+steps_ordered d (p ∷ q ∷ ps) h = more (h 0 (omega arith)) (steps_ordered d (q ∷ ps) (λ i l. h (suc i) (omega arith)))

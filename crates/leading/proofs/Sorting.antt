@@ -1,6 +1,6 @@
 -- Laws of insertion. Of a sorted list only the first k are wanted, so only the first k need be kept on the way.
 use mathlib.Core.Path.{◌≡◌, refl, sym, ap, ◌∙◌}
-use mathlib.Core.List.{List, [], ◌∷◌, foldl}
+use mathlib.Core.List.{List, [], ◌∷◌}
 use Prim.Native.Nat.{ℕ, zero, suc, ◌+◌}
 use native.Mathlib.Omega.{arith}
 use lib.ListN.{length, take}
@@ -8,10 +8,7 @@ use lib.Seq.{take-take}
 use Rattle.loops.proofs.Choose.{by-test}
 use Rattle.loops.proofs.Parts.{take_cons}
 use Rattle.definition.specs.Posteriors.{Post, ahead, insert}
-
--- those of ps inserted into l, one after the other
-abbrev pub into : List Post → List Post → List Post
-into l ps = foldl (λ qs p. insert p qs) l ps
+pub use Rattle.leading.specs.Steps.{into}
 
 -- the first k of an insertion depend only on the first k before it
 pub take-insert : (k : ℕ) (p : Post) (l : List Post) → take k (insert p (take k l)) ≡ take k (insert p l)

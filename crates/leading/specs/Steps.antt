@@ -1,8 +1,8 @@
 -- What the contracts say besides the definition: `held` of the rooms that a caller lends. The rest is not for readers.
-use Rattle.std.specs.Prelude.{◌≡◌, true, false, ℕ, zero, suc, ◌+◌, ◌<◌, ◌≤◌, get_or, take, Float}
-use mathlib.Core.List.{List, [], ◌∷◌, zip_with}
+use Rattle.std.specs.Prelude.{◌≡◌, Option, None, Some, Bool, true, false, not, ℕ, zero, suc, ◌+◌, ◌<◌, ◌≤◌, get_or, take, Float}
+use mathlib.Core.List.{List, [], ◌∷◌, foldl, zip_with}
 use Rattle.floats.specs.Operators.{at}
-use Rattle.definition.specs.Posteriors.{Post, ahead}
+use Rattle.definition.specs.Posteriors.{Post, ahead, insert}
 
 abbrev pub post : ℕ → Float → Post
 post g p = (g, p)
@@ -10,6 +10,24 @@ post g p = (g, p)
 -- the posteriors that the first n places of two rooms hold: Gaussians in one, values in the other
 unfoldable pub held : ℕ → List ℕ → List Float → List Post
 held n chosen posts = take n (zip_with post chosen posts)
+
+-- whether a candidate stays: it is not behind the bound, if there is one
+abbrev pub stays : Option Float → Post → Bool
+stays None p = true
+stays (Some v) p = not (ahead (0, v) p)
+
+-- whether x is behind a posterior, or ahead of it, if there is one
+abbrev pub is_after : Option Float → Float → Bool
+is_after None x = true
+is_after (Some v) x = ahead (0, v) (0, x)
+
+abbrev pub is_before : Option Float → Float → Bool
+is_before None x = true
+is_before (Some v) x = ahead (0, x) (0, v)
+
+-- those of ps inserted into l, one after the other
+abbrev pub into : List Post → List Post → List Post
+into l ps = foldl (λ qs p. insert p qs) l ps
 
 -- p put down at place j, what stood there at the next place, and so on up to n: the last falls off
 unfoldable pub slid : {A : Type 0} → ℕ → ℕ → A → List A → List A

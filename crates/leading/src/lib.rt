@@ -1,12 +1,13 @@
-// The leading posteriors of those met so far, in their order, in lent rooms: a new one goes to its place, and the last falls off a full list.
+// The leading posteriors, in lent rooms. Candidates are held unordered, as they come; a bound that rises leaves those behind it out (`choose`, `keep`). What
+// is left of them at the end is put in order (`order`): a new one goes to its place, and the last falls off a full list.
 #![tactic(auto)]
 
-ghost use Rattle.std.specs.Prelude.{◌≡◌, true, false, ℕ, ◌+◌, ◌-◌, ◌<◌, ◌≤◌, length, get_or, set, take};
+ghost use Rattle.std.specs.Prelude.{◌≡◌, true, false, Some, IfSome, List, ◌++◌, ℕ, ◌+◌, ◌-◌, ◌<◌, ◌≤◌, length, get_or, set, take, drop};
 ghost use Rattle.loops.specs.Lists.{those};
 ghost use Rattle.floats.specs.Operators.{f32, at};
 ghost use Rattle.definition.specs.Posteriors.{ahead as is_ahead, insert as insert_of};
-ghost use Rattle.leading.specs.Steps.{held, Falling, Place, Moved, slid};
-ghost use Rattle.leading.specs.Rooms.{Places, SameChosen};
+ghost use Rattle.leading.specs.Steps.{held, stays, is_after, is_before, into, Falling, Place, Moved, slid};
+ghost use Rattle.leading.specs.Rooms.{Places, SameChosen, Holds, leads};
 
 /// The rooms of a selection: a place for each of its Gaussians, and one for the Gaussian's posterior.
 #[derive(Drop)]
@@ -125,7 +126,7 @@ fn settle(g: usize, p: f32, last: usize, chosen: &mut [usize], posts: &mut [f32]
 // Put in among the first n; past num_gselect the last falls off. That the rooms have places, and are the same ones afterwards, are clauses by a word each: in
 // the struct's type they would be no plainer, since a ghost field beside a `&mut` is not covered. That at most num_gselect are held is one comparison of the
 // count: a name for it would be no shorter.
-pub fn insert(g: usize, p: f32, n: usize, num_gselect: usize, chosen: &mut Chosen<'_>) -> usize
+fn insert(g: usize, p: f32, n: usize, num_gselect: usize, chosen: &mut Chosen<'_>) -> usize
     requires few { n ≤ num_gselect }
     requires places { Places num_gselect chosen.old }
     requires in_order { Falling n chosen.old.posts.now }
@@ -142,4 +143,230 @@ pub fn insert(g: usize, p: f32, n: usize, num_gselect: usize, chosen: &mut Chose
         return n;
     }
     n
+}
+
+// The first n candidates put in among the `already` that are chosen, one after the other: only here are they ordered. The lists of the candidates go with n, since
+// more of them is lent than is in use.
+pub fn order(
+    n: usize,
+    gauss: &[usize],
+    posts: &[f32],
+    already: usize,
+    num_gselect: usize,
+    chosen: &mut Chosen<'_>,
+) -> usize
+    requires candidates { (n ≤ length gauss.now) × (n ≤ length posts.now) }
+    requires few { already ≤ num_gselect }
+    requires places { Places num_gselect chosen.old }
+    requires in_order { Falling already chosen.old.posts.now }
+    ensures ordered { held result chosen.new.gauss.now chosen.new.posts.now ≡ take num_gselect (into (held already chosen.old.gauss.now chosen.old.posts.now) (held n gauss.now posts.now)) }
+    ensures in_order { Falling result chosen.new.posts.now }
+    ensures most { result ≤ num_gselect }
+    ensures loans { SameChosen chosen.old chosen.new }
+{
+    let mut count = already;
+    // By index: a candidate stands in two lists.
+    for j in 0..n {
+        count = insert(gauss[j], posts[j], count, num_gselect, chosen);
+    }
+    count
+}
+
+// How many of the first n candidates are not behind v.
+fn staying(v: f32, n: usize, posts: &[f32]) -> usize
+    requires { n ≤ length posts.now }
+    ensures { (gauss : List ℕ) → n ≤ length gauss → result ≡ length (those (stays (Some v)) (held n gauss posts.now)) }
+{
+    let mut count = 0;
+    // By index and with no branch, so that it is compiled to vector instructions.
+    for j in 0..n {
+        count += !ahead(v, posts[j]) as usize;
+    }
+    count
+}
+
+// The place of the candidate that is looked at in turn t. First that of the one that is sought where they rise; then of the one where they fall, those behind
+// it, and those in front.
+fn looked_at(t: usize, num_gselect: usize, n: usize) -> usize
+    requires { (0 < num_gselect) × (num_gselect ≤ n) × (t ≤ n) }
+    ensures { result < n }
+{
+    let behind = n - num_gselect;
+    if t == 0 {
+        behind
+    } else if t <= behind + 1 {
+        num_gselect - 1 + (t - 1)
+    } else {
+        t - behind - 2
+    }
+}
+
+// Whether x is behind the one in front, if there is one.
+fn follows(x: f32, front: Option<f32>) -> bool
+    ensures { result ≡ is_after front x }
+{
+    match front {
+        Some(v) => ahead(v, x),
+        None => true,
+    }
+}
+
+// Whether x is ahead of the one behind it, if there is one.
+fn precedes(x: f32, back: Option<f32>) -> bool
+    ensures { result ≡ is_before back x }
+{
+    match back {
+        Some(v) => ahead(x, v),
+        None => true,
+    }
+}
+
+// A posterior that num_gselect of the first n candidates are not behind, if they are more: that of the last of the leading ones, if one has it alone. Of those
+// looked at, `back` is the foremost that has so many not behind it, and `front` the last that has fewer; the walk is left from within where it has just as many.
+fn find_bound(num_gselect: usize, n: usize, posts: &[f32]) -> Option<f32>
+    requires { n ≤ length posts.now }
+    ensures { IfSome result (λ v. (gauss : List ℕ) → n ≤ length gauss → num_gselect ≤ length (those (stays (Some v)) (held n gauss posts.now))) }
+{
+    if num_gselect == 0 || n <= num_gselect {
+        return None;
+    }
+    let mut front = None;
+    let mut back = None;
+    // By index: which candidate is looked at is reckoned.
+    for t in 0..n + 1 {
+        let x = posts[looked_at(t, num_gselect, n)];
+        if follows(x, front) && precedes(x, back) {
+            let count = staying(x, n, posts);
+            if count == num_gselect {
+                return Some(x);
+            }
+            if count > num_gselect {
+                back = Some(x);
+            } else {
+                front = Some(x);
+            }
+        }
+    }
+    back
+}
+
+// Of the candidates from place `first` up to `end` those behind the bound are left out, if there is a bound, and the others moved together. The answer is where they
+// end. By index, and with no branch in the loop.
+pub fn keep(
+    bound: Option<f32>,
+    first: usize,
+    end: usize,
+    gauss: &mut [usize],
+    posts: &mut [f32],
+) -> usize
+    requires { (first ≤ end) × (end ≤ length gauss.old) × (end ≤ length posts.old) }
+    ensures kept { held result gauss.new posts.new ≡ held first gauss.old posts.old ++ those (stays bound) (drop first (held end gauss.old posts.old)) }
+    ensures fewer { (first ≤ result) × (result ≤ end) }
+{
+    let Some(v) = bound else {
+        return end;
+    };
+    let mut n = first;
+    for j in first..end {
+        let g = gauss[j];
+        let p = posts[j];
+        gauss[n] = g;
+        posts[n] = p;
+        n += !ahead(v, p) as usize;
+    }
+    n
+}
+
+// What a choice leaves: how many candidates, and the bound that those are not behind, if there is one.
+#[derive(Clone, Copy)]
+struct Choice {
+    count: usize,
+    bound: Option<f32>,
+}
+
+// Of the first n candidates the leading num_gselect are chosen, with those level with the last of them. They stay in the order in which they came.
+fn choose(num_gselect: usize, n: usize, gauss: &mut [usize], posts: &mut [f32]) -> Choice
+    requires { (n ≤ length gauss.old) × (n ≤ length posts.old) }
+    ensures chosen { held result.count gauss.new posts.new ≡ those (stays result.bound) (held n gauss.old posts.old) }
+    ensures enough { IfSome result.bound (λ v. num_gselect ≤ length (those (stays (Some v)) (held n gauss.old posts.old))) }
+    ensures fewer { result.count ≤ n }
+{
+    let bound = find_bound(num_gselect, n, posts);
+    let count = keep(bound, 0, n, gauss, posts);
+    Choice { count, bound }
+}
+
+// What a selection holds on the way: so many candidates, so many that are in order among the chosen, and the bound, if there is one.
+#[derive(Clone, Copy)]
+pub struct Holding {
+    pub candidates: usize,
+    pub ordered: usize,
+    pub bound: Option<f32>,
+}
+
+// Room for more candidates: where more than 48 are held, the leading ones are chosen. Where more are left, since more are selected or are level with the last,
+// all go in order to the chosen, as they do at the end.
+pub fn make_room(
+    holding: Holding,
+    num_gselect: usize,
+    gauss: &mut [usize],
+    posts: &mut [f32],
+    chosen: &mut Chosen<'_>,
+) -> Holding
+    requires places { Places num_gselect chosen.old }
+    requires holds { Holds num_gselect holding gauss.old posts.old chosen.old }
+    ensures leading { leads num_gselect result gauss.new posts.new chosen.new ≡ leads num_gselect holding gauss.old posts.old chosen.old }
+    ensures holds { Holds num_gselect result gauss.new posts.new chosen.new }
+    ensures room { result.candidates ≤ 48 }
+    ensures loans { SameChosen chosen.old chosen.new }
+{
+    if holding.candidates <= 48 {
+        return holding;
+    }
+    let choice = choose(num_gselect, holding.candidates, gauss, posts);
+    if choice.count <= 48 {
+        return Holding {
+            candidates: choice.count,
+            ordered: holding.ordered,
+            bound: choice.bound,
+        };
+    }
+    let ordered = order(
+        choice.count,
+        gauss,
+        posts,
+        holding.ordered,
+        num_gselect,
+        chosen,
+    );
+    Holding {
+        candidates: 0,
+        ordered,
+        bound: None,
+    }
+}
+
+// The end: the leading ones are chosen, and only those are put in order. The answer is how many the chosen are.
+pub fn finish(
+    holding: Holding,
+    num_gselect: usize,
+    gauss: &mut [usize],
+    posts: &mut [f32],
+    chosen: &mut Chosen<'_>,
+) -> usize
+    requires places { Places num_gselect chosen.old }
+    requires holds { Holds num_gselect holding gauss.old posts.old chosen.old }
+    ensures finished { held result chosen.new.gauss.now chosen.new.posts.now ≡ leads num_gselect holding gauss.old posts.old chosen.old }
+    ensures most { result ≤ num_gselect }
+    ensures loans { SameChosen chosen.old chosen.new }
+{
+    let choice = choose(num_gselect, holding.candidates, gauss, posts);
+    order(
+        choice.count,
+        gauss,
+        posts,
+        holding.ordered,
+        num_gselect,
+        chosen,
+    )
 }

@@ -2,6 +2,7 @@
 mod Maximum
 pub mod Pruning
 mod Gathering
+mod Likely
 mod Choosing
 mod Counting
 pub mod Apart

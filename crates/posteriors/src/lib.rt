@@ -8,16 +8,16 @@ ghost use Rattle.std.specs.Prelude.{◌≡◌, IfSome, ◌||◌, true, false, Li
 ghost use Rattle.std.specs.Float.Ieee.{lt, neg};
 ghost use Rattle.loops.specs.Lists.{those};
 ghost use Rattle.loops.specs.Steps.{fill};
-ghost use Rattle.floats.specs.Operators.{◌*₃₂◌, f32, zero₃₂, at, sum₃₂};
+ghost use Rattle.floats.specs.Operators.{◌-₃₂◌, ◌*₃₂◌, f32, zero₃₂, at, sum₃₂};
 ghost use Rattle.floats.specs.Exp.{exp_of};
 ghost use Rattle.floats.specs.Ln.{ln_narrow};
 ghost use Rattle.definition.specs.Posteriors.{pruned, every, max_like, ranked, best_of, renormalised, nan_count};
 ghost use Rattle.leading.specs.Steps.{held};
 ghost use Rattle.leading.specs.Rooms.{Places, SameChosen};
-ghost use Rattle.posteriors.specs.Rooms.{Selected};
-ghost use Rattle.posteriors.specs.Steps.{Next, passes, place_or, above as above_of, least, top, joined};
+ghost use Rattle.posteriors.specs.Rooms.{Selected, Collects, Likely};
+ghost use Rattle.posteriors.specs.Steps.{Next, likelihoods as likelihoods_of, passes, place_or, above as above_of, least, top, joined};
 
-use leading::Chosen;
+use leading::{Chosen, Holding};
 
 // The likelihood of a difference d from the largest log-likelihood; the largest itself has one of the two zeros.
 fn likelihood(d: f32) -> f32
@@ -76,8 +76,171 @@ fn next(cutoff: Option<f32>, g: usize, loglikes: &[f32]) -> Option<usize>
     None
 }
 
-// The most likely of the Gaussians above the cutoff, or of all where there is none. A Gaussian's likelihood is computed before the one found before it
-// is put in: that one's place then waits for no exponential.
+// How many candidates are held, and the Gaussian that the walk goes on from.
+#[derive(Clone, Copy)]
+struct Collected {
+    count: usize,
+    next: usize,
+}
+
+// The Gaussians from g on that are above the cutoff, or all where there is none, put down as candidates from place `first` on, until the lists are full: each
+// with its log-likelihood's difference from the largest. The lists are as long as each other.
+fn collect(
+    cutoff: Option<f32>,
+    max_like: f32,
+    g: usize,
+    loglikes: &[f32],
+    first: usize,
+    gauss: &mut [usize],
+    likes: &mut [f32],
+) -> Collected
+    requires { (first ≤ length gauss.old) × (length likes.old ≡ length gauss.old) × (g ≤ length loglikes.now) }
+    ensures collected { Collects cutoff (λ l. l -₃₂ max_like) loglikes.now g first result.next result.count gauss.old likes.old gauss.new likes.new }
+    ensures places { (first ≤ result.count) × (result.count ≤ length gauss.old) × (result.next ≤ length loglikes.now) }
+    ensures on { first < length gauss.old → g < length loglikes.now → g < result.next }
+{
+    let mut n = first;
+    let mut k = g;
+    // No `for`: the walk ends where the lists are full or none is left, and where it ends is the answer.
+    while n < gauss.len() {
+        let Some(found) = next(cutoff, k, loglikes) else {
+            return Collected {
+                count: n,
+                next: loglikes.len(),
+            };
+        };
+        gauss[n] = found;
+        likes[n] = loglikes[found] - max_like;
+        n += 1;
+        k = found + 1;
+    }
+    Collected { count: n, next: k }
+}
+
+// The likelihoods of the differences from place `first` up to `end`, eight at most. In two loops, of which the first is compiled to vector instructions.
+fn some_likelihoods(first: usize, end: usize, likes: &mut [f32])
+    requires { (first ≤ end) × (end ≤ first + 8) × (end ≤ length likes.old) }
+    ensures { Likely first end likes.old likes.new }
+{
+    let mut wide = [0.0f64; 8];
+    for j in first..end {
+        wide[j - first] = floats::exp_wide(likes[j]);
+    }
+    for k in first..end {
+        likes[k] = floats::exp_narrow(likes[k], wide[k - first]);
+    }
+}
+
+// The likelihoods of the differences from place `first` up to `end`. Of fewer than four each is made alone, the largest with no exponential.
+fn make_likely(first: usize, end: usize, likes: &mut [f32])
+    requires { (first ≤ end) × (end ≤ length likes.old) }
+    ensures { Likely first end likes.old likes.new }
+{
+    if end - first < 4 {
+        for i in first..end {
+            likes[i] = likelihood(likes[i]);
+        }
+        return;
+    }
+    let mut j = first;
+    // No `for`: the last turn can be shorter.
+    while end - j > 8 {
+        some_likelihoods(j, j + 8, likes);
+        j += 8;
+    }
+    some_likelihoods(j, end, likes);
+}
+
+// Candidates as `collect` has them, each with its likelihood.
+fn candidates(
+    cutoff: Option<f32>,
+    max_like: f32,
+    g: usize,
+    loglikes: &[f32],
+    first: usize,
+    gauss: &mut [usize],
+    likes: &mut [f32],
+) -> Collected
+    requires { (first ≤ length gauss.old) × (length likes.old ≡ length gauss.old) × (g ≤ length loglikes.now) }
+    ensures collected { Collects cutoff (λ l. exp_of (l -₃₂ max_like)) loglikes.now g first result.next result.count gauss.old likes.old gauss.new likes.new }
+    ensures places { (first ≤ result.count) × (result.count ≤ length gauss.old) × (result.next ≤ length loglikes.now) }
+    ensures on { first < length gauss.old → g < length loglikes.now → g < result.next }
+{
+    let more = collect(cutoff, max_like, g, loglikes, first, gauss, likes);
+    make_likely(first, more.count, likes);
+    more
+}
+
+// The first n candidates of two lists, put into two others.
+fn copy(n: usize, from_gauss: &[usize], from_likes: &[f32], gauss: &mut [usize], likes: &mut [f32])
+    requires { (n ≤ length from_gauss.now) × (n ≤ length from_likes.now) × (n ≤ length gauss.old) × (n ≤ length likes.old) }
+    ensures { held n gauss.new likes.new ≡ held n from_gauss.now from_likes.now }
+{
+    for j in 0..n {
+        gauss[j] = from_gauss[j];
+        likes[j] = from_likes[j];
+    }
+}
+
+// The most likely where there are more candidates than the few that were met first. They are held unordered, 64 at most, and the leading ones are chosen among them
+// where room is wanted.
+fn gather_many(
+    cutoff: Option<f32>,
+    max_like: f32,
+    loglikes: &[f32],
+    num_gselect: usize,
+    few: Collected,
+    few_gauss: &[usize],
+    few_likes: &[f32],
+    chosen: &mut Chosen<'_>,
+) -> usize
+    requires places { Places num_gselect chosen.old }
+    requires few { (few.count ≤ 4) × (few.count ≤ length few_gauss.now) × (few.count ≤ length few_likes.now) × (few.next ≤ length loglikes.now) }
+    requires met { held few.count few_gauss.now few_likes.now ≡ likelihoods_of max_like (those (λ p. passes cutoff p.1) (take few.next (every loglikes.now))) }
+    ensures gathered { held result chosen.new.gauss.now chosen.new.posts.now ≡ ranked num_gselect max_like (those (λ p. passes cutoff p.1) (every loglikes.now)) }
+    ensures most { result ≤ num_gselect }
+    ensures loans { SameChosen chosen.old chosen.new }
+{
+    let mut gauss = [0usize; 64];
+    let mut likes = [0.0f32; 64];
+    copy(few.count, few_gauss, few_likes, &mut gauss, &mut likes);
+    let mut holding = Holding {
+        candidates: few.count,
+        ordered: 0,
+        bound: None,
+    };
+    let mut g = few.next;
+    // No `for`: a turn goes over as many Gaussians as give the candidates that there is room for.
+    while g < loglikes.len() {
+        let more = candidates(
+            cutoff,
+            max_like,
+            g,
+            loglikes,
+            holding.candidates,
+            &mut gauss,
+            &mut likes,
+        );
+        let kept = leading::keep(
+            holding.bound,
+            holding.candidates,
+            more.count,
+            &mut gauss,
+            &mut likes,
+        );
+        let with = Holding {
+            candidates: kept,
+            ordered: holding.ordered,
+            bound: holding.bound,
+        };
+        holding = leading::make_room(with, num_gselect, &mut gauss, &mut likes, chosen);
+        g = more.next;
+    }
+    leading::finish(holding, num_gselect, &mut gauss, &mut likes, chosen)
+}
+
+// The most likely of the Gaussians above the cutoff, or of all where there is none. Where few are above it there is nothing to choose, and the room that is cleared
+// for candidates is small.
 fn gather(
     cutoff: Option<f32>,
     max_like: f32,
@@ -90,20 +253,22 @@ fn gather(
     ensures most { result ≤ num_gselect }
     ensures loans { SameChosen chosen.old chosen.new }
 {
-    let Some(first) = next(cutoff, 0, loglikes) else {
-        return 0;
-    };
-    let mut g = first;
-    let mut p = likelihood(loglikes[g] - max_like);
-    let mut n = 0;
-    // No `for`, which would be no plainer: a turn finds the next while it puts in the one before.
-    while let Some(after) = next(cutoff, g + 1, loglikes) {
-        let q = likelihood(loglikes[after] - max_like);
-        n = leading::insert(g, p, n, num_gselect, chosen);
-        g = after;
-        p = q;
+    let mut gauss = [0usize; 4];
+    let mut likes = [0.0f32; 4];
+    let few = candidates(cutoff, max_like, 0, loglikes, 0, &mut gauss, &mut likes);
+    if few.next == loglikes.len() {
+        return leading::order(few.count, &gauss, &likes, 0, num_gselect, chosen);
     }
-    leading::insert(g, p, n, num_gselect, chosen)
+    gather_many(
+        cutoff,
+        max_like,
+        loglikes,
+        num_gselect,
+        few,
+        &gauss,
+        &likes,
+        chosen,
+    )
 }
 
 // The larger of m and l; m, which is no NaN, where l is one.
