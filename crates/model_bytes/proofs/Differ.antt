@@ -5,7 +5,7 @@ use mathlib.Core.Bool.{Bool, true}
 use mathlib.Core.List.{List, [], ◌∷◌, ◌++◌, append_assoc, append-nil}
 use Prim.Native.Nat.{ℕ, zero, suc, ◌*◌, ◌<◌}
 use native.Mathlib.Omega.{arith}
-use lib.ListN.{get_or}
+use lib.ListN.{length, get_or}
 use lib.Ieee.{Float, nan, Format, fits}
 use Rattle.loops.specs.Lists.{flat, all_of}
 use Rattle.loops.proofs.Choose.{and_both}
@@ -20,6 +20,7 @@ use Rattle.model_bytes.proofs.Encoding.{past, size-apart, numbers_apart}
 use Rattle.model_bytes.specs.Pieces.{weights_head, means_head, vars_head, m_head, offset_head, lda_head, m_blocks, sigma_blocks}
 use Rattle.model_bytes.proofs.Shapes.{gmm_is, extractor_is, lda_is, parts_whole, fit-part, long-part, Fit, line_apart, table_apart}
 use Rattle.model_bytes.proofs.Sound.{Sound, sound}
+use Rattle.model_bytes.proofs.Refuses.{accepted_taken}
 
 -- ---- one block for each Gaussian
 
@@ -72,8 +73,8 @@ module _ (f : Format) (p q : Params) where
   y = q.sizes
 
   -- what both sets have
-  pub record Known (o : IvectorOptions) (t : List ℕ) (room : ℕ) (a : Params) : Type 0 where
-    pub sound_of : Sound f o t a room
+  pub record Known (o : IvectorOptions) (t : List ℕ) (a : Params) : Type 0 where
+    pub sound_of : Sound f o t a (length (model_bytes f a))
     pub weights_fit : Fit f a.weights
     pub means_fit : Fit f a.means_invvars
     pub vars_fit : Fit f a.inv_vars
@@ -82,12 +83,12 @@ module _ (f : Format) (p q : Params) where
     pub offset_fit : Fit f (a.prior_offset ∷ [])
     pub lda_fit : Fit f a.lda
 
-  pub known : (o : IvectorOptions) (t : List ℕ) (room : ℕ) (a : Params) → Accepted f o t a room → Known o t room a
+  pub known : (o : IvectorOptions) (t : List ℕ) (a : Params) → Accepted f o t a → Known o t a
   unfolding all_of
-  known o t room a c =
-      let h = each_of (λ (b : Bool). b) (of_width f a) c.of_width_is in
+  known o t a c =
+      let h = each_of (λ (b : Bool). b) (of_width f a) c.shaped.of_width_is in
       record {
-        sound_of = sound f o t a room c.taken;
+        sound_of = sound f o t a (length (model_bytes f a)) (accepted_taken f o t a c (length (model_bytes f a)) (omega arith));
         weights_fit = h.0;
         means_fit = h.1.0;
         vars_fit = h.1.1.0;
@@ -106,7 +107,7 @@ module _ (f : Format) (p q : Params) where
     vars : p.inv_vars ≡ q.inv_vars
     rest : s ≡ t
 
-  module _ {o o' : IvectorOptions} {t t' : List ℕ} {room room' : ℕ} (a : Known o t room p) (b : Known o' t' room' q) where
+  module _ {o o' : IvectorOptions} {t t' : List ℕ} (a : Known o t p) (b : Known o' t' q) where
     same_gmm : (u v : List ℕ) → gmm_bytes f p ++ u ≡ gmm_bytes f q ++ v → SameGmm u v
     same_gmm u v e =
         let sp = a.sound_of in
@@ -215,4 +216,4 @@ module _ (f : Format) (p q : Params) where
         params_same p q sizes g.weights g.means g.vars x.m x.sigma x.offset l.1
 
 pub differ : Differ
-differ f o o' t t' p q room room' c c' e = same f p q (known f p q o t room p c) (known f p q o' t' room' q c') e
+differ f o o' t t' p q c c' e = same f p q (known f p q o t p c) (known f p q o' t' q c') e

@@ -1,6 +1,6 @@
 -- The files are their pieces, one after the other; blocks that come apart again.
 use mathlib.Core.Path.{◌≡◌, refl, sym, ap, ◌∙◌}
-use mathlib.Core.Bool.{Bool, true}
+use mathlib.Core.Bool.{Bool, true, ◌&&◌}
 use mathlib.Core.List.{List, ◌++◌, append_assoc}
 use Prim.Native.Nat.{ℕ, zero, suc, ◌+◌, ◌*◌, ◌<◌, ◌^◌}
 use native.Mathlib.Nat.{zero-mul, suc-mul}
@@ -8,7 +8,8 @@ use native.Mathlib.Omega.{arith}
 use lib.ListN.{length, take, drop, length-take, length-drop}
 use lib.Seq.{take-add, take_all}
 use lib.Ieee.{Float, nan, Format, binary32, binary64, fits}
-use Rattle.loops.specs.Lists.{flat, all_of}
+use Rattle.std.proofs.lemmas.List.Folds.{list_all-append}
+use Rattle.loops.specs.Lists.{flat, build, all_of}
 use Rattle.loops.proofs.Flat.{flat_snoc}
 use Rattle.loops.proofs.Tests.{each_at, at_each}
 use Rattle.loops.proofs.Parts.{length_part, at_part}
@@ -66,6 +67,15 @@ pub fit-part : (t : Float → Bool) (w i : ℕ) (xs : List Float) → all_of t x
 fit-part t w i xs h =
     at_each t nan (part w i xs) (λ k l. let a : k < w = omega (arith, length-take w (drop (i * w) xs)) in
     ap t (at_part nan (i * w) w xs k a) ∙ each_at t nan xs (i * w + k) h (omega (arith, length-take w (drop (i * w) xs), length-drop (i * w) xs)))
+
+-- a test of all of a list, part by part
+all_flat : (T : Float → Bool) (n : ℕ) (X : ℕ → List Float) → all_of (λ (b : Bool). b) (build n (λ i. all_of T (X i))) ≡ all_of T (flat n X)
+unfolding all_of build flat
+all_flat T zero X = refl
+all_flat T (suc n) X = ap (λ (b : Bool). all_of T (X 0) && b) (all_flat T n (λ k. X (suc k))) ∙ sym (list_all-append T (X 0) (flat n (λ k. X (suc k))))
+
+pub all_parts : (T : Float → Bool) (w n : ℕ) (xs : List Float) → length xs ≡ n * w → all_of (λ (b : Bool). b) (build n (λ i. all_of T (part w i xs))) ≡ all_of T xs
+all_parts T w n xs l = all_flat T n (λ i. part w i xs) ∙ ap (all_of T) (parts_whole w n xs l)
 
 pub long-part : (w n i : ℕ) (xs : List Float) → length xs ≡ n * w → i < n → length (part w i xs) ≡ w
 long-part w n i xs l h = length_part (i * w) w xs (row_in_lem i n w (length xs) (omega arith) h)

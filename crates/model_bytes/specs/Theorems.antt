@@ -1,8 +1,9 @@
--- What is claimed of the calls that write a model: two statements, each over both widths.
-use Rattle.std.specs.Prelude.{◌≡◌, ℕ, ◌+◌, ◌*◌, Bool, true, ◌&&◌, List, [], ◌∷◌, map, length, take, drop, leb, Float, if◌then◌else◌}
+-- What is claimed of the calls that write a model: four statements, each over both widths.
+use Rattle.std.specs.Prelude.{◌≡◌, ℕ, ◌+◌, ◌*◌, ◌^◌, ◌≤◌, Bool, true, ◌&&◌, List, [], ◌∷◌, map, length, take, drop, leb, ltb, eqb, Float, if◌then◌else◌}
 use Rattle.std.specs.Float.{Format, binary32}
 use Rattle.std.specs.Float.Ieee.{fits}
 use Rattle.loops.specs.Lists.{all_of, all_true, build}
+use Rattle.loops.specs.Refusal.{taken}
 use Rattle.definition.specs.declared.IvectorOptions.{IvectorOptions}
 use Rattle.definition.specs.declared.TableLengths.{TableLengths}
 use Rattle.floats.specs.Real.{kept_as}
@@ -11,7 +12,8 @@ use Rattle.definition.specs.Kaldi.{triangle}
 use Rattle.definition.specs.Model.{Contents, Files, dims_of, model_of, tables_fit, load_scratch, load}
 use Rattle.definition.specs.Text.{cmvn}
 use Rattle.model_bytes.specs.Written as W
-use Rattle.model_bytes.specs.Written.{Written, Params, part, model_bytes, write_refusal, written, written_out}
+use Rattle.model_bytes.specs.declared.ModelSizes.{ModelSizes}
+use Rattle.model_bytes.specs.Written.{Written, Params, part, gmm_bytes, extractor_bytes, lda_bytes, model_bytes, write_refusal, written, written_out}
 
 -- every number is one of the width, as numbers in code are
 abbrev pub of_width : Format → Params → List Bool
@@ -24,12 +26,35 @@ of_width f p =
     ∷ fits f p.prior_offset
     ∷ all_of (fits f) p.lda ∷ []
 
--- a set that the call takes: with these options, this text and this much room
-pub record Accepted (f : Format) (o : IvectorOptions) (t : List ℕ) (p : Params) (room : ℕ) : Type 0 where
-  pub taken : write_refusal f o t p room ≡ 0
+-- a size is kept in four bytes
+abbrev pub in_four_bytes : ModelSizes → List Bool
+in_four_bytes z =
+    ltb z.num_gauss (2 ^ 32) ∷ ltb z.ext_gauss (2 ^ 32) ∷ ltb z.feat_dim (2 ^ 32) ∷ ltb z.ivector_dim (2 ^ 32) ∷ ltb z.lda_cols (2 ^ 32) ∷ []
+
+-- lists have the lengths of their sizes
+abbrev pub of_sizes : Params → List Bool
+of_sizes p =
+    let g = p.sizes.num_gauss in
+    let e = p.sizes.ext_gauss in
+    let d = p.sizes.feat_dim in
+    eqb (length p.weights) g
+    ∷ eqb (length p.means_invvars) (g * d)
+    ∷ eqb (length p.inv_vars) (g * d)
+    ∷ eqb (length p.m) (e * (d * p.sizes.ivector_dim))
+    ∷ eqb (length p.sigma_inv) (e * triangle d)
+    ∷ eqb (length p.lda) (d * p.sizes.lda_cols) ∷ []
+
+-- parameters that have files: of any numbers of the width, and any sizes that are kept in the files' bytes
+pub record Shaped (f : Format) (p : Params) : Type 0 where
+  pub in_four_bytes_is : all_true (in_four_bytes p.sizes) ≡ true
+  pub of_sizes_is : all_true (of_sizes p) ≡ true
   pub of_width_is : all_true (of_width f p) ≡ true
 
--- ---- what was written loads as the parameters
+-- the files that parameters would be, with a text
+abbrev pub files_of : Format → Params → List ℕ → Files
+files_of f p t = record { gmm = gmm_bytes f p; extractor = extractor_bytes f p; lda = lda_bytes f p; cmvn = t }
+
+-- ---- files, and what they are to a load
 
 -- the files of an answer, cut out of the output by its lengths
 abbrev pub files_in : Written → List ℕ → List ℕ → Files
@@ -67,13 +92,45 @@ contents_of f p row =
       global_row = row;
     }
 
--- into tables of lengths z and with so much scratch: the model of the parameters, or 8 where there is too little room
+-- tables of lengths z, and so much scratch, are enough for the model of the parameters
+abbrev pub enough : Format → IvectorOptions → List ℕ → Params → TableLengths → ℕ → Bool
+enough f o t p z scratch = let d = dims_of (contents_of f p (row_of (cmvn t 0))) in tables_fit o d z && leb (load_scratch d) scratch
+
+-- ---- what load would refuse gets load's number
+
+abbrev pub number_in : {A : Type 0} → Got A → ℕ
+number_in (refused n) = n
+number_in (read a next) = 0
+
+-- whatever the sizes, numbers, options and text: a load of the files that the parameters would be, with tables and scratch that are enough, is refused by the number
+-- that the call answers; only where it is taken, and the output is too short, does the call answer 26
+abbrev pub Refuses : Type 0
+Refuses =
+    (f : Format) (o : IvectorOptions) (t : List ℕ) (p : Params) (room : ℕ) → Shaped f p → (z : TableLengths) (scratch : ℕ) → enough f o t p z scratch ≡ true
+    → write_refusal f o t p room ≡ (let r = number_in (load o (files_of f p t) z scratch) in taken r (if ltb room (length (model_bytes f p)) then 26 else 0) r)
+
+-- a set that load accepts, with these options and this text: there are tables and scratch into which it loads the files
+pub record Accepted (f : Format) (o : IvectorOptions) (t : List ℕ) (p : Params) : Type 0 where
+  pub shaped : Shaped f p
+  pub tables : TableLengths
+  pub scratch : ℕ
+  pub loaded : number_in (load o (files_of f p t) tables scratch) ≡ 0
+
+-- and those are the sets that the call takes
+abbrev pub Takes : Type 0
+Takes =
+    (f : Format) (o : IvectorOptions) (t : List ℕ) (p : Params) (room : ℕ) → write_refusal f o t p room ≡ 0 → all_true (of_width f p) ≡ true
+    → Accepted f o t p × (length (model_bytes f p) ≤ room)
+
+-- ---- what was written loads as the parameters
+
+-- where the output has room, into tables of lengths z and with so much scratch: the model of the parameters, or 8 where there is too little room
 abbrev pub Loads : Type 0
 Loads =
-    (f : Format) (o : IvectorOptions) (t : List ℕ) (p : Params) (out : List ℕ) → Accepted f o t p (length out) → (z : TableLengths) (scratch : ℕ)
+    (f : Format) (o : IvectorOptions) (t : List ℕ) (p : Params) (out : List ℕ) → Accepted f o t p → length (model_bytes f p) ≤ length out
+    → (z : TableLengths) (scratch : ℕ)
     → load o (files_in (written f o t p (length out)) (written_out f o t p out) t) z scratch
-    ≡ (let c = contents_of f p (row_of (cmvn t 0)) in
-    if tables_fit o (dims_of c) z && leb (load_scratch (dims_of c)) scratch then read (model_of o c z) 0 else refused 8)
+    ≡ (if enough f o t p z scratch then read (model_of o (contents_of f p (row_of (cmvn t 0))) z) 0 else refused 8)
 
 -- ---- sets that differ are written as different bytes
 
@@ -81,5 +138,5 @@ Loads =
 -- sign of a zero or one that a load's narrowing drops
 abbrev pub Differ : Type 0
 Differ =
-    (f : Format) (o o' : IvectorOptions) (t t' : List ℕ) (p q : Params) (room room' : ℕ)
-    → Accepted f o t p room → Accepted f o' t' q room' → model_bytes f p ≡ model_bytes f q → p ≡ q
+    (f : Format) (o o' : IvectorOptions) (t t' : List ℕ) (p q : Params)
+    → Accepted f o t p → Accepted f o' t' q → model_bytes f p ≡ model_bytes f q → p ≡ q
