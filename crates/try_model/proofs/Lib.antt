@@ -1,2 +1,4 @@
--- How long the files are.
+-- How long the files are; the CMVN text, read; that the model loads.
 pub mod Lengths
+pub mod Sums
+pub mod Loads

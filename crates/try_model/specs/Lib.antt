@@ -1,2 +1,3 @@
--- The files of P9's model with a base dimension. To be believed.
+-- P9's options, and the files of its model with a base dimension; that they load. To be believed.
 pub mod Files
+pub mod Loads

@@ -1,11 +1,46 @@
-// The files of P9's model that a base dimension changes, as bytes.
+// P9's model for a base dimension: its options, and its files as bytes, of which a base dimension changes two.
 #![tactic(auto)]
 
 ghost use Rattle.std.specs.Prelude.{◌≡◌, ◌≤◌, length};
 ghost use Rattle.loops.specs.Lists.{over};
-ghost use Rattle.try_model.specs.Files.{lda_file, cmvn_file};
+ghost use Rattle.try_model.specs.Files.{options as options_of_it, gmm_file, extractor_file, lda_file, cmvn_file};
 
 use byte_writer::Writer;
+use definition::IvectorOptions;
+
+// The options.
+pub fn options() -> IvectorOptions
+    ensures { result ≡ options_of_it }
+{
+    IvectorOptions {
+        left_context: 0,
+        right_context: 0,
+        cmn_window: 20,
+        global_frames: 200,
+        num_gselect: 5,
+        num_cg_iters: 15,
+        min_post: 0.025,
+        posterior_scale: 0.25,
+        max_count: 100.0,
+        min_energy: 50.0,
+    }
+}
+
+// The GMM: one Gaussian of one dimension.
+#[tactic(auto, unfolding(crate::specs::Files::gmm_file))]
+pub fn gmm() -> &'static [u8]
+    ensures { result.now ≡ gmm_file }
+{
+    b"\x00B<DiagGMM> <WEIGHTS> FV \x04\x01\x00\x00\x00\x00\x00\x80?<MEANS_INVVARS> FM \x04\x01\x00\x00\x00\x04\x01\x00\x00\x00\x00\x00\x80?<INV_VARS> FM \x04\x01\x00\x00\x00\x04\x01\x00\x00\x00\x00\x00\x80?</DiagGMM> "
+}
+
+// The extractor: one Gaussian, of one dimension both ways.
+#[tactic(auto, unfolding(crate::specs::Files::extractor_file))]
+pub fn extractor() -> &'static [u8]
+    ensures { result.now ≡ extractor_file }
+{
+    b"\x00B<IvectorExtractor> <w> DM \x04\x00\x00\x00\x00\x04\x00\x00\x00\x00<w_vec> DV \x04\x00\x00\x00\x00<M> \x04\x01\x00\x00\x00DM \x04\x01\x00\x00\x00\x04\x01\x00\x00\x00\x00\x00\x00\x00\x00\x00\x00@<SigmaInv> DP \x04\x01\x00\x00\x00\x00\x00\x00\x00\x00\x00\xf0?<IvectorOffset> \x08\x00\x00\x00\x00\x00\x00\xf0?</IvectorExtractor> "
+}
 
 // The LDA. Its length.
 pub fn put_lda(dim: usize, out: &mut [u8; 271]) -> usize

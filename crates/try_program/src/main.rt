@@ -4,7 +4,7 @@
 // numbers and calls, and its answer is 33, or 0 and each call: its kind, a push's numbers, the frame of another, a change's weight.
 #![tactic(auto)]
 
-use definition::{IvectorInfo, IvectorOptions, LentEstimate, LentTables, Refusal, WaitingRooms};
+use definition::{IvectorInfo, LentEstimate, LentTables, Refusal, WaitingRooms};
 use script::{Script, Words, front, lend, print, print_list};
 use std::env::{Env, FillError};
 use std::io::{self, Write};
@@ -12,25 +12,6 @@ use try_load::LoadSizes;
 use try_play::Totals;
 
 // ---- the model: one Gaussian, one dimension and no context, over frames of the base dimension that an input asks for
-
-const OPTIONS: IvectorOptions = IvectorOptions {
-    left_context: 0,
-    right_context: 0,
-    cmn_window: 20,
-    global_frames: 200,
-    num_gselect: 5,
-    num_cg_iters: 15,
-    min_post: 0.025,
-    posterior_scale: 0.25,
-    max_count: 100.0,
-    min_energy: 50.0,
-};
-
-const GMM: &[u8] =
-    b"\x00B<DiagGMM> <WEIGHTS> FV \x04\x01\x00\x00\x00\x00\x00\x80?<MEANS_INVVARS> FM \x04\x01\x00\x00\x00\x04\x01\x00\x00\x00\x00\x00\x80?<INV_VARS> FM \x04\x01\x00\x00\x00\x04\x01\x00\x00\x00\x00\x00\x80?</DiagGMM> ";
-
-const EXTRACTOR: &[u8] =
-    b"\x00B<IvectorExtractor> <w> DM \x04\x00\x00\x00\x00\x04\x00\x00\x00\x00<w_vec> DV \x04\x00\x00\x00\x00<M> \x04\x01\x00\x00\x00DM \x04\x01\x00\x00\x00\x04\x01\x00\x00\x00\x00\x00\x00\x00\x00\x00\x00@<SigmaInv> DP \x04\x01\x00\x00\x00\x00\x00\x00\x00\x00\x00\xf0?<IvectorOffset> \x08\x00\x00\x00\x00\x00\x00\xf0?</IvectorExtractor> ";
 
 /// A model and its tables.
 #[derive(Drop)]
@@ -58,9 +39,9 @@ impl OpenModel {
         let mut lda_offset = [0.0; 1];
         let mut global_mean_stats = [0.0; 65];
         let info = ivector_info::load(
-            OPTIONS,
-            GMM,
-            EXTRACTOR,
+            try_model::options(),
+            try_model::gmm(),
+            try_model::extractor(),
             lda,
             cmvn,
             &mut gconsts,
