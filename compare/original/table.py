@@ -54,7 +54,7 @@ def own(name):
     return dict(own=name)
 
 
-ITEMS = [
+LIB = [
     item('packed_index', 'fn packed_index('),
     item('sp_mat_vec', 'fn sp_mat_vec('),
     item('dot', 'fn dot('),
@@ -315,3 +315,5 @@ ITEMS = [
         ]),
     ]),
 ]
+
+FILES = {'lib.rt': LIB}
