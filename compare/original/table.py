@@ -30,7 +30,7 @@ WHY = {
 }
 
 # the project's crates that the contracts and proofs speak of; those below them come with them
-DEPS = 'loops floats definition basics packed_matrix linear leading posteriors diag_gmm table_sums batch_sums'
+DEPS = 'loops floats definition basics packed_matrix linear leading posteriors diag_gmm table_sums batch_sums ivector_stats'
 
 IVECTOR = 'ivector.rs'
 SILENCE = 'silence_weighting.rs'
@@ -114,7 +114,7 @@ LIB = [
             ('vec![0.0; dim * (dim + 1) / 2]', 'vec![in alloc; 0.0; dim * (dim + 1) / 2]?'),
             ('\n        s\n', '\n        Ok(s)\n'),
         ]),
-        item('acc', 'pub fn acc(', open=True, subs=[
+        item('acc', 'pub fn acc(', subs=[
             (CAST, 'w as f64', 'std::num::f32_to_f64_with_nan(w)', 2),
             (CAST, 'x as f64', 'std::num::f32_to_f64_with_nan(x)'),
             (ZIP, 'for (acc, &x) in wsum[k].iter_mut().zip(feats[t]) {', 'for (a, acc) in wsum[k].iter_mut().enumerate() {\n                    let x = feats[t][a];'),
