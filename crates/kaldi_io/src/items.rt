@@ -1,5 +1,5 @@
-//! The items of Kaldi's binary format. Each of these reads one from lent bytes at a place, as the definition's parser of the same name: it gives the item and the
-//! place behind it, or says why it cannot. A block's numbers are checked where they stand, and are read from there once everything is checked.
+//! The items of Kaldi's binary format. Each of these reads one from lent bytes at a place, as a parser of the definition does: it gives the item and the place
+//! behind it, or says why it cannot. A block's numbers are checked where they stand, and are read from there once everything is checked.
 
 ghost use Rattle.std.specs.Prelude.{◌≡◌, ◌+◌, ◌-◌, ◌<◌, ◌≤◌, not, ◌*◌, length, take, drop, IfOk, List, ℕ, from_bits};
 ghost use Rattle.std.specs.Float.{binary32, binary64};
@@ -7,7 +7,7 @@ ghost use Rattle.std.specs.List.{prefix_len};
 ghost use Rattle.definition.specs.Options.{max_feat};
 ghost use Rattle.floats.specs.Real.{by_width, byte_width};
 ghost use Rattle.definition.specs.Reader.{bytes, little_endian, floats};
-ghost use Rattle.definition.specs.Kaldi.{binary, blank, word, token, dim, block_width, width_by, single, packed_matrix, vector, matrix, skipped};
+ghost use Rattle.definition.specs.Kaldi.{binary, blank, word, dim, block_width, width_by, single, packed_matrix, vector, matrix, skipped};
 ghost use Rattle.kaldi_io.specs.Widths.{format_of};
 ghost use Rattle.kaldi_io.specs.Got.{got, got_at, passed, list_of, itself, numbers_in, matrix_in, packed_in};
 
@@ -83,16 +83,6 @@ pub(crate) fn word_at(src: &[u8], at: usize) -> Result<(&[u8], usize), Refusal>
     let len = letters_len(rest);
     need(len < rest.len(), Refusal::CutShort)?;
     Ok((&rest[..len], at + from + len + 1))
-}
-
-// The next word, which has to be `want`.
-#[tactic(auto, unfolding(loops::specs::Refusal::first_of, definition::specs::Kaldi::token))]
-pub(crate) fn token_at(src: &[u8], at: usize, want: &[u8]) -> Result<usize, Refusal>
-    ensures { passed result ≡ token want.now src.now at }
-{
-    let (found, next) = word_at(src, at)?;
-    need(found == want, Refusal::BadMark)?;
-    Ok(next)
 }
 
 // ---- numbers
