@@ -3,7 +3,10 @@
 //! instead of a panic). No original text is kept here; each patch asserts how often it applies. Where UTTER_SRC is not set, without.rs stands
 //! in the place of both. What is changed of its arithmetic stands in patches.txt. The library comes with hosts/rust; where SHOFRAKIN_CRATE names another
 //! crate, the archive that `rt lib` wrote of it to the folder SHOFRAKIN_LIB is linked.
-use std::{env, fs, path::Path};
+use std::{
+    env, fs,
+    path::{Path, PathBuf},
+};
 
 /// Replace `from` by `to`, which must occur exactly `n` times.
 fn sub(t: &str, from: &str, to: &str, n: usize) -> String {
@@ -18,9 +21,14 @@ fn cut<'a>(t: &'a str, a: &str, b: &str) -> (usize, usize, &'a str) {
     (i, j, &t[i..j])
 }
 
+/// A file of this script's folder, which `selection` uses too.
+fn beside(name: &str) -> PathBuf {
+    Path::new(file!()).with_file_name(name)
+}
+
 /// The patches of that kind in patches.txt, which `original/translate` reads too: (from, to, how often).
 fn patches(kind: &str) -> Vec<(String, String, usize)> {
-    let table = fs::read_to_string("patches.txt").unwrap();
+    let table = fs::read_to_string(beside("patches.txt")).unwrap();
     let mut found = Vec::new();
     for block in table.split("\n\n") {
         let field = |name: &str| block.lines().find_map(|l| l.strip_prefix(name)?.strip_prefix(": ")).map(|v| v.replace("\\n", "\n"));
@@ -39,8 +47,8 @@ fn patched(t: &str, kind: &str) -> String {
 
 fn main() {
     println!("cargo:rerun-if-env-changed=UTTER_SRC");
-    println!("cargo:rerun-if-changed=build.rs");
-    println!("cargo:rerun-if-changed=patches.txt");
+    println!("cargo:rerun-if-changed={}", beside("build.rs").display());
+    println!("cargo:rerun-if-changed={}", beside("patches.txt").display());
     println!("cargo:rerun-if-env-changed=SHOFRAKIN_CRATE");
     println!("cargo:rerun-if-env-changed=SHOFRAKIN_LIB");
     if let Ok(name) = env::var("SHOFRAKIN_CRATE") {
@@ -51,9 +59,9 @@ fn main() {
     }
     let out = env::var("OUT_DIR").unwrap();
     let Ok(dir) = env::var("UTTER_SRC") else {
-        println!("cargo:rerun-if-changed=without.rs");
+        println!("cargo:rerun-if-changed={}", beside("without.rs").display());
         for name in ["orig.rs", "orig_nan.rs"] {
-            fs::copy("without.rs", Path::new(&out).join(name)).unwrap();
+            fs::copy(beside("without.rs"), Path::new(&out).join(name)).unwrap();
         }
         return;
     };

@@ -64,12 +64,12 @@ exp_by x t h = sym (ap (λ (b : Bool). cond b zero₃₂ (narrowed (squares 7 (s
 pub exp_low : (x : Float) → lt x (neg (f32 0x42d0_0000)) ≡ true → zero₃₂ ≡ exp_of x
 exp_low x h = exp_by x true h
 
--- w is x widened, p its series at 1/128, and s that squared
-pub exp_series : (x w p s : Float) → w ≡ x → p ≡ series 16 1 (w /₆₄ f64 0x4060_0000_0000_0000) → s ≡ squares 7 p → s ≡ wide_exp x
+-- w is x widened
+pub exp_part : (x w : Float) → w ≡ x → w /₆₄ f64 0x4060_0000_0000_0000 ≡ x /₆₄ as_f64 128
 unfolding of_bits of_int
-exp_series x w p s a b c = c ∙ ap (squares 7) (b ∙ ap (λ (v : Float). series 16 1 (v /₆₄ f64 0x4060_0000_0000_0000)) a)
+exp_part x w a = ap (λ (v : Float). v /₆₄ f64 0x4060_0000_0000_0000) a
 
--- and r that narrowed
-pub exp_else : (x s r : Float) → lt x (neg (f32 0x42d0_0000)) ≡ false → s ≡ wide_exp x → r ≡ narrowed s → r ≡ exp_of x
+-- s is what the exponential is narrowed from, and r that narrowed
+pub exp_else : (x s r : Float) → lt x (neg (f32 0x42d0_0000)) ≡ false → s ≡ wide_exp (x /₆₄ as_f64 128) → r ≡ narrowed s → r ≡ exp_of x
 unfolding of_bits of_int
 exp_else x s r h c d = d ∙ ap narrowed c ∙ exp_by x false h

@@ -15,9 +15,9 @@ unfoldable pub squares : ℕ → Float → Float
 squares zero h = h
 squares (suc n) h = squares n (h *₆₄ h)
 
--- what the exponential is narrowed from: the series of x/128, squared seven times
+-- what the exponential is narrowed from: the series of y, squared seven times
 abbrev pub wide_exp : Float → Float
-wide_exp x = squares 7 (series 16 1 (x /₆₄ as_f64 128))
+wide_exp y = squares 7 (series 16 1 y)
 
 -- 0 below -104
 unfoldable pub exp_of : Float → Float

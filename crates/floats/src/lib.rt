@@ -9,6 +9,7 @@ ghost use Rattle.std.specs.Float.Ieee.Scale.{finite};
 ghost use Rattle.floats.specs.Narrow.{narrowed};
 ghost use Rattle.floats.specs.Sqrt.{square_root};
 ghost use Rattle.floats.specs.Ln.{chained, ln_sum, ln_of, ln_narrow};
+ghost use Rattle.floats.specs.Operators.{◌/₆₄◌, as_f64};
 ghost use Rattle.floats.specs.Exp.{series, squares, wide_exp, exp_of};
 ghost use Rattle.floats.specs.Extremes.{larger, smaller, absolute};
 ghost use Rattle.floats.specs.Decimal.{scaled, tens};
@@ -193,17 +194,23 @@ fn squared(h: f64) -> f64
     f * f
 }
 
-// What the exponential of x is narrowed from. With no test and no narrowing in it, so that of several at once it is compiled to vector instructions.
-pub fn exp_wide(x: f32) -> f64
-    ensures { result ≡ wide_exp x }
+// x/128, which the series of the exponential is of.
+pub fn exp_argument(x: f32) -> f64
+    ensures { result ≡ x /₆₄ as_f64 128 }
 {
-    let y = std::num::f32_to_f64_with_nan(x) / 128.0;
+    std::num::f32_to_f64_with_nan(x) / 128.0
+}
+
+// What the exponential is narrowed from: the series of y, squared seven times. With no test in it, so that of several at once it is compiled to vector instructions.
+pub fn exp_wide(y: f64) -> f64
+    ensures { result ≡ wide_exp y }
+{
     squared(powers(y))
 }
 
 // The exponential of x, made from that: 0 below -104.
 pub fn exp_narrow(x: f32, wide: f64) -> f32
-    requires { wide ≡ wide_exp x }
+    requires { wide ≡ wide_exp (x /₆₄ as_f64 128) }
     ensures { result ≡ exp_of x }
 {
     if x < -104.0 {
@@ -216,7 +223,7 @@ pub fn exp_narrow(x: f32, wide: f64) -> f32
 pub fn exp(x: f32) -> f32
     ensures { result ≡ exp_of x }
 {
-    exp_narrow(x, exp_wide(x))
+    exp_narrow(x, exp_wide(exp_argument(x)))
 }
 
 // The larger of a and b, or the other where one is a NaN.

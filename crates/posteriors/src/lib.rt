@@ -117,17 +117,21 @@ fn collect(
     Collected { count: n, next: k }
 }
 
-// The likelihoods of the differences from place `first` up to `end`, eight at most. In two loops, of which the first is compiled to vector instructions.
+// The likelihoods of the differences from place `first` up to `end`, eight at most. In three loops, so that the one that computes is compiled to vector instructions.
 fn some_likelihoods(first: usize, end: usize, likes: &mut [f32])
     requires { (first ≤ end) × (end ≤ first + 8) × (end ≤ length likes.old) }
     ensures { Likely first end likes.old likes.new }
 {
+    let n = end - first;
     let mut wide = [0.0f64; 8];
-    for j in first..end {
-        wide[j - first] = floats::exp_wide(likes[j]);
+    for i in 0..n {
+        wide[i] = floats::exp_argument(likes[first + i]);
     }
-    for k in first..end {
-        likes[k] = floats::exp_narrow(likes[k], wide[k - first]);
+    for j in 0..n {
+        wide[j] = floats::exp_wide(wide[j]);
+    }
+    for k in 0..n {
+        likes[first + k] = floats::exp_narrow(likes[first + k], wide[k]);
     }
 }
 
