@@ -26,7 +26,7 @@ of_width f p =
     ∷ fits f p.prior_offset
     ∷ all_of (fits f) p.lda ∷ []
 
--- a size is kept in four bytes
+-- a file keeps a size in four bytes
 abbrev pub in_four_bytes : ModelSizes → List Bool
 in_four_bytes z =
     ltb z.num_gauss (2 ^ 32) ∷ ltb z.ext_gauss (2 ^ 32) ∷ ltb z.feat_dim (2 ^ 32) ∷ ltb z.ivector_dim (2 ^ 32) ∷ ltb z.lda_cols (2 ^ 32) ∷ []
@@ -44,7 +44,7 @@ of_sizes p =
     ∷ eqb (length p.sigma_inv) (e * triangle d)
     ∷ eqb (length p.lda) (d * p.sizes.lda_cols) ∷ []
 
--- parameters that have files: of any numbers of the width, and any sizes that are kept in the files' bytes
+-- parameters that have files: sizes that four bytes hold, lists as long as the sizes say, numbers of the width. Whether a load would take them is not said.
 pub record Shaped (f : Format) (p : Params) : Type 0 where
   pub in_four_bytes_is : all_true (in_four_bytes p.sizes) ≡ true
   pub of_sizes_is : all_true (of_sizes p) ≡ true
