@@ -17,11 +17,14 @@ use Rattle.definition.specs.declared.IvectorStream.{IvectorStream}
 use Rattle.definition.specs.declared.StreamAnswer.{StreamAnswer}
 use Rattle.definition.specs.declared.StreamCall.{StreamCall}
 use Rattle.definition.specs.declared.RoomLengths.{RoomLengths}
-use Rattle.definition.specs.Model.{Tables, Model, table_lengths_of, model_in}
+use Rattle.definition.specs.Reader.{Got}
+use Rattle.definition.specs.Model.{loaded_of, Tables, Model, table_lengths_of, model_in}
 use Rattle.definition.specs.Stream.{new_refusal}
-use Rattle.definition.specs.Machine.{Call, push, finish, change, forget, set_window, fetch, Answer, Machine, Move, moved, bits_of, fetch_tests, fresh, does, fetched as fetched_vector}
-use Rattle.program.specs.Rooms.{Rings, Rooms, rooms_from, room_lengths_of}
-use Rattle.program.specs.Calls.{RingStep, RingCall, ring_call, done_on, Step, FetchCall, fetch_call, fetched_on, call_of, fresh_stream, new_answer, fresh_rooms, push_frame, set_input_finished, update_frame_weights, forget_before, set_cmn_window, get_frame}
+use Rattle.definition.specs.Machine.{Call, push, finish, change, forget, set_window, fetch, Answer, Machine, Move, moved, bits_of, fetch_tests, fresh, does, fetched as fetched_vector, answers}
+use Rattle.definition.proofs.Computed.{computed}
+use Rattle.program.specs.Rooms.{Rings, Rooms, rooms_from, ring_lengths_of, room_lengths_of, ring_at, waiting_in}
+use Rattle.program.specs.Calls.{RingStep, RingCall, ring_call, done_on, Step, FetchCall, fetch_call, fetched_on, answer_of, call_of, fresh_stream, new_answer, fresh_rooms, pushed_frames, pushed_rows, push_frame, set_input_finished, update_frame_weights, forget_mark, forget_before, set_cmn_window, fetch_refusal, fetch_estimate, fetch_changes, fetch_stream, fetch_rooms, fetch_vector, fetch_nans, get_frame}
+use Rattle.program.specs.Examples.{tables, info}
 use Rattle.program.specs.Session.{Program, program, on_rings, stepped, reply, step_of, program_answers}
 use Rattle.program.proofs.Sound.{stream_of, Made, Inv, refusal_same}
 use Rattle.program.proofs.Moves.{MovedOn, moved_on}
@@ -29,8 +32,10 @@ use Rattle.program.proofs.Fresh.{fresh_inv}
 use Rattle.program.proofs.Returned.{number_is, left, fetched_is, done_is, left_program, left_told, left_output}
 use Rattle.program.proofs.Keeps.{Begun, begun, keeps}
 use Rattle.program.proofs.Never18.{change-never-18 as program-change-never-18}
-use Rattle.answers.specs.Answers.{answered, new_stream_answer}
-use Rattle.exports.specs.Chain.{told, told_with, Run, none, pushed, finished, changed, forgotten, windowed, fetched, ChainKeeps, ChainExists, ChangeNever18}
+use Rattle.whole.proofs.Whole.{read_back}
+use Rattle.answers.specs.declared.LoadAnswer.{LoadAnswer}
+use Rattle.answers.specs.Answers.{load_answer, answered, new_stream_answer}
+use Rattle.exports.specs.Chain.{told, told_with, Run, none, pushed, finished, changed, forgotten, windowed, fetched, ChainKeeps, ChainFromBytes, ChainExists, ChangeNever18, worked_rooms, worked_calls, worked_answers, Worked}
 
 -- ---- the program's state along a chain
 
@@ -183,6 +188,15 @@ chain-keeps i t z y n c ec ey e cs as' run =
     (k₀, start ∙ b.start_is ∙ ap (program (stream_of i lengths k₀)) (sym there), subst (Inv i lengths n k₀) (sym there) (fresh_inv i t z n b.made_is)) in
     (k.0, chain i t lengths n b.made_is first run ∙ ap (λ (p : Program). program_answers t n p cs) start ∙ k.1)
 
+-- ---- from bytes
+
+pub chain-from-bytes : ChainFromBytes
+unfolding load_answer
+chain-from-bytes o f t t' n l M at g el et z y m c ec ey e cs as' run =
+    let info_is : l.info ≡ M.info = ap (λ (a : LoadAnswer). a.info) el ∙ ap (λ (q : Got Model). (load_answer o (loaded_of q)).info) g in
+    let model_is : model_in l.info t' ≡ M = ap₂ model_in info_is et ∙ read_back o f t n M at g in
+    (chain-keeps l.info t' z y m c ec ey e cs as' run).1 ∙ ap (λ (N : Model). answers N (ring_lengths_of z.rings) cs) model_is
+
 -- ---- there is a chain
 
 pub chain-exists : ChainExists
@@ -215,6 +229,23 @@ chain-exists t n s z (fetch f m ∷ cs) =
       subst (λ (l : ℕ). Run t n s z (fetch f l ∷ cs) (told_with d.call.answer d.output ∷ q.0)) (length-replicate m 0)
           (fetched {s' = d.call.stream} {y = d.rooms} out {out' = d.output} {a = d.call.answer} refl q.1),
     )
+
+-- every definition of the program that is met on the way
+unfoldable opened : Unit {0}
+unfolding computed answer_of fresh_stream new_answer fresh_rooms ring_at waiting_in pushed_frames pushed_rows push_frame set_input_finished update_frame_weights forget_mark
+    forget_before set_cmn_window fetch_refusal fetch_estimate fetch_changes fetch_stream fetch_rooms fetch_vector fetch_nans get_frame
+opened = tt
+
+-- the answers are those that the definitions compute
+pub worked : Worked
+unfolding opened chain-exists
+worked =
+    let i : IvectorInfo = info 1 2 in
+    let s : IvectorStream = fresh_stream i (room_lengths_of worked_rooms 1) in
+    let z : Rooms = fresh_rooms i worked_rooms in
+    let there = chain-exists (tables 3) 1 s z worked_calls in
+    let same : there.0 ≡ worked_answers = refl in
+    record { made = refl; chain = subst (Run (tables 3) 1 s z worked_calls) same there.1; machine = refl }
 
 pub change-never-18 : ChangeNever18
 change-never-18 s s' z r fs ws a h e =

@@ -854,7 +854,7 @@ pub extern "C" fn shofrakin_write_f32(
         (result ≡ written_answer (written binary32 opts cmvn.now p (length out.old)))
         × (out.new ≡ written_out binary32 opts cmvn.now p out.old)) }
 {
-    let params = LentParams {
+    let singles = LentParams {
         sizes,
         weights,
         means_invvars,
@@ -864,7 +864,7 @@ pub extern "C" fn shofrakin_write_f32(
         prior_offset,
         lda,
     };
-    WrittenAnswer::from(model_writer::write(opts, cmvn, &params, out))
+    WrittenAnswer::from(model_writer::write(opts, cmvn, &singles, out))
 }
 
 // `model_writer::write` at f64, its answer as a record.
@@ -887,7 +887,7 @@ pub extern "C" fn shofrakin_write_f64(
         (result ≡ written_answer (written binary64 opts cmvn.now p (length out.old)))
         × (out.new ≡ written_out binary64 opts cmvn.now p out.old)) }
 {
-    let params = LentParams {
+    let doubles = LentParams {
         sizes,
         weights,
         means_invvars,
@@ -897,5 +897,5 @@ pub extern "C" fn shofrakin_write_f64(
         prior_offset,
         lda,
     };
-    WrittenAnswer::from(model_writer::write(opts, cmvn, &params, out))
+    WrittenAnswer::from(model_writer::write(opts, cmvn, &doubles, out))
 }
