@@ -24,6 +24,9 @@ pub mod silence_weighting {
         pub fn get_delta_weights(&mut self, _: usize, _: usize) -> Vec<(usize, f32)> {
             unimplemented!()
         }
+        pub fn active(&self) -> bool {
+            unimplemented!()
+        }
         pub fn x_table(&self) -> Vec<(bool, bool, u32)> {
             unimplemented!()
         }
@@ -46,10 +49,19 @@ pub mod ivector {
     pub fn settings(_: &str, _: &str) -> IvectorOptions {
         unimplemented!()
     }
+    pub struct Gmm {
+        pub num_gauss: usize,
+        pub dim: usize,
+    }
     pub struct Extractor {
+        pub num_gauss: usize,
+        pub feat_dim: usize,
+        pub ivector_dim: usize,
         pub prior_offset: f64,
     }
     pub struct IvectorInfo {
+        pub opts: IvectorOptions,
+        pub gmm: Gmm,
         pub extractor: Extractor,
     }
     pub struct Tables {

@@ -604,6 +604,19 @@ pub const NAMED: [What; 18] = [
     What::Exact, What::Nan, What::Registers, What::Floor, What::Widths, What::Window, What::Trigger, What::Big, What::Cuts,
 ];
 
+/// The kinds of that name, or of "all".
+pub fn kinds(s: &str) -> Vec<What> {
+    if s == "all" {
+        return KINDS.to_vec();
+    }
+    let v: Vec<What> = NAMED.iter().copied().filter(|k| format!("{k:?}").to_lowercase() == s).collect();
+    if v.is_empty() {
+        eprintln!("no kind {s}");
+        std::process::exit(2);
+    }
+    v
+}
+
 pub struct CallList {
     pub cmds: Vec<Cmd>,
     /// For `m` lines with a single known fault: index of the command, expected number.

@@ -1,16 +1,6 @@
 //! The library against the machine and the original Rust. See README.md.
-pub mod day;
-pub mod fns;
 pub mod gen;
-pub mod lists;
-pub mod loads;
-pub mod loud;
 pub mod machine;
-pub mod memory;
-pub mod model;
-pub mod nearest;
-pub mod original;
-pub mod rattle;
 pub mod registers;
 pub mod requests;
 pub mod requests_floor;
@@ -18,15 +8,45 @@ pub mod requests_nan;
 pub mod requests_widths;
 pub mod requests_window;
 pub mod script;
-pub mod settings;
-pub mod timed;
-pub mod translated;
 pub mod trigger;
+pub mod voice;
+
+#[cfg(feature = "library")]
+pub mod day;
+#[cfg(feature = "library")]
+pub mod fns;
+#[cfg(feature = "library")]
+pub mod lists;
+#[cfg(feature = "library")]
+pub mod load_lines;
+#[cfg(feature = "library")]
+pub mod loads;
+#[cfg(feature = "library")]
+pub mod loud;
+#[cfg(feature = "library")]
+pub mod memory;
+#[cfg(feature = "library")]
+pub mod model;
+#[cfg(feature = "library")]
+pub mod nearest;
+#[cfg(feature = "library")]
+pub mod original;
+#[cfg(feature = "library")]
+pub mod rattle;
+#[cfg(feature = "library")]
+pub mod settings;
+#[cfg(feature = "library")]
+pub mod timed;
+#[cfg(feature = "library")]
+pub mod translated;
+#[cfg(feature = "library")]
 pub mod writer;
+#[cfg(feature = "library")]
 #[allow(dead_code, warnings)]
 mod orig {
     include!(concat!(env!("OUT_DIR"), "/orig.rs"));
 }
+#[cfg(feature = "library")]
 #[allow(dead_code, warnings)]
 mod orig_nan {
     include!(concat!(env!("OUT_DIR"), "/orig_nan.rs"));

@@ -15,20 +15,7 @@
 //! KIND: calls wild damage edges rooms forged silence long limit exact nan registers floor widths window trigger big cuts, or all (all but big and cuts).
 //! THREADS: how many (2).
 //! Exit status 1 on any difference.
-use compare::{day, gen, lists, loads, loud, nearest, requests_widths, script, settings, translated, writer};
-use std::io::{BufRead, Write};
-
-fn kinds(s: &str) -> Vec<gen::What> {
-    if s == "all" {
-        return gen::KINDS.to_vec();
-    }
-    let v: Vec<gen::What> = gen::NAMED.iter().copied().filter(|k| format!("{k:?}").to_lowercase() == s).collect();
-    if v.is_empty() {
-        eprintln!("no kind {s}");
-        std::process::exit(2);
-    }
-    v
-}
+use compare::{day, gen, lists, load_lines, loads, loud, nearest, script, settings, translated, writer};
 
 fn main() {
     std::panic::set_hook(Box::new(|i| {
@@ -40,7 +27,7 @@ fn main() {
     }));
     let a: Vec<String> = std::env::args().collect();
     let num = |i: usize, d: u64| a.get(i).map_or(d, |s| s.replace('_', "").parse().expect("number"));
-    let kind = |i: usize| kinds(a.get(i).map_or("all", |s| s.as_str()));
+    let kind = |i: usize| gen::kinds(a.get(i).map_or("all", |s| s.as_str()));
     match a.get(1).map(|s| s.as_str()) {
         Some("lists") => {
             let (first, count, ks) = (num(2, 1), num(3, 1000), kind(4));
@@ -71,32 +58,15 @@ fn main() {
         Some("nearest") => std::process::exit(i32::from(nearest::run(num(2, 1), num(3, 1000)) != 0)),
         Some("loud") => std::process::exit(i32::from(!loud::run(num(2, 1), num(3, 1000)))),
         Some("nearest-lines") => std::process::exit(i32::from(nearest::lines(std::io::stdin().lock()) != 0)),
-        Some("load-lines") => std::process::exit(i32::from(requests_widths::lines(std::io::stdin().lock()) != 0)),
+        Some("load-lines") => std::process::exit(i32::from(load_lines::lines(std::io::stdin().lock()) != 0)),
         Some("settings") => std::process::exit(i32::from(settings::run(num(2, 1), num(3, 1000)) != 0)),
         Some("settings-lines") => std::process::exit(i32::from(settings::lines(std::io::stdin().lock()) != 0)),
         Some("write") => std::process::exit(i32::from(writer::run(num(2, 1), num(3, 1000)) != 0)),
         Some("write-lines") => std::process::exit(i32::from(writer::lines(std::io::stdin().lock()) != 0)),
         Some("loads") => std::process::exit(i32::from(loads::run(num(2, 1), num(3, 1000)) != 0)),
         Some("translated") => translated::run(num(2, 1), num(3, 1), &kind(5), std::path::Path::new(&a[4])),
-        Some("gen") => {
-            let mut w = std::io::BufWriter::new(std::io::stdout().lock());
-            for seed in num(2, 1)..num(2, 1) + num(3, 1) {
-                for k in kind(4) {
-                    for c in gen::call_list(seed, k).cmds {
-                        writeln!(w, "{}", script::print(&c)).unwrap();
-                    }
-                }
-            }
-        }
-        Some("answer") => {
-            let mut run = script::Runner::default();
-            let mut w = std::io::BufWriter::new(std::io::stdout().lock());
-            for line in std::io::stdin().lock().lines() {
-                if let Some(s) = run.exec(&script::parse(&line.unwrap())) {
-                    writeln!(w, "{s}").unwrap();
-                }
-            }
-        }
+        Some("gen") => script::write(num(2, 1), num(3, 1), &kind(4), std::io::stdout().lock()),
+        Some("answer") => script::answer(std::io::stdin().lock(), std::io::stdout().lock()),
         _ => {
             eprintln!(
                 "compare lists FIRST COUNT [KIND] | day [FRAMES [SEED]] | nearest FIRST COUNT | nearest-lines | loud FIRST COUNT | load-lines | settings FIRST COUNT | settings-lines | write FIRST COUNT | write-lines | loads FIRST COUNT | translated FIRST COUNT FOLDER [KIND] | gen FIRST COUNT [KIND] | answer"

@@ -1,6 +1,8 @@
 //! Scripts of calls (FORMAT.md): parse, print, and run on the machine.
+use crate::gen::{self, What};
 use crate::machine::*;
 use crate::trigger::{Ended, Round, Utterance};
+use std::io::{BufRead, BufWriter, Write};
 
 #[derive(Clone, Debug)]
 pub enum Cmd {
@@ -421,6 +423,29 @@ impl Runner {
                     }
                 }
             }
+        }
+    }
+}
+
+/// The lists of the seeds `first` to `first + count - 1`, of each kind.
+pub fn write(first: u64, count: u64, kinds: &[What], w: impl Write) {
+    let mut w = BufWriter::new(w);
+    for seed in first..first + count {
+        for k in kinds {
+            for c in gen::call_list(seed, *k).cmds {
+                writeln!(w, "{}", print(&c)).unwrap();
+            }
+        }
+    }
+}
+
+/// The machine's answers to a script.
+pub fn answer(script: impl BufRead, w: impl Write) {
+    let mut run = Runner::default();
+    let mut w = BufWriter::new(w);
+    for line in script.lines() {
+        if let Some(s) = run.exec(&parse(&line.unwrap())) {
+            writeln!(w, "{s}").unwrap();
         }
     }
 }

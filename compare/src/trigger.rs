@@ -1,8 +1,8 @@
 //! Request 13, the trigger: the round of an utterance over the machine's stream and silence table, and lists of rounds.
 use crate::gen::{build, frame, give, rand_opts, weight, CallList, Kind, Rng, Spec};
 use crate::machine::{ev, Alter, SAlter, Silence, Stream};
-use crate::nearest::{nearest, Nearest};
 use crate::script::{Cmd, Runner};
+use crate::voice::{nearest, Nearest};
 
 /// What a round is given; `lent`: lengths of the two lists for the changes, then of the vector.
 #[derive(Clone, Debug, Default)]

@@ -1,10 +1,13 @@
 //! Turns a script and its answers into equations about the definitions, each to be proved by computing (`refl`).
 //!
-//!     equations SCRIPT ANSWERS FOLDER [--first N] [--calls N] [--bytes N] [--past FILE]
+//!     equations SCRIPT ANSWERS FOLDER [--first N] [--calls N] [--bytes N] [--numbers N] [--equations N] [--past FILE]
 //!
-//! FOLDER gets a module for each session of the script, numbered from `--first`, and Lib.antt. What makes an equation: a load (`m`) whose
-//! files have at most `--bytes` bytes together; where it is taken, the `k` behind it tells the model. A fresh stream (`s`), and the calls on
-//! it as one list, at most `--calls` of them. A silence table (`t`), and the calls on it as one list. A call with a forged record (`x`, `y`).
+//! FOLDER gets a module for each session of the script, numbered from `--first`, one with the words that they share, and Lib.antt. What makes an
+//! equation: a load (`m`) whose files have at most `--bytes` bytes together; where it is taken, the `k` behind it tells the model. A fresh stream
+//! (`s`), and the calls on it as one list, at most `--calls` of them. A silence table (`t`), and the calls on it as one list. A call with a forged
+//! record (`x`, `y`). A session with steps over registers or rounds (`r`, `u`) is one list of events, on the program's rooms; what is forged among
+//! them is left out. A model of more than `--numbers` numbers is left out, too. Of a session there are at most `--equations` lists of calls, and as many
+//! other equations of each sort.
 //! FILE has the prover's lines about equations that it could not compute to the end: a list of calls is halved for each line that names
 //! it, another equation is left out. Printed are the lists that were cut, and how much of each kind was written.
 use std::collections::{BTreeMap, HashMap, HashSet};
@@ -25,6 +28,7 @@ const STREAM: [&str; 13] = [
     "info", "lengths", "accepted", "num_frames_stats", "mark", "floor", "window", "longest", "waiting", "past_highest", "delta_weights_provided",
     "input_finished", "num_frames",
 ];
+const OUTCOME: [&str; 6] = ["refusal", "step", "full", "found", "index", "distance"];
 const SILENCE: [&str; 5] = ["silence_weight", "subsampling", "phones", "table", "length"];
 /// The script's names for options, dimensions and counters, in the order of `Record::fields`.
 #[rustfmt::skip]
@@ -54,6 +58,16 @@ fn floats(bits: &[&str]) -> String {
 }
 fn phones(words: &[&str]) -> String {
     list(words.iter().map(|p| number(p)).map(|p| if p < 0 { format!("negsuc {}", -p - 1) } else { format!("pos {p}") }))
+}
+fn bits(words: &[&str]) -> String {
+    list(words.iter().map(|b| format!("0x{b}")))
+}
+fn zeros(n: i128, zero: &str) -> String {
+    format!("(replicate {n} {zero})")
+}
+/// Frame numbers and weights in turn.
+fn changes(words: &[&str]) -> String {
+    list(words.chunks(2).map(|c| format!("({}, {})", c[0], float(c[1]))))
 }
 fn bytes(hex: &str) -> String {
     list((0..hex.len() / 2).map(|i| u8::from_str_radix(&hex[2 * i..2 * i + 2], 16).unwrap()))
@@ -133,6 +147,33 @@ impl Record {
         let values = [self.info(), self.rooms()].into_iter().chain(self.fields[16..].to_vec()).chain([n]).chain(rest);
         format!("declined {} {} {} {}", record(&STREAM, values), list(&self.waiting), record(&TABLES, lent), rooms(&lent[8..]))
     }
+    /// Notes what a call on the stream leaves, by its answer.
+    fn called(&mut self, v: &[&str], q: &[&str]) {
+        let (mut rest, taken) = (&v[1..], q[0] == "0");
+        match v[0] {
+            "p" => self.set("accepted", self.field("accepted") + taken as i128),
+            "w" if taken => {
+                self.waiting.extend(counted(&mut rest).iter().map(|f| number(f)));
+                self.waiting.sort();
+            }
+            "d" => self.set("floor", self.field("floor").max(number(v[1]))),
+            "n" if taken => {
+                self.set("in force", number(v[1]));
+                self.set("longest", self.field("longest").max(number(v[1])));
+            }
+            "v" if taken && number(v[1]) >= self.field("next") => {
+                let f = number(v[1]);
+                self.set("next", f + 1);
+                self.waiting.retain(|t| *t > f);
+            }
+            _ => {}
+        }
+        let mark = self.field("accepted") - number(q[1]);
+        if mark > self.field("mark") {
+            self.set("longest", self.field("in force"));
+        }
+        self.set("mark", mark);
+    }
     /// The record that `x` lines make of this one, and the lengths that are lent with it.
     fn forged(&self, lines: &[Vec<&str>]) -> (Record, Vec<i128>) {
         let (mut r, mut lent) = (self.clone(), self.lengths.clone());
@@ -149,11 +190,105 @@ impl Record {
     }
 }
 
+// ---- calls and their answers
+
+/// A call on a stream, its answer, and what it counts as.
+fn stream_call(v: &[&str], q: &[&str]) -> Made {
+    let mut rest = &v[1..];
+    let (mut counts, mut vector) = (vec!["stream calls".to_string()], "[] 0 0".to_string());
+    let text = match v[0] {
+        "p" => format!("push {}", floats(counted(&mut rest))),
+        "f" => "finish".into(),
+        "w" => {
+            let (frames, weights) = (counted(&mut rest), counted(&mut rest));
+            format!("change {} {}", list(frames), floats(weights))
+        }
+        "d" => format!("forget {}", v[1]),
+        "n" => format!("set_window {}", v[1]),
+        _ => {
+            if q[0] == "0" {
+                counts.push("fetches".into());
+                counts.extend((q[3] != "0").then(|| "fetches not finite".into()));
+                counts.extend((q[4] != "0").then(|| "fetches with NaN likelihoods".into()));
+                vector = format!("{} {} {}", bits(&q[5..]), q[3], q[4]);
+            }
+            format!("fetch {} {}", v[1], v[2])
+        }
+    };
+    counts.extend((v[0] == "n").then(|| "windows".into()));
+    counts.extend((q[0] != "0").then(|| format!("stream calls refused {}", q[0])));
+    Made { text, answer: format!("said {} {} {} {vector}", q[0], q[1], q[2]), counts }
+}
+
+/// A call on a silence table; of its answer the refusal number and the changes that it gave.
+fn silence_call(v: &[&str], q: &[&str]) -> (String, String, Vec<String>) {
+    let mut rest = &v[2..];
+    let text = if v[0] == "b" {
+        let [ps, starts, ends] = [0; 3].map(|_| counted(&mut rest));
+        format!("traceback {} {} {} {}", v[1], phones(ps), list(starts), list(ends))
+    } else {
+        format!("weights {}", v[1..].join(" "))
+    };
+    let mut counts = vec!["silence calls".to_string()];
+    counts.extend((q[0] != "0").then(|| format!("silence calls refused {}", q[0])));
+    (text, changes(q.get(2..).unwrap_or(&[])), counts)
+}
+
+/// A step over registers: the vector buffer is all zeros before it.
+fn step(v: &[&str], q: &[&str]) -> Made {
+    let mut rest = &v[2..];
+    let (frame, m) = (counted(&mut rest), number(v[1]));
+    let (block, after) = (bytes(rest[1]), q.get(1).map(|b| bytes(b)));
+    let vector = if q.len() > 2 { bits(&q[2..]) } else { zeros(m, "0") };
+    let mut counts = vec!["steps".to_string()];
+    counts.extend((q[0] != "0").then(|| format!("steps answered {}", q[0])));
+    counts.extend((q.len() > 2).then(|| "steps that fetch".into()));
+    Made { text: format!("step {block} {} {m}", floats(frame)), answer: format!("leaving {} {} {vector}", q[0], after.unwrap_or(block)), counts }
+}
+
+/// A round: its lists for the changes and its output are all zeros before it.
+fn round(v: &[&str], q: &[&str]) -> Made {
+    let mut rest = &v[2..];
+    let [frames, ps, starts, ends] = [0; 4].map(|_| counted(&mut rest));
+    let (lent, voices) = (cut(&mut rest, 3), cut(&mut rest, 1)[0]);
+    let (enrolled, limit) = (counted(&mut rest), cut(&mut rest, 1)[0]);
+    let said = ["start", "numbers", "phones", "starts", "ends"];
+    let utterance = record(&said, [v[1].to_string(), floats(frames), phones(ps), list(starts), list(ends)]);
+    let voices = record(&["count", "enrolled", "limit"], [voices.to_string(), bits(enrolled), float(limit)]);
+
+    let (mut rest, mut what) = (&q[1..], "rounds full".to_string());
+    let [mut refusal, mut step, mut found, mut index, mut distance] = ["0", "0", "false", "0", "00000000"];
+    match q[0] {
+        "1" => {
+            [refusal, step] = [cut(&mut rest, 1)[0], cut(&mut rest, 1)[0]];
+            what = format!("rounds refused {refusal} at step {step}");
+        }
+        "2" => what = "rounds without a vector".into(),
+        "3" => {}
+        _ => {
+            [found, index, distance] = ["true", cut(&mut rest, 1)[0], cut(&mut rest, 1)[0]];
+            what += ", with a voice";
+        }
+    }
+    let full = ["3", "4"].contains(&q[0]).to_string();
+    let ending = record(&OUTCOME, [refusal, step, &full, found, index, &float(distance)]);
+    let given = rest.first().map_or(0, |n| 1 + 2 * number(n));
+    let given = changes(cut(&mut rest, given).get(1..).unwrap_or(&[]));
+    let out = if rest.is_empty() { zeros(number(lent[2]), "0") } else { bits(rest) };
+    Made {
+        text: format!("turn {utterance} {voices} {}", lent.join(" ")),
+        answer: format!("ending {ending} {given} {out}"),
+        counts: vec!["rounds".into(), what],
+    }
+}
+
 // ---- a module of equations
 
 struct Limits {
     calls: usize,
     bytes: usize,
+    numbers: usize,
+    equations: usize,
     past: HashMap<(String, String), u32>,
 }
 
@@ -164,13 +299,23 @@ struct Module<'a> {
     text: String,
     names: usize,
     seen: HashSet<String>,
+    /// How many equations of each sort it has.
+    made: HashMap<String, usize>,
 }
 
-/// A list of calls: what they are made on, then each call, its answer, and what it counts as.
+/// A call, its answer (empty where it has none), and what it counts as.
+struct Made {
+    text: String,
+    answer: String,
+    counts: Vec<String>,
+}
+
+/// A list of calls, and what they are made on.
 struct Calls {
+    what: &'static str,
     name: String,
     on: String,
-    calls: Vec<(String, String, Vec<String>)>,
+    calls: Vec<Made>,
 }
 
 impl Module<'_> {
@@ -191,15 +336,21 @@ impl Module<'_> {
         name
     }
     fn state(&mut self, name: &str, left: &str, right: &str) {
-        write!(self.text, "\n{name} : {left}\n    ≡ {right}\nunfolding computed heard\n{name} = refl\n").unwrap();
+        write!(self.text, "\n{name} : {left}\n    ≡ {right}\nunfolding opened\n{name} = refl\n").unwrap();
         self.count("equations");
+    }
+    /// Whether there may be one more equation of a sort: a list's calls, or the first word of what it counts as.
+    fn has_room(&mut self, sort: &str) -> bool {
+        let made = self.made.entry(sort.into()).or_default();
+        *made += 1;
+        *made <= self.limits.equations
     }
     /// An equation, unless it stands already.
     fn equation(&mut self, left: &str, right: &str, what: &str) {
         let name = self.new_name("equation");
         if self.past(&name) > 0 {
             println!("left out: {} {name}, {what}", self.name);
-        } else if self.seen.insert(format!("{left} ≡ {right}")) {
+        } else if self.seen.insert(format!("{left} ≡ {right}")) && self.has_room(what.split(' ').next().unwrap()) {
             self.state(&name, left, right);
             self.count(what);
         }
@@ -209,24 +360,43 @@ impl Module<'_> {
         if n < c.calls.len() {
             println!("cut: {} {}, {n} of {} calls", self.name, c.name, c.calls.len());
         }
-        if n > 0 {
+        if n > 0 && self.has_room(c.what) {
             let kept = &c.calls[..n];
-            self.state(&c.name, &format!("{}\n    {}", c.on, list(kept.iter().map(|x| &x.0))), &list(kept.iter().map(|x| &x.1)));
-            self.count(&format!("lists of {}", kept[0].2[0]));
-            kept.iter().flat_map(|x| &x.2).for_each(|what| self.count(what));
+            let answers = kept.iter().map(|x| &x.answer).filter(|a| !a.is_empty());
+            self.state(&c.name, &format!("{}\n    {}", c.on, list(kept.iter().map(|x| &x.text))), &list(answers));
+            self.count(&format!("lists of {}", c.what));
+            kept.iter().flat_map(|x| &x.counts).for_each(|what| self.count(what));
         }
     }
 }
 
 // ---- a session
 
+/// A session with steps or rounds: its first model, whether a stream and a table stand, and all calls on them.
+#[derive(Default)]
+struct Desk {
+    model: Option<String>,
+    stream: bool,
+    table: bool,
+    events: Vec<Made>,
+}
+
+/// A model's name, that with the tables as they are lent, and the record.
+#[derive(Clone)]
+struct Loaded {
+    name: String,
+    lent: String,
+    record: Record,
+}
+
 #[derive(Default)]
 struct Session<'a> {
     options: Vec<String>,
     files: [&'a str; 4],
-    model: Option<(String, Record)>,
+    model: Option<Loaded>,
     stream: Option<(Record, Calls)>,
     silence: Option<(Vec<String>, Calls)>,
+    desk: Option<Desk>,
 }
 
 impl<'a> Session<'a> {
@@ -236,6 +406,18 @@ impl<'a> Session<'a> {
             self.options = v[1..].iter().map(|x| x.to_string()).collect();
         } else if let Some(i) = "gelc".find(v[0]) {
             self.files[i] = v[2];
+        }
+    }
+    /// A call on the desk, unless it is forged, or what it is made on does not stand.
+    fn event(&mut self, m: &mut Module, made: Made, forged: bool, stands: impl Fn(&Desk) -> bool) {
+        let Some(d) = &mut self.desk else { return };
+        let what = &made.counts[0];
+        if !stands(d) {
+            m.count(&format!("{what} left out, without stream or table"));
+        } else if forged {
+            m.count(&format!("{what} left out, forged among steps or rounds"));
+        } else {
+            d.events.push(made);
         }
     }
     /// The lists of calls end here. A stream's record, as its calls leave it, is not broken.
@@ -260,11 +442,26 @@ impl<'a> Session<'a> {
             let (tables, _, load_scratch) = r.needs();
             (r.lengths, scratch) = (lengths(&tables, &v[1..]), load_scratch);
             if q[0] == "0" {
+                if k.len() > m.limits.numbers {
+                    return m.count("models too large");
+                }
                 let mut words = &k[7..];
-                let tables = tables.map(|n| floats(cut(&mut words, n)));
-                let name = m.abbrev("model", "Model", &record(&["info", "tables"], [r.info(), format!("tables_from {}", tables.join(" "))]));
+                let mut tables: Vec<Vec<&str>> = tables.map(|n| cut(&mut words, n).to_vec()).into();
+                let model = |tables: &[Vec<&str>]| {
+                    let tables: Vec<String> = tables.iter().map(|t| floats(t)).collect();
+                    record(&["info", "tables"], [r.info(), format!("tables_from {}", tables.join(" "))])
+                };
+                let name = m.abbrev("model", "Model", &model(&tables));
+                // a room that is longer than its table holds zeros past it
+                let longer = tables.iter().zip(&r.lengths).any(|(t, n)| (t.len() as i128) < *n);
+                let wide = ["00000000", "0000000000000000"];
+                tables.iter_mut().zip([0, 0, 0, 1, 1, 0, 0, 1]).zip(&r.lengths).for_each(|((t, w), n)| t.resize(*n as usize, wide[w]));
+                let lent = if longer && self.desk.is_some() { m.abbrev("lent", "Model", &model(&tables)) } else { name.clone() };
                 right = format!("read {name} 0");
-                self.model = Some((name, r.clone()));
+                if let Some(d) = &mut self.desk {
+                    d.model.get_or_insert(name.clone());
+                }
+                self.model = Some(Loaded { name, lent, record: r.clone() });
             }
         } else if q[0] == "0" || q[0] == "8" {
             return m.count("loads without tables");
@@ -277,18 +474,34 @@ impl<'a> Session<'a> {
         m.equation(&left, &right, &format!("loads {}", outcome(q[0])));
     }
     fn fresh(&mut self, m: &mut Module, (v, q): &Line, forging: &[Vec<&str>]) {
-        let Some((name, mut r)) = self.model.clone() else { return m.count("streams without tables") };
+        let Some(Loaded { name, lent: model, record: mut r }) = self.model.clone() else { return m.count("streams without tables") };
         r.lengths.extend(v[1..5].iter().map(|x| number(x)));
         r.lengths.extend(lengths(&r.needs().1, &v[5..]));
         let (f, lent) = r.forged(forging);
         m.equation(&format!("new_refusal {} {} {}", f.info(), record(&TABLES, lent), r.rooms()), q[0], &format!("fresh streams {}", outcome(q[0])));
-        if q[0] == "0" {
-            let calls = Calls { name: m.new_name("calls"), on: format!("answers {name} {}", r.rings()), calls: vec![] };
+        if q[0] != "0" {
+            return;
+        }
+        if let Some(d) = &mut self.desk {
+            let z = &r.lengths[8..];
+            let rings = [zeros(z[0], "zero₃₂"), zeros(z[1], "zero₆₄"), zeros(z[2], "0"), zeros(z[3], "zero₃₂")].join(" ");
+            let estimate: Vec<String> = z[4..8].iter().map(|n| zeros(*n, "zero₆₄")).collect();
+            let text = format!("make_stream {model} (rooms_from (rings_from {rings}) (estimate_from {})) {}", estimate.join(" "), z[8]);
+            let answer = format!("answered (said {} [] 0 0)", q.join(" "));
+            d.events.push(Made { text, answer, counts: vec!["streams of steps or rounds".into()] });
+            d.stream = true;
+        } else {
+            let calls = Calls { what: "stream calls", name: m.new_name("calls"), on: format!("answers {name} {}", r.rings()), calls: vec![] };
             r.made = true;
             self.stream = Some((r, calls));
         }
     }
     fn call(&mut self, m: &mut Module, (v, q): &Line, forging: &[Vec<&str>]) {
+        if self.desk.is_some() {
+            let made = stream_call(v, q);
+            let made = Made { text: format!("plain ({})", made.text), answer: format!("answered ({})", made.answer), ..made };
+            return self.event(m, made, !forging.is_empty(), |d| d.stream);
+        }
         let Some((r, calls)) = &mut self.stream else { return };
         if !forging.is_empty() {
             let (f, lent) = r.forged(forging);
@@ -301,67 +514,34 @@ impl<'a> Session<'a> {
             }
             return;
         }
-        let (mut rest, taken) = (&v[1..], q[0] == "0");
-        let (mut counts, mut vector) = (vec!["stream calls".to_string()], "[] 0 0".to_string());
-        let text = match v[0] {
-            "p" => {
-                r.set("accepted", r.field("accepted") + taken as i128);
-                format!("push {}", floats(counted(&mut rest)))
-            }
-            "f" => "finish".into(),
-            "w" => {
-                let (frames, weights) = (counted(&mut rest), counted(&mut rest));
-                r.waiting.extend(frames.iter().filter(|_| taken).map(|f| number(f)));
-                r.waiting.sort();
-                format!("change {} {}", list(frames), floats(weights))
-            }
-            "d" => {
-                r.set("floor", r.field("floor").max(number(v[1])));
-                format!("forget {}", v[1])
-            }
-            "n" => {
-                if taken {
-                    r.set("in force", number(v[1]));
-                    r.set("longest", r.field("longest").max(number(v[1])));
-                }
-                format!("set_window {}", v[1])
-            }
-            _ => {
-                let f = number(v[1]);
-                if taken {
-                    counts.push("fetches".into());
-                    counts.extend((q[3] != "0").then(|| "fetches not finite".into()));
-                    counts.extend((q[4] != "0").then(|| "fetches with NaN likelihoods".into()));
-                    vector = format!("{} {} {}", list(q[5..].iter().map(|b| format!("0x{b}"))), q[3], q[4]);
-                }
-                if taken && f >= r.field("next") {
-                    r.set("next", f + 1);
-                    r.waiting.retain(|t| *t > f);
-                }
-                format!("fetch {f} {}", v[2])
-            }
-        };
-        let mark = r.field("accepted") - number(q[1]);
-        if mark > r.field("mark") {
-            r.set("longest", r.field("in force"));
-        }
-        r.set("mark", mark);
-        counts.extend((!taken).then(|| format!("stream calls refused {}", q[0])));
-        calls.calls.push((text, format!("said {} {} {} {vector}", q[0], q[1], q[2]), counts));
+        r.called(v, q);
+        calls.calls.push(stream_call(v, q));
     }
     fn table(&mut self, m: &mut Module, (v, q): &Line) {
         let fields = [&float(v[2]), v[3], v[4], v[1], "(decoder 0)"].map(String::from);
         let settings = format!("{} ({}) {}", v[4], fields[0], v[3]);
         let table = record(&SILENCE, &fields);
-        let right = if q[0] == "0" { format!("N.Table {table}") } else { format!("N.Refused {}", q[0]) };
+        let right = if q[0] == "0" { format!("Ok {table}") } else { format!("Err {}", q[0]) };
         m.equation(&format!("settings_refusal {settings}"), q[0], "silence settings");
         m.equation(&format!("new_table {settings} {}", v[1]), &right, &format!("silence tables {}", outcome(q[0])));
-        if q[0] == "0" {
-            let calls = Calls { name: m.new_name("queries"), on: format!("heard {table} {} []", phones(&v[5..])), calls: vec![] };
+        if let Some(d) = &mut self.desk {
+            d.table = q[0] == "0";
+            if d.table {
+                let text = format!("make_table {} ({}) {} {}", phones(&v[5..]), fields[0], v[3], v[1]);
+                d.events.push(Made { text, answer: "refusing 0".into(), counts: vec!["tables of rounds".into()] });
+            }
+        } else if q[0] == "0" {
+            let calls =
+                Calls { what: "silence calls", name: m.new_name("queries"), on: format!("heard {table} {} []", phones(&v[5..])), calls: vec![] };
             self.silence = Some((fields.to_vec(), calls));
         }
     }
     fn query(&mut self, m: &mut Module, (v, q): &Line, forging: &[Vec<&str>]) {
+        let (text, given, counts) = silence_call(v, q);
+        if self.desk.is_some() {
+            let made = Made { text: format!("ask ({text})"), answer: format!("giving {} {given}", q[0]), counts };
+            return self.event(m, made, !forging.is_empty(), |d| d.table);
+        }
         let Some((fields, calls)) = &mut self.silence else { return };
         if !forging.is_empty() {
             let (mut f, mut lent) = (fields.clone(), number(&fields[3]));
@@ -377,17 +557,16 @@ impl<'a> Session<'a> {
             let left = format!("table_broken {} {lent} {lent} {lent}", record(&SILENCE, &f));
             return m.equation(&left, if q[0] == "10" { "true" } else { "false" }, &format!("forged silence calls {}", outcome(q[0])));
         }
-        let mut rest = &v[2..];
-        let text = if v[0] == "b" {
-            let [ps, starts, ends] = [0; 3].map(|_| counted(&mut rest));
-            format!("traceback {} {} {} {}", v[1], phones(ps), list(starts), list(ends))
-        } else {
-            format!("weights {}", v[1..].join(" "))
-        };
-        let mut counts = vec!["silence calls".to_string()];
-        counts.extend((q[0] != "0").then(|| format!("silence calls refused {}", q[0])));
-        let changes = q.get(2..).unwrap_or(&[]).chunks(2).map(|c| format!("({}, {})", c[0], float(c[1])));
-        calls.calls.push((text, format!("({}, {})", q[0], list(changes)), counts));
+        calls.calls.push(Made { text, answer: format!("({}, {given})", q[0]), counts });
+    }
+    /// A round. `x` lines are of its first step, which they refuse; `y` lines of its third, and what was done before that remains done.
+    fn round(&mut self, m: &mut Module, (v, q): &Line, x: &[Vec<&str>], y: &[Vec<&str>]) {
+        let stands = |d: &Desk| d.stream && d.table;
+        self.event(m, round(v, q), !x.is_empty() || !y.is_empty(), stands);
+        if x.is_empty() && !y.is_empty() {
+            let text = format!("begun {} {}", v[1], floats(counted(&mut &v[2..])));
+            self.event(m, Made { text, answer: String::new(), counts: vec!["rounds begun".into()] }, false, stands);
+        }
     }
 }
 
@@ -400,6 +579,7 @@ fn session(m: &mut Module, lines: &[Line]) {
         }
     }
     s = Session::default();
+    s.desk = lines.iter().any(|(v, _)| matches!(v[0], "r" | "u")).then(Desk::default);
     let (mut x, mut y) = (vec![], vec![]);
     for line in lines {
         let v = &line.0;
@@ -408,11 +588,13 @@ fn session(m: &mut Module, lines: &[Line]) {
             "m" => {
                 s.close(m, true, false);
                 s.model = None;
+                s.desk.iter_mut().for_each(|d| d.stream = false);
                 let k = tables.get(&(s.options.clone(), s.files));
                 s.load(m, line, k);
             }
             "s" => {
                 s.close(m, true, false);
+                s.desk.iter_mut().for_each(|d| d.stream = false);
                 s.fresh(m, line, &std::mem::take(&mut x));
             }
             "p" | "f" | "w" | "d" | "n" | "v" => s.call(m, line, &std::mem::take(&mut x)),
@@ -421,12 +603,18 @@ fn session(m: &mut Module, lines: &[Line]) {
                 s.table(m, line);
             }
             "b" | "a" => s.query(m, line, &std::mem::take(&mut y)),
+            "r" => s.event(m, step(v, &line.1), !std::mem::take(&mut x).is_empty(), |d| d.stream),
+            "u" => s.round(m, line, &std::mem::take(&mut x), &std::mem::take(&mut y)),
             "x" => x.push(v.clone()),
             "y" => y.push(v.clone()),
             _ => {}
         }
     }
     s.close(m, true, true);
+    if let Some(Desk { model: Some(model), events, .. }) = s.desk {
+        let name = m.new_name("events");
+        m.calls(Calls { what: "events", name, on: format!("events (bare {model})"), calls: events });
+    }
 }
 
 fn main() {
@@ -434,7 +622,13 @@ fn main() {
     let file = |path: &str| std::fs::read_to_string(path).unwrap_or_else(|e| panic!("{path}: {e}"));
     let option = |name: &str| args.iter().position(|a| a == name).map(|i| args[i + 1].clone());
     let count = |name: &str, default: usize| option(name).map_or(default, |n| n.parse().expect("a number"));
-    let mut limits = Limits { calls: count("--calls", usize::MAX), bytes: count("--bytes", 8000), past: HashMap::new() };
+    let mut limits = Limits {
+        calls: count("--calls", usize::MAX),
+        bytes: count("--bytes", 8000),
+        numbers: count("--numbers", 20_000),
+        equations: count("--equations", usize::MAX),
+        past: HashMap::new(),
+    };
     for line in option("--past").map_or(String::new(), |p| file(&p)).lines() {
         let (path, rest) = line.split_once(".antt:").expect("a line of the prover");
         let equation = rest.split('`').nth(1).expect("a line of the prover");
@@ -448,7 +642,7 @@ fn main() {
         match v[0] {
             "z" => sessions.push(vec![]),
             c => {
-                let q = "mkspfwdvtba".find(c).map_or("", |_| answer.next().expect("an answer"));
+                let q = "mkspfwdnvtbaru".find(c).map_or("", |_| answer.next().expect("an answer"));
                 sessions.last_mut().unwrap().push((v, q.split(' ').collect()));
             }
         }
@@ -457,7 +651,8 @@ fn main() {
     let (mut counts, mut modules) = (BTreeMap::new(), String::new());
     for (i, lines) in sessions.iter().enumerate() {
         let name = format!("S{}", count("--first", 1) + i);
-        let mut m = Module { limits: &limits, counts: &mut counts, name, text: head::HEAD.into(), names: 0, seen: HashSet::new() };
+        let mut m =
+            Module { limits: &limits, counts: &mut counts, name, text: head::HEAD.into(), names: 0, seen: HashSet::new(), made: HashMap::new() };
         session(&mut m, lines);
         if !m.seen.is_empty() || m.text.len() > head::HEAD.len() {
             m.count("sessions");
@@ -465,6 +660,7 @@ fn main() {
             std::fs::write(format!("{}/{}.antt", args[2], m.name), m.text).expect("the folder");
         }
     }
-    std::fs::write(format!("{}/Lib.antt", args[2]), modules).expect("the folder");
+    std::fs::write(format!("{}/Words.antt", args[2]), head::WORDS).expect("the folder");
+    std::fs::write(format!("{}/Lib.antt", args[2]), format!("pub mod Words\n{modules}")).expect("the folder");
     counts.iter().for_each(|(what, n)| println!("{n} {what}"));
 }
