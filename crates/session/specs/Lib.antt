@@ -1,0 +1,2 @@
+-- What a session by one call answers and leaves.
+pub mod Session

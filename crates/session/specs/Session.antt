@@ -1,0 +1,48 @@
+-- A session by one call: what it returned and wrote, as the claim from bytes speaks of it (`Answered`), and the rooms that it leaves.
+use Rattle.std.specs.Prelude.{ℕ, List, [], Result, Ok, Err}
+use Rattle.loops.specs.Refusal.{taken}
+use Rattle.definition.specs.declared.IvectorOptions.{IvectorOptions}
+use Rattle.definition.specs.declared.StreamAnswer.{StreamAnswer}
+use Rattle.definition.specs.Number.{number_of}
+use Rattle.definition.specs.Reader.{Got, read, refused}
+use Rattle.definition.specs.Model.{Tables, Model, Files}
+use Rattle.definition.specs.Machine.{Call, Answer}
+use Rattle.program.specs.Rooms.{Rooms, room_lengths_of}
+use Rattle.program.specs.Calls.{fresh_stream, fresh_rooms}
+use Rattle.program.specs.Session.{program, program_after}
+use Rattle.whole.specs.Whole.{Answered, not_loaded, not_made, played, got, left, machine_session}
+use Rattle.session.specs.declared.NotPlayed.{NotPlayed}
+use Rattle.session.specs.declared.NotPlayed.TheVariants as N
+
+-- the answers to the calls, which are written
+abbrev pub written_of : Answered → List Answer
+written_of (not_loaded r) = []
+written_of (not_made r) = []
+written_of (played a as') = as'
+
+-- what was returned, with the answers that were written
+abbrev pub returned_with : Result StreamAnswer NotPlayed → List Answer → Answered
+returned_with (Ok a) as' = played a as'
+returned_with (Err (N.Load e)) as' = not_loaded (number_of e)
+returned_with (Err (N.Stream e)) as' = not_made (number_of e)
+
+-- where the list's slices are refused with the number n, no stream is made
+abbrev pub of_list : ℕ → Answered → Answered
+of_list n (not_loaded r) = not_loaded r
+of_list n (not_made r) = not_made (taken n r n)
+of_list n (played a as') = taken n (played a as') (not_made n)
+
+module _ (o : IvectorOptions) (f : Files) (t : Tables) (n : ℕ) (z : Rooms) (m : ℕ) (cs : List Call) where
+  -- the keeping machine's session over the model that the bytes define; the list's slices are refused with the number k, 0 where they are not
+  abbrev pub session_answered : ℕ → Answered
+  session_answered k = of_list k (machine_session o f t n z m cs)
+
+  -- a stream's rooms: those that the program has after the calls, where it plays them
+  abbrev pub after_calls : Got Model → Rooms
+  after_calls (refused r) = z
+  after_calls (read M at) = (program_after (left o f t n z m) m (program (fresh_stream M.info (room_lengths_of z m)) (fresh_rooms M.info z)) cs).rooms
+
+  abbrev pub rooms_left : Answered → Rooms
+  rooms_left (not_loaded r) = z
+  rooms_left (not_made r) = z
+  rooms_left (played a as') = after_calls (got o f t n z m)

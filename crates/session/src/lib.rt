@@ -1,0 +1,119 @@
+// A session by one call: a model's files are loaded, a fresh stream is made over the tables that they fill, and a list of calls is played on it. Its contract is the
+// claim from bytes: what it answers is what the keeping machine answers over the model that the bytes define.
+#![tactic(auto)]
+
+ghost use Rattle.std.specs.Prelude.{◌≡◌, List, ℕ, length};
+ghost use Rattle.definition.specs.Lent.{SameWaiting, SameEstimate};
+ghost use Rattle.definition.specs.Model.{Files, Tables, tables_from, table_lengths_of, load as load_of, loaded_tables};
+ghost use Rattle.definition.specs.Machine.{Call};
+ghost use Rattle.program.specs.Lent.{estimate_of};
+ghost use Rattle.program.specs.Rooms.{rings_from, Rooms, rooms_from};
+ghost use Rattle.ivector_info.specs.Load.{files_of};
+ghost use Rattle.run_calls.specs.Listed.{calls, written, writes, list_refusal};
+ghost use Rattle.whole.specs.Whole.{Answered, machine_session};
+ghost use Rattle.session.specs.Session.{written_of, returned_with, session_answered, rooms_left};
+
+use definition::{IvectorOptions, LentEstimate, LentTables, Refusal, StreamAnswer, WaitingRooms};
+use run_calls::CallList;
+
+/// Why nothing was played.
+#[derive(Clone, Copy, Debug, PartialEq, Eq)]
+pub enum NotPlayed {
+    /// The files or the tables that they are to fill.
+    Load(Refusal),
+    /// The list, or the stream's rooms.
+    Stream(Refusal),
+}
+
+// A fresh stream's answer: it holds one prefix row, and no frame.
+const FRESH: StreamAnswer = StreamAnswer {
+    refusal: 0,
+    frames_held: 0,
+    rows_held: 1,
+    not_finite: 0,
+    nan_likelihoods: 0,
+};
+
+/// The answers are written as `run_calls::run` writes them; what is returned is the fresh stream's. The files and the tables are lent one by one, as to a load,
+/// and the rings as to `run`.
+pub fn session(
+    opts: IvectorOptions,
+    gmm: &[u8],
+    extractor: &[u8],
+    lda: &[u8],
+    cmvn: &[u8],
+    gconsts: &mut [f32],
+    means_invvars_t: &mut [f32],
+    inv_vars_t: &mut [f32],
+    sigma_inv_m: &mut [f64],
+    u: &mut [f64],
+    lda_t: &mut [f32],
+    lda_offset: &mut [f32],
+    global_mean_stats: &mut [f64],
+    load_scratch: &mut [f64],
+    frames: &mut [f32],
+    rows: &mut [f64],
+    waiting: &mut WaitingRooms<'_>,
+    estimate: &mut LentEstimate<'_>,
+    scratch: &mut [f64],
+    list: CallList<'_>,
+    answers: &mut [usize],
+    outs: &mut [u32],
+) -> Result<StreamAnswer, NotPlayed>
+    ensures session { (
+        let f : Files = files_of gmm.now extractor.now lda.now cmvn.now in
+        let t : Tables = tables_from gconsts.old means_invvars_t.old inv_vars_t.old sigma_inv_m.old
+        u.old lda_t.old lda_offset.old global_mean_stats.old in
+        let z : Rooms = rooms_from (rings_from frames.old rows.old waiting.old.frames.now waiting.old.weights.now) (estimate_of estimate.old) in
+        let y : Rooms = rooms_from (rings_from frames.new rows.new waiting.new.frames.now waiting.new.weights.now) (estimate_of estimate.new) in
+        let n : ℕ = length load_scratch.old in
+        let m : ℕ = length scratch.old in
+        let l : CallList = list.entry in
+        let cs : List Call = calls l.kinds.now l.numbers.now l.lists.now l.samples.now (length outs.old) in
+        let x : Answered = session_answered opts f t n z m cs (list_refusal (length l.kinds.now) (length l.numbers.now) (length answers.old)) in
+        (returned_with result (written_of x) ≡ x)
+        × (written answers.new outs.new ≡ writes l.numbers.now 0 (written_of x) (written answers.old outs.old))
+        × (tables_from gconsts.new means_invvars_t.new inv_vars_t.new sigma_inv_m.new u.new lda_t.new lda_offset.new global_mean_stats.new
+        ≡ loaded_tables (load_of opts f (table_lengths_of t) n) t)
+        × (y ≡ rooms_left opts f t n z m cs x)) }
+    ensures waiting { SameWaiting waiting.old waiting.new }
+    ensures estimate { SameEstimate estimate.old estimate.new }
+{
+    let loaded = ivector_info::load(
+        opts,
+        gmm,
+        extractor,
+        lda,
+        cmvn,
+        gconsts,
+        means_invvars_t,
+        inv_vars_t,
+        sigma_inv_m,
+        u,
+        lda_t,
+        lda_offset,
+        global_mean_stats,
+        load_scratch,
+    );
+    let info = match loaded {
+        Ok(info) => info,
+        Err(refusal) => return Err(NotPlayed::Load(refusal)),
+    };
+    let tables = LentTables {
+        gconsts,
+        means_invvars_t,
+        inv_vars_t,
+        sigma_inv_m,
+        u,
+        lda_t,
+        lda_offset,
+        global_mean_stats,
+    };
+    let ran = run_calls::run(
+        info, tables, frames, rows, waiting, estimate, scratch, list, answers, outs,
+    );
+    match ran {
+        Ok(()) => Ok(FRESH),
+        Err(refusal) => Err(NotPlayed::Stream(refusal)),
+    }
+}
