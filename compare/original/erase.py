@@ -26,6 +26,17 @@ def end_of(ts, i):
     raise ValueError('a bracket does not close')
 
 
+def answer_end(ts, i):
+    """Where the < at i closes."""
+    depth = 0
+    for j in range(i, len(ts)):
+        depth += ts[j] == '<'
+        depth -= ts[j] == '>'
+        if depth == 0:
+            return j
+    raise ValueError('a < does not close')
+
+
 def erase(ts):
     """The tokens without `alloc`, `?`, `Result<..>` and `Ok(..)`.
 
@@ -38,6 +49,8 @@ def erase(ts):
     while i < len(ts):
         if starts('alloc', ':', 'Global', ',') or starts('in', 'alloc', ';'):
             i += 4 if ts[i] == 'alloc' else 3
+        elif starts(',', 'alloc', ':', 'Global', ')'):
+            i += 4
         elif starts('alloc', ',') and out[-1:] == ['(']:
             i += 2
         elif starts('alloc', ')') and out[-1:] == ['(']:
@@ -47,10 +60,8 @@ def erase(ts):
         elif starts('try_take'):
             out.append('take')
             i += 1
-        elif starts('->', 'Result', '<'):
-            j = i + 3
-            while ts[j:j + 3] != [',', 'AllocError', '>']:
-                j += 1
+        elif starts('->', 'Result', '<') and ts[answer_end(ts, i + 2) - 2:][:2] == [',', 'AllocError']:
+            j = answer_end(ts, i + 2) - 2
             value = ts[i + 3:j]
             if value != ['(', ')']:
                 out += ['->', *value]

@@ -5,27 +5,31 @@ ALLOC = 'allocation may fail'
 LOGARITHM = 'the scope\'s exponential and logarithm'
 START = 'a start on the solution is kept'
 NAN = 'NaN stands last'
-METHOD = 'a float\'s method as a function'
-CAST = 'a cast by its name'
+METHOD = CAST = 'a method or a cast as a function'
 COUNT = 'a signed count as usize'
 ZIP = 'a zip over what changes, by its index'
 BORROW = 'a borrow taken where it is read'
 DROP = 'a type that may be let go'
 PROVE = 'an assertion that is proved'
+TEXT = 'an error\'s text, and a text as a text'
+BYTES = 'bytes in place of files'
 WHY = {
     ALLOC: 'What allocates is passed `alloc` and answers a `Result`; `?` hands out of memory on, `Ok` wraps what the original gives. Erased again, the original\'s tokens '
-           'are left, to the last (`erase.py`, tried at each translation). Where memory suffices, each step is the original\'s.',
+           'are left, to the last (`erase.py`, tried at each translation; of a reader its own `?` and `Ok` go too, and each of its tokens has to stand in the translation, in '
+           'order). Where memory suffices, each step is the original\'s.',
     LOGARITHM: 'The scope sets `ln` and `exp` bit for bit; the original calls the platform\'s. The same places as in compare\'s copy.',
     START: 'Request 9: a start that solves the equation is kept, where the original divides 0 by 0. The same place as in compare\'s copy.',
     NAN: 'Where the original panics at a NaN likelihood, a NaN stands last and the lower index first. The same place as in compare\'s copy.',
     METHOD: 'Rust\'s `sqrt`, `abs`, `min` and `max` of a float are here the functions of `floats` of those names, proved equal to their definitions: the root rounded, the number without '
-            'its sign, the other number where one is a NaN. Of two equal numbers Rust leaves open which one `min` or `max` gives (a zero\'s sign); here it is the first.',
-    CAST: '`as` between `f32` and `f64` is exact or rounds to nearest, NaN to NaN; `to_bits` is the bit pattern. Rattle names them.',
+            'its sign, the other number where one is a NaN; of two equal numbers Rust leaves open which one `min` or `max` gives (a zero\'s sign), and here it is the first. `as` between '
+            '`f32` and `f64` is exact or rounds to nearest, NaN to NaN; `to_bits`, `from_bits` and the bytes of a float are its bit pattern; `try_collect` is `collect` of results.',
     COUNT: 'The count of turns begins at 0, rises by 1 and ends at 133 at most; as a `usize` it needs no test of its sign. The option that it is compared with is not negative within '
            'the limits.',
     ZIP: '`a.iter_mut().zip(b)` visits the places of both in order; by the index of `a` the same, where `b` is as long, which the prover sees to.',
     BORROW: 'A row that a `let` borrows once is borrowed at each read: between them nothing writes to it.',
     DROP: 'Rattle asks a type to say that its values may be let go. No step is added.',
+    TEXT: 'The words of an error take nothing of what was read; the error and its kind stay. A `String` is compared, or stripped, as the text that it holds.',
+    BYTES: 'The files\' bytes and texts are given, where the original reads them from a folder. The same change as in compare\'s copy.',
     PROVE: '`assert!` panics where it does not hold; `prove!` is proved to hold, so that the panic cannot come.',
 }
 
@@ -34,7 +38,7 @@ DEPS = 'loops floats definition basics packed_matrix linear leading posteriors d
 
 IVECTOR = 'ivector.rs'
 SILENCE = 'silence_weighting.rs'
-# the branch: the files whose functions are to be here
+# the branch's files; what of their functions stands here nowhere is listed, and no function of the branch calls it
 BRANCH = [IVECTOR, SILENCE, 'kaldi_io.rs']
 
 
@@ -150,6 +154,25 @@ LIB = [
         (COUNT, 'pub num_cg_iters: i32', 'pub num_cg_iters: usize'),
     ]),
     item('IvectorOptions.default', 'impl Default for IvectorOptions {'),
+    item('conf_float', 'fn conf_float(', open=True, subs=[
+        (TEXT, 'txt.lines()', 'let prefix = format!("--{key}=");\n    txt.lines()'),
+        (TEXT, '&format!("--{key}=")', 'prefix.as_str()'),
+    ], alloc=[
+        ('conf_float(txt', 'conf_float(alloc: Global, txt'),
+        ('-> Option<f32>', '-> Result<Option<f32>, AllocError>'),
+        ('format!("--{key}=")', 'format!(in alloc; "--{key}=")?'),
+        ('\n    txt.lines()', '\n    Ok(txt.lines()'),
+        ('.ok())\n', '.ok()))\n'),
+    ]),
+    item('conf_int', 'fn conf_int(', open=True, subs=[
+        (TEXT, '&format!("--{key}=")', 'format!("--{key}=").as_str()'),
+    ], alloc=[
+        ('conf_int(txt', 'conf_int(alloc: Global, txt'),
+        ('-> Option<usize>', '-> Result<Option<usize>, AllocError>'),
+        ('format!("--{key}=")', 'format!(in alloc; "--{key}=")?'),
+        ('return v.trim().parse().ok();', 'return Ok(v.trim().parse().ok());'),
+        ('\n    None\n', '\n    Ok(None)\n'),
+    ]),
     item('IvectorInfo', 'pub struct IvectorInfo {', subs=[
         (DROP, 'pub struct IvectorInfo {', '#[derive(Drop)]\npub struct IvectorInfo {'),
     ]),
@@ -316,4 +339,142 @@ LIB = [
     ]),
 ]
 
-FILES = {'lib.rt': LIB}
+K = 'kaldi_io.rs'
+R = 'impl<R: Read> KaldiReader<R> {'
+
+
+def reader(name, subs=(), alloc=()):
+    at = ('fn ' if name in ('byte', 'read_bounded', 'read_f32_raw', 'read_f64_raw') else 'pub fn ') + name + '('
+    return item(name, at, source=K, open=True, subs=subs, alloc=alloc)
+
+
+# what a reader is passed: behind `&mut self`
+SELF = ('(&mut self)', '(&mut self, alloc: Global)')
+READERS = [
+    item('KaldiReader', 'pub struct KaldiReader<R: Read> {', source=K, open=True, subs=[
+        (DROP, 'pub struct', '#[derive(Drop)]\npub struct'),
+    ]),
+    item('cells', 'fn cells(', source=K, open=True),
+    item('err', 'pub fn err(', source=K, open=True, subs=[
+        (TEXT, 'msg.to_string()', 'msg'),
+    ]),
+    impl('KaldiReader', R, [
+        reader('new'),
+        reader('byte'),
+        reader('expect_binary'),
+        reader('read_token', alloc=[
+            SELF,
+            ('String::new()', 'String::new(alloc)'),
+            ('s.push(c as char);', 's.push(c as char)?;'),
+        ]),
+        reader('expect_token', subs=[
+            (TEXT, 'got != want', 'got.as_str() != want'),
+            (TEXT, '&format!("expected {want}, got {got}")', '"expected another token"'),
+        ], alloc=[
+            ('&mut self, want', '&mut self, alloc: Global, want'),
+            ('self.read_token()', 'self.read_token(alloc)'),
+        ]),
+        reader('read_i32'),
+        reader('read_dim', subs=[
+            (TEXT, '&format!("negative dimension {n}")', '"negative dimension"'),
+        ]),
+        reader('read_f64', subs=[
+            (CAST, 'f64::from_le_bytes(b)', 'std::num::f64_from_bits_with_nan(u64::from_le_bytes(b))'),
+        ]),
+        reader('read_bounded', alloc=[
+            ('&mut self, count', '&mut self, alloc: Global, count'),
+            ('Vec::new()', 'Vec::new(alloc)'),
+        ]),
+        reader('read_f32_raw', subs=[
+            (CAST, 'f32::from_le_bytes(*c)', 'std::num::f32_from_bits_with_nan(u32::from_le_bytes(*c))'),
+        ], alloc=[
+            ('&mut self, count', '&mut self, alloc: Global, count'),
+            ('read_bounded(count', 'read_bounded(alloc, count'),
+            ('.collect())', '.collect(alloc)?)'),
+        ]),
+        reader('read_f64_raw', subs=[
+            (CAST, 'f64::from_le_bytes(*c)', 'std::num::f64_from_bits_with_nan(u64::from_le_bytes(*c))'),
+        ], alloc=[
+            ('&mut self, count', '&mut self, alloc: Global, count'),
+            ('read_bounded(count', 'read_bounded(alloc, count'),
+            ('.collect())', '.collect(alloc)?)'),
+        ]),
+        *[reader(name, alloc=[
+            SELF,
+            ('expect_token(', 'expect_token(alloc, '),
+            ('_raw(', '_raw(alloc, '),
+        ]) for name in ('read_float_vec', 'read_float_matrix', 'read_double_vec', 'read_double_matrix', 'read_packed_double')],
+    ]),
+    item('parse_text_matrix', 'pub fn parse_text_matrix(', source=K, open=True, subs=[
+        (TEXT, '&format!("bad number {v}")', '"bad number"'),
+        (CAST, '.collect::<Result<_>>()', '.try_collect()'),
+    ], alloc=[
+        ('parse_text_matrix(txt', 'parse_text_matrix(alloc: Global, txt'),
+        ('Vec::new()', 'Vec::new(alloc)'),
+        ('.try_collect()', '.try_collect(alloc)'),
+        ('data.extend(vals)', 'data.extend(vals)?'),
+    ]),
+    impl('DiagGmm', 'impl DiagGmm {', [
+        item('parse', 'pub fn parse(', open=True, subs=[
+            (CAST, 'means_invvars[m * d + k] as f64', 'std::num::f32_to_f64_with_nan(means_invvars[m * d + k])'),
+            (CAST, 'inv_vars[m * d + k] as f64', 'std::num::f32_to_f64_with_nan(inv_vars[m * d + k])'),
+            (CAST, 'gc as f32', 'floats::narrow(gc)'),
+            (TEXT, 'if tok == ', 'if tok.as_str() == '),
+            (TEXT, 'if tok != ', 'if tok.as_str() != '),
+        ], alloc=[
+            ('parse(bytes', 'parse(alloc: Global, bytes'),
+            ('expect_token(', 'expect_token(alloc, ', 3),
+            ('read_token()', 'read_token(alloc)', 2),
+            ('read_float_vec()', 'read_float_vec(alloc)', 2),
+            ('read_float_matrix()', 'read_float_matrix(alloc)', 2),
+            ('.collect();', '.collect(alloc)?;'),
+            ('vec![0.0f32; d * g]', 'vec![in alloc; 0.0f32; d * g]?', 2),
+        ]),
+    ]),
+    impl('IvectorExtractor', 'impl IvectorExtractor {', [
+        item('parse', 'pub fn parse(', open=True, alloc=[
+            ('parse(bytes', 'parse(alloc: Global, bytes'),
+            ('expect_token(', 'expect_token(alloc, ', 7),
+            ('read_double_matrix()', 'read_double_matrix(alloc)', 2),
+            ('read_double_vec()', 'read_double_vec(alloc)'),
+            ('read_packed_double()', 'read_packed_double(alloc)'),
+            ('Vec::new()', 'Vec::new(alloc)', 2),
+            ('(alloc)?);', '(alloc)?)?;', 2),
+            ('Vec::with_capacity(size)', 'Vec::with_capacity(alloc, size)?', 2),
+            ('vec![0.0f64; d * s]', 'vec![in alloc; 0.0f64; d * s]?'),
+            ('vec![0.0f64; s * (s + 1) / 2]', 'vec![in alloc; 0.0f64; s * (s + 1) / 2]?'),
+            ('.push(sim);', '.push(sim)?;'),
+            ('.push(ui);', '.push(ui)?;'),
+        ]),
+    ]),
+    impl('IvectorInfo', 'impl IvectorInfo {', [
+        item('open', 'pub fn open(', open=True, subs=[
+            (BYTES, 'dir: &std::path::Path', 'splice: Option<&str>, online_cmvn: Option<&str>, dubm: &[u8], ie: &[u8], mat: &[u8], stats_txt: &str'),
+            (BYTES, 'if let Ok(t) = std::fs::read_to_string(dir.join("splice.conf"))', 'if let Some(t) = splice'),
+            (BYTES, 'if let Ok(t) = std::fs::read_to_string(dir.join("online_cmvn.conf"))', 'if let Some(t) = online_cmvn'),
+            (BYTES, '&std::fs::read(dir.join("final.dubm"))?', 'dubm'),
+            (BYTES, '&std::fs::read(dir.join("final.ie"))?', 'ie'),
+            (BYTES, 'let mat = std::fs::read(dir.join("final.mat"))?;', ''),
+            (BYTES, 'let stats_txt = std::fs::read_to_string(dir.join("global_cmvn.stats"))?;', ''),
+            (TEXT, '(&t, ', '(t, ', 6),
+            (TEXT, '(&stats_txt)', '(stats_txt)'),
+        ], alloc=[
+            ('open(splice', 'open(alloc: Global, splice'),
+            ('conf_int(t', 'conf_int(alloc, t', 5),
+            ('conf_float(t', 'conf_float(alloc, t'),
+            ('-context") {', '-context")? {', 2),
+            ('cmn-window") {', 'cmn-window")? {'),
+            ('cmn-min-energy") {', 'cmn-min-energy")? {'),
+            ('-frames") {', '-frames")? {', 2),
+            ('parse(dubm)', 'parse(alloc, dubm)'),
+            ('parse(ie)', 'parse(alloc, ie)'),
+            ('read_float_matrix()', 'read_float_matrix(alloc)'),
+            ('parse_text_matrix(', 'parse_text_matrix(alloc, '),
+            ('.to_vec()', '.to_vec(alloc)?'),
+            ('vec![0.0f32; lin * lda_rows]', 'vec![in alloc; 0.0f32; lin * lda_rows]?'),
+            ('vec![0.0f32; lda_rows]', 'vec![in alloc; 0.0f32; lda_rows]?'),
+        ]),
+    ]),
+]
+
+FILES = {'lib.rt': LIB, 'readers.rt': READERS}

@@ -1,5 +1,6 @@
 //! The calls of generated lists as the translation of the original reads them (original/played.rt.in), and a sum of the original's answers to each list.
 use crate::gen::{self, What};
+use crate::machine::Options;
 use crate::original::nan;
 use crate::script::{canon32, canon64, Cmd, Runner};
 use std::fs;
@@ -17,6 +18,10 @@ impl Words {
     }
     fn long(&mut self, x: u64) {
         self.0.extend(x.to_le_bytes());
+    }
+    fn text(&mut self, v: &[u8]) {
+        self.long(v.len() as u64);
+        self.0.extend(v);
     }
     fn floats(&mut self, v: &[f32]) {
         self.long(v.len() as u64);
@@ -60,6 +65,14 @@ impl Words {
     }
 }
 
+/// The settings texts that give those options.
+fn settings(o: &Options) -> [String; 2] {
+    [
+        format!("--left-context={}\n--right-context={}\n", o.left, o.right),
+        format!("--cmn-window={}\n --cmn-min-energy= {}\n--global-frames={}\n", o.window, o.min_energy, o.global_frames),
+    ]
+}
+
 /// As the translation sums what it answers.
 #[derive(Default)]
 struct Sum(u64);
@@ -69,11 +82,32 @@ impl Sum {
         let mixed = (self.0 ^ x).wrapping_mul(0x9E37_79B9_7F4A_7C15);
         self.0 = mixed ^ (mixed >> 29);
     }
+    fn doubles(&mut self, v: &[f64]) {
+        v.iter().for_each(|x| self.add(canon64(*x)));
+    }
+    fn floats(&mut self, v: &[f32]) {
+        v.iter().for_each(|x| self.add(u64::from(canon32(*x))));
+    }
+    fn model(&mut self, info: &nan::Info) {
+        let (o, gmm, ext, t) = (&info.opts, &info.gmm, &info.extractor, info.tables());
+        [o.left_context, o.right_context, o.cmn_window, o.global_frames].iter().for_each(|x| self.add(*x as u64));
+        self.floats(&[o.min_energy]);
+        self.add(gmm.dim as u64);
+        self.add(gmm.num_gauss as u64);
+        [&t.gconsts, &t.means_invvars_t, &t.inv_vars_t].iter().for_each(|v| self.floats(v));
+        [ext.feat_dim, ext.ivector_dim, ext.num_gauss].iter().for_each(|x| self.add(*x as u64));
+        self.doubles(&[ext.prior_offset]);
+        self.doubles(&t.sigma_inv_m);
+        self.doubles(&t.u);
+        self.floats(&t.lda_t);
+        self.floats(&t.lda_offset);
+        self.doubles(&t.global);
+    }
     fn stream(&mut self, s: &nan::Stream) {
         let (frames, rows) = s.x_held();
         self.add(frames);
         self.add(rows);
-        s.x_state().iter().for_each(|x| self.add(canon64(*x)));
+        self.doubles(&s.x_state());
         self.add(s.x_next() as u64);
         self.add(s.x_waiting() as u64);
         self.add(s.num_frames_ready() as u64);
@@ -91,10 +125,33 @@ impl Sum {
 #[derive(Default)]
 struct Count {
     lists: u64,
+    loads: u64,
+    reported: u64,
     streams: u64,
     calls: u64,
     fetches: u64,
     silence: u64,
+}
+
+/// A load that is taken, or that the original reports as an error (refusals 2 and 3).
+fn load(run: &Runner, w: &mut Words, sum: &mut Sum, n: &mut Count) {
+    let refusal = run.last.as_ref().map_or(0, |a| a.refusal);
+    if ![0, 2, 3].contains(&refusal) {
+        return;
+    }
+    let o = run.opts.unwrap();
+    let files = if refusal == 0 { crate::lists::original_bytes(run) } else { run.bytes.clone() };
+    w.word(11);
+    settings(&o).iter().for_each(|text| w.text(text.as_bytes()));
+    files.iter().for_each(|file| w.text(file));
+    n.loads += 1;
+    match nan::open(&o, &files).expect("the original panics at a load that it is to take or to report") {
+        Some(info) => sum.model(&info),
+        None => {
+            n.reported += 1;
+            sum.add(1);
+        }
+    }
 }
 
 /// One list: what the translation is to play, and the original's sum. Calls that the machine refuses are left out, and what the original has not ends its part.
@@ -113,6 +170,9 @@ fn one(seed: u64, what: What, w: &mut Words, n: &mut Count) -> u64 {
             if matches!(c, Cmd::Round(_)) {
                 silence = None;
             }
+        }
+        if let Cmd::Model(_) = c {
+            load(&run, w, &mut sum, n);
         }
         if !taken {
             continue;
@@ -160,7 +220,7 @@ fn one(seed: u64, what: What, w: &mut Words, n: &mut Count) -> u64 {
                         w.word(5);
                         w.long(*f);
                         let v = s.fetch(*f).expect("the original panics at a fetch that is taken");
-                        v.iter().for_each(|x| sum.add(u64::from(canon32(*x))));
+                        sum.floats(&v);
                     }
                     _ => unreachable!(),
                 }
@@ -234,7 +294,7 @@ pub fn run(first: u64, count: u64, kinds: &[What], folder: &Path) {
         }
     }
     println!(
-        "lists {}  streams {}  calls on them {} (fetches {})  silence calls {}  in {files} files",
-        n.lists, n.streams, n.calls, n.fetches, n.silence
+        "lists {}  loads {} ({} reported)  streams {}  calls on them {} (fetches {})  silence calls {}  in {files} files",
+        n.lists, n.loads, n.reported, n.streams, n.calls, n.fetches, n.silence
     );
 }
