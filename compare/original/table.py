@@ -234,7 +234,7 @@ LIB = [
             ('vec![0.0f32; dim];', 'vec![in alloc; 0.0f32; dim]?;'),
             ('\n        }\n    }', '\n        }\n        Ok(())\n    }'),
         ]),
-        item('update_stats_for_frames', 'fn update_stats_for_frames(', open=True, alloc=[
+        item('update_stats_for_frames', 'fn update_stats_for_frames(', alloc=[
             ('(&mut self, frame_weights: &[(usize, f32)]) {', '(&mut self, alloc: Global, frame_weights: &[(usize, f32)]) -> Result<(), AllocError> {'),
             ('return;', 'return Ok(());'),
             ('frame_weights.to_vec();', 'frame_weights.to_vec(alloc)?;'),
