@@ -1,6 +1,7 @@
 //! selection [ROUNDS]                                  the library's `select_posteriors` and the original's on the same rows of
 //!                                                     log-likelihoods, in turn, in one process: the time of a call on each side, and their
 //!                                                     ratio with its spread over the rounds (9; at least 5). First both are compared.
+//! selection equal [ROWS]                              the answers alone: ROWS rows of every kind (20,000), and those that are timed
 //! selection once CASE GAUSSIANS NUM_GSELECT SIDE      each row of a case once on one side, for callgrind: --toggle-collect=measured
 //! CASE: few some all zero rising. SIDE: library original. Both have the scope's exponential and logarithm (../build.rs).
 #[path = "../../src/fns.rs"]
@@ -189,6 +190,18 @@ fn main() {
         pass(a[5] == "library", &mut Rooms::new(num), &rows, num, min_post, 1);
         println!("{} of {n}, num_gselect {num}, {}: {ROWS} calls", a[2], a[5]);
         return;
+    }
+    if a.get(1).map(|s| s.as_str()) == Some("equal") {
+        let (mut count, mut differ) = compared(a.get(2).map_or(20_000, |s| s.parse().expect("number")));
+        for (case, n) in CASES.iter().flat_map(|case| [64, 512, 1024].map(|n| (case, n))) {
+            let (min_post, rows) = rows(case, n);
+            for num in [1, 5, 32] {
+                differ += rows.iter().filter(|row| !same(&mut Rooms::new(num), row, num, min_post)).count();
+                count += rows.len();
+            }
+        }
+        println!("selection: {count} rows compared with the original's, {differ} differ");
+        std::process::exit(i32::from(differ > 0));
     }
     let rounds = a.get(1).map_or(9, |s| s.parse().expect("number")).max(5);
     let (count, mut differ) = compared(200_000);

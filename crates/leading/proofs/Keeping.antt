@@ -35,11 +35,11 @@ module _ (v : Float) (j : ℕ) (gauss : List ℕ) (posts : List Float) (h : j < 
   one_more : those (stays (Some v)) (held (j + 1) gauss posts) ≡ those (stays (Some v)) (held j gauss posts) ++ those (stays (Some v)) ((get_or gauss j 0, at posts j) ∷ [])
   one_more = ap (those (stays (Some v))) (held_next j gauss posts h l) ∙ those_append (stays (Some v)) (held j gauss posts) ((get_or gauss j 0, at posts j) ∷ [])
 
-  pub count_turn : {c : ℕ} {b : Bool} → b ≡ ahead (0, v) (0, at posts j) → c ≡ length (those (stays (Some v)) (held j gauss posts))
-      → c + bool_byte (not b) ≡ length (those (stays (Some v)) (held (j + 1) gauss posts))
+  pub count_turn : {c : ℕ} {b : Bool} → b ≡ not (ahead (0, v) (0, at posts j)) → c ≡ length (those (stays (Some v)) (held j gauss posts))
+      → c + bool_byte b ≡ length (those (stays (Some v)) (held (j + 1) gauss posts))
   count_turn {c} {b} e i =
       let x : Post = (get_or gauss j 0, at posts j) in
-      let one : length (those (stays (Some v)) (x ∷ [])) ≡ bool_byte (not b) = those_one (stays (Some v)) x ∙ sym (ap (λ (b : Bool). bool_byte (not b)) e) in
+      let one : length (those (stays (Some v)) (x ∷ [])) ≡ bool_byte b = those_one (stays (Some v)) x ∙ sym (ap bool_byte e) in
       omega (arith, i, one, ap length one_more, length-append (those (stays (Some v)) (held j gauss posts)) (those (stays (Some v)) (x ∷ [])))
 
 -- with no bound all are kept where they stand
@@ -68,23 +68,23 @@ module _ (v : Float) (first j n : ℕ) (gauss gauss₁ : List ℕ) (posts posts�
       ∙ ap (those (stays (Some v))) (drop-append-le first (held j gauss posts) ((get_or gauss j 0, at posts j) ∷ []) (omega (arith, length_held j gauss posts (omega arith) (omega arith))))
       ∙ those_append (stays (Some v)) (drop first (held j gauss posts)) ((get_or gauss j 0, at posts j) ∷ [])
 
-  pub kept_turn : {b : Bool} → get_or gauss₁ j 0 ≡ get_or gauss j 0 → at posts₁ j ≡ at posts j → b ≡ ahead (0, v) (0, at posts₁ j)
+  pub kept_turn : {b : Bool} → get_or gauss₁ j 0 ≡ get_or gauss j 0 → at posts₁ j ≡ at posts j → b ≡ not (ahead (0, v) (0, at posts₁ j))
       → held n gauss₁ posts₁ ≡ held first gauss posts ++ those (stays (Some v)) (drop first (held j gauss posts))
-      → held (n + bool_byte (not b)) (set gauss₁ n (get_or gauss₁ j 0)) (set posts₁ n (at posts₁ j)) ≡ held first gauss posts ++ those (stays (Some v)) (drop first (held (j + 1) gauss posts))
+      → held (n + bool_byte b) (set gauss₁ n (get_or gauss₁ j 0)) (set posts₁ n (at posts₁ j)) ≡ held first gauss posts ++ those (stays (Some v)) (drop first (held (j + 1) gauss posts))
   unfolding those
   kept_turn {b} e f g i =
       let x : Post = (get_or gauss j 0, at posts j) in
       let front : List Post = held first gauss posts in
       let back : List Post = those (stays (Some v)) (drop first (held j gauss posts)) in
-      let test : b ≡ ahead (0, v) x = g ∙ ap (λ (p : Float). ahead (0, v) (0, p)) f in
+      let test : b ≡ not (ahead (0, v) x) = g ∙ ap (λ (p : Float). not (ahead (0, v) (0, p))) f in
       let n1 : n < length gauss₁ = omega arith in
       let n2 : n < length posts₁ = omega arith in
       by-test (ahead (0, v) x)
-      (λ t. let s : n + bool_byte (not b) ≡ n = rw (test ∙ t) (add-zero n) in
+      (λ t. let s : n + bool_byte b ≡ n = rw (test ∙ ap not t) (add-zero n) in
       let one : those (stays (Some v)) (x ∷ []) ≡ [] = rw t in
       ap (λ (m : ℕ). held m (set gauss₁ n (get_or gauss₁ j 0)) (set posts₁ n (at posts₁ j))) s ∙ held_before n gauss₁ posts₁ n1 n2 (get_or gauss₁ j 0) (at posts₁ j) ∙ i
       ∙ sym (ap (λ (r : List Post). front ++ r) (more_kept ∙ ap (λ (r : List Post). back ++ r) one ∙ append-nil back)))
-      (λ t. let s : n + bool_byte (not b) ≡ n + 1 = rw (test ∙ t) in
+      (λ t. let s : n + bool_byte b ≡ n + 1 = rw (test ∙ ap not t) in
       let one : those (stays (Some v)) (x ∷ []) ≡ x ∷ [] = rw t in
       ap (λ (m : ℕ). held m (set gauss₁ n (get_or gauss₁ j 0)) (set posts₁ n (at posts₁ j))) s ∙ held_put n gauss₁ posts₁ n1 n2 (get_or gauss₁ j 0) (at posts₁ j)
       ∙ ap (λ (r : List Post). r ++ ((get_or gauss₁ j 0, at posts₁ j) ∷ [])) i ∙ append_assoc front back ((get_or gauss₁ j 0, at posts₁ j) ∷ [])

@@ -16,15 +16,6 @@ abbrev pub stays : Option Float → Post → Bool
 stays None p = true
 stays (Some v) p = not (ahead (0, v) p)
 
--- whether x is behind a posterior, or ahead of it, if there is one
-abbrev pub is_after : Option Float → Float → Bool
-is_after None x = true
-is_after (Some v) x = ahead (0, v) (0, x)
-
-abbrev pub is_before : Option Float → Float → Bool
-is_before None x = true
-is_before (Some v) x = ahead (0, x) (0, v)
-
 -- those of ps inserted into l, one after the other
 abbrev pub into : List Post → List Post → List Post
 into l ps = foldl (λ qs p. insert p qs) l ps

@@ -2,11 +2,12 @@
 // is left of them at the end is put in order (`order`): a new one goes to its place, and the last falls off a full list.
 #![tactic(auto)]
 
-ghost use Rattle.std.specs.Prelude.{◌≡◌, true, false, Some, IfSome, List, ◌++◌, ℕ, ◌+◌, ◌-◌, ◌<◌, ◌≤◌, length, get_or, set, take, drop};
+ghost use Rattle.std.specs.Prelude.{◌≡◌, true, false, not, Some, IfSome, List, ◌++◌, ℕ, ◌+◌, ◌-◌, ◌<◌, ◌≤◌, length, get_or, set, take, drop};
+ghost use Rattle.std.specs.Float.Ieee.{is_nan};
 ghost use Rattle.loops.specs.Lists.{those};
 ghost use Rattle.floats.specs.Operators.{f32, at};
 ghost use Rattle.definition.specs.Posteriors.{ahead as is_ahead, insert as insert_of};
-ghost use Rattle.leading.specs.Steps.{held, stays, is_after, is_before, into, Falling, Place, Moved, slid};
+ghost use Rattle.leading.specs.Steps.{held, stays, into, Falling, Place, Moved, slid};
 ghost use Rattle.leading.specs.Rooms.{Places, SameChosen, Holds, leads};
 
 /// The rooms of a selection: a place for each of its Gaussians, and one for the Gaussian's posterior.
@@ -172,15 +173,24 @@ pub fn order(
     count
 }
 
+// Whether a candidate's posterior p is not behind v, which is a number: one comparison.
+fn stays_at(v: f32, p: f32) -> bool
+    requires { is_nan v ≡ false }
+    ensures { result ≡ not (is_ahead (0, v) (0, p)) }
+{
+    p >= v
+}
+
 // How many of the first n candidates are not behind v.
 fn staying(v: f32, n: usize, posts: &[f32]) -> usize
-    requires { n ≤ length posts.now }
+    requires places { n ≤ length posts.now }
+    requires number { is_nan v ≡ false }
     ensures { (gauss : List ℕ) → n ≤ length gauss → result ≡ length (those (stays (Some v)) (held n gauss posts.now)) }
 {
     let mut count = 0;
-    // By index and with no branch, so that it is compiled to vector instructions.
+    // By index and with no branch.
     for j in 0..n {
-        count += !ahead(v, posts[j]) as usize;
+        count += stays_at(v, posts[j]) as usize;
     }
     count
 }
@@ -201,28 +211,8 @@ fn looked_at(t: usize, num_gselect: usize, n: usize) -> usize
     }
 }
 
-// Whether x is behind the one in front, if there is one.
-fn follows(x: f32, front: Option<f32>) -> bool
-    ensures { result ≡ is_after front x }
-{
-    match front {
-        Some(v) => ahead(v, x),
-        None => true,
-    }
-}
-
-// Whether x is ahead of the one behind it, if there is one.
-fn precedes(x: f32, back: Option<f32>) -> bool
-    ensures { result ≡ is_before back x }
-{
-    match back {
-        Some(v) => ahead(x, v),
-        None => true,
-    }
-}
-
 // A posterior that num_gselect of the first n candidates are not behind, if they are more: that of the last of the leading ones, if one has it alone. Of those
-// looked at, `back` is the foremost that has so many not behind it, and `front` the last that has fewer; the walk is left from within where it has just as many.
+// looked at, `low` is the foremost that has so many not behind it, and `high` the last that has fewer; the walk is left from within where it has just as many.
 fn find_bound(num_gselect: usize, n: usize, posts: &[f32]) -> Option<f32>
     requires { n ≤ length posts.now }
     ensures { IfSome result (λ v. (gauss : List ℕ) → n ≤ length gauss → num_gselect ≤ length (those (stays (Some v)) (held n gauss posts.now))) }
@@ -230,24 +220,28 @@ fn find_bound(num_gselect: usize, n: usize, posts: &[f32]) -> Option<f32>
     if num_gselect == 0 || n <= num_gselect {
         return None;
     }
-    let mut front = None;
-    let mut back = None;
+    let mut bound = None;
+    let mut low = -1.0 / 0.0;
+    let mut high = 1.0 / 0.0;
     // By index: which candidate is looked at is reckoned.
     for t in 0..n + 1 {
         let x = posts[looked_at(t, num_gselect, n)];
-        if follows(x, front) && precedes(x, back) {
-            let count = staying(x, n, posts);
-            if count == num_gselect {
-                return Some(x);
-            }
-            if count > num_gselect {
-                back = Some(x);
-            } else {
-                front = Some(x);
+        if low < x {
+            if x < high {
+                let count = staying(x, n, posts);
+                if count == num_gselect {
+                    return Some(x);
+                }
+                if count > num_gselect {
+                    bound = Some(x);
+                    low = x;
+                } else {
+                    high = x;
+                }
             }
         }
     }
-    back
+    bound
 }
 
 // Of the candidates from place `first` up to `end` those behind the bound are left out, if there is a bound, and the others moved together. The answer is where they
@@ -360,9 +354,9 @@ pub fn finish(
     ensures most { result ≤ num_gselect }
     ensures loans { SameChosen chosen.old chosen.new }
 {
-    let choice = choose(num_gselect, holding.candidates, gauss, posts);
+    let last = choose(num_gselect, holding.candidates, gauss, posts);
     order(
-        choice.count,
+        last.count,
         gauss,
         posts,
         holding.ordered,

@@ -1,4 +1,4 @@
--- `leading::find_bound` meets its contract. The loop's invariant: so many are not behind `back`, if there is one.
+-- `leading::find_bound` meets its contract. The loop's invariant: so many are not behind the bound, if there is one.
 use Rattle.std.specs.Prelude.{Some, IfSome}
 use mathlib.Core.List.{List}
 use Prim.Native.Nat.{ℕ, ◌≤◌}
@@ -8,4 +8,4 @@ use Rattle.leading.specs.Steps.{held, stays}
 use Rattle.leading.proofs.find_bound.Given as goal
 
 abbrev pub invariant-loop-t : goal.invariant-loop-t
-invariant-loop-t l = IfSome l.back (λ v. (gauss : List ℕ) → l.n ≤ length gauss → l.num_gselect ≤ length (those (stays (Some v)) (held l.n gauss l.posts)))
+invariant-loop-t l = IfSome l.bound (λ v. (gauss : List ℕ) → l.n ≤ length gauss → l.num_gselect ≤ length (those (stays (Some v)) (held l.n gauss l.posts)))

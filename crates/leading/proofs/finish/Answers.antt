@@ -15,5 +15,5 @@ returns-clause-finished c =
     let q = c.requires in
     let l : List Post = held a.holding.ordered a.chosen.now.gauss.now a.chosen.now.posts.now in
     let o = falls_ordered a.holding.ordered a.chosen.now.gauss.now a.chosen.now.posts.now (omega (arith, q.holds.few, q.places)) (omega (arith, q.holds.few, q.places)) q.holds.in_order in
-    let e = c.choose-choice.ensures in
+    let e = c.choose-last.ensures in
     c.order.ensures.ordered ∙ ap (λ (r : List Post). take a.num_gselect (into l r)) e.chosen ∙ sieved_all a.num_gselect _ l _ o e.enough

@@ -1,7 +1,7 @@
 -- `leading::keep` meets its contract. The loop's invariant: of the candidates from `first` up to j those that stay stand together, and from j on each place is as it was
 -- (`kept_turn` in Keeping.antt).
 use Rattle.std.specs.Prelude.{Some}
-use mathlib.Core.Path.{◌≡◌, refl, ◌∙◌}
+use mathlib.Core.Path.{◌≡◌, refl, ap, ◌∙◌}
 use mathlib.Core.Bool.{not}
 use native.Mathlib.Omega.{arith}
 use Rattle.std.proofs.lemmas.List.{get_or-set_other, length-set}
@@ -41,7 +41,7 @@ loop-j-preserved c =
       long2 = length-set l.posts l.n _ ∙ v.long2;
       rest = λ k s. get_or-set_other l.gauss l.n k _ 0 (omega (arith, s, v.most)) ∙ v.rest k (omega (arith, s));
       rest2 = λ k s. get_or-set_other l.posts l.n k _ nan (omega (arith, s, v.most)) ∙ v.rest2 k (omega (arith, s));
-      kept = kept_turn c.in-Some.v _ l.j l.n _ l.gauss _ l.posts (omega (arith, v.from, v.most)) v.most (omega (arith, q)) (omega (arith, q)) v.long v.long2 (v.rest l.j (omega arith)) (v.rest2 l.j (omega arith)) c.ahead.ensures v.kept;
+      kept = kept_turn c.in-Some.v _ l.j l.n _ l.gauss _ l.posts (omega (arith, v.from, v.most)) v.most (omega (arith, q)) (omega (arith, q)) v.long v.long2 (v.rest l.j (omega arith)) (v.rest2 l.j (omega arith)) (ap not c.ahead.ensures) v.kept;
     }
 
 pub returns-clause-kept : goal.returns-clause-kept

@@ -1,6 +1,5 @@
 -- `leading::staying` meets its contract. The loop's invariant: counted are those of the first j (`count_turn` in Keeping.antt).
 use native.Mathlib.Omega.{arith}
-use mathlib.Core.Bool.{not}
 use Rattle.leading.proofs.Keeping.{byte-few, count_none, count_turn}
 use Rattle.leading.proofs.staying.Goals as goal
 
@@ -10,4 +9,4 @@ loop-j-init c = (omega arith, λ gauss h. count_none _ gauss _)
 pub loop-j-preserved : goal.loop-j-preserved
 loop-j-preserved c =
     let l = c.loop-j in
-    (omega (arith, byte-few (not c.ahead.result), l.invariant.0), λ gauss h. count_turn c.args.v l.j gauss c.args.posts.now (omega arith) (omega arith) c.ahead.ensures (l.invariant.1 gauss h))
+    (omega (arith, byte-few c.stays_at.result, l.invariant.0), λ gauss h. count_turn c.args.v l.j gauss c.args.posts.now (omega arith) (omega arith) c.stays_at.ensures (l.invariant.1 gauss h))
