@@ -1,6 +1,6 @@
 //! Turns a script and its answers into equations about the definitions, each to be proved by computing (`refl`).
 //!
-//!     equations SCRIPT ANSWERS FOLDER [--first N] [--calls N] [--bytes N] [--numbers N] [--equations N] [--past FILE]
+//!     equations SCRIPT ANSWERS FOLDER [--first N] [--calls N] [--bytes N] [--numbers N] [--equations N] [--past FILE] [--wrong]
 //!
 //! FOLDER gets a module for each session of the script, numbered from `--first`, one with the words that they share, and Lib.antt. What makes an
 //! equation: a load (`m`) whose files have at most `--bytes` bytes together; where it is taken, the `k` behind it tells the model. A fresh stream
@@ -8,6 +8,7 @@
 //! record (`x`, `y`). A session with steps over registers or rounds (`r`, `u`) is one list of events, on the program's rooms; what is forged among
 //! them is left out. A model of more than `--numbers` numbers is left out, too. Of a session there are at most `--equations` lists of calls, and as many
 //! other equations of each sort.
+//! With `--wrong` each has another right side, by its last digit: so none holds.
 //! FILE has the prover's lines about equations that it could not compute to the end: a list of calls is halved for each line that names
 //! it, another equation is left out. Printed are the lists that were cut, and how much of each kind was written.
 use std::collections::{BTreeMap, HashMap, HashSet};
@@ -282,6 +283,15 @@ fn round(v: &[&str], q: &[&str]) -> Made {
     }
 }
 
+/// The same with another last digit, or the other truth value.
+fn wrong(right: &str) -> String {
+    match right.rfind(|c: char| c.is_ascii_digit()) {
+        Some(i) => format!("{}{}{}", &right[..i], (right.as_bytes()[i] - b'0' + 1) % 10, &right[i + 1..]),
+        None if right == "true" => "false".into(),
+        None => "true".into(),
+    }
+}
+
 // ---- a module of equations
 
 struct Limits {
@@ -289,6 +299,7 @@ struct Limits {
     bytes: usize,
     numbers: usize,
     equations: usize,
+    wrong: bool,
     past: HashMap<(String, String), u32>,
 }
 
@@ -336,6 +347,7 @@ impl Module<'_> {
         name
     }
     fn state(&mut self, name: &str, left: &str, right: &str) {
+        let right = if self.limits.wrong { &wrong(right) } else { right };
         write!(self.text, "\n{name} : {left}\n    ≡ {right}\nunfolding opened\n{name} = refl\n").unwrap();
         self.count("equations");
     }
@@ -627,6 +639,7 @@ fn main() {
         bytes: count("--bytes", 8000),
         numbers: count("--numbers", 20_000),
         equations: count("--equations", usize::MAX),
+        wrong: args.iter().any(|a| a == "--wrong"),
         past: HashMap::new(),
     };
     for line in option("--past").map_or(String::new(), |p| file(&p)).lines() {
