@@ -8,7 +8,7 @@ ghost use Rattle.try_model.specs.Files.{options as options_of_it, gmm_file, extr
 use byte_writer::Writer;
 use definition::IvectorOptions;
 
-// The options.
+// P9's options, with a window of 20.
 pub fn options() -> IvectorOptions
     ensures { result ≡ options_of_it }
 {
