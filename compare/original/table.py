@@ -53,9 +53,9 @@ def impl(name, head, items):
     return dict(name=name, head=head, items=items)
 
 
-def own(name):
-    """A text of ours, contracts/NAME."""
-    return dict(own=name)
+def own(name, open=False):
+    """A text of ours, contracts/NAME. open: it goes with items that are not proved yet."""
+    return dict(own=name, open=open)
 
 
 LIB = [
@@ -447,7 +447,7 @@ READERS = [
             ('.push(ui);', '.push(ui)?;'),
         ]),
     ]),
-    own('folder'),
+    own('folder', open=True),
     impl('IvectorInfo', 'impl IvectorInfo {', [
         item('open', 'pub fn open(', open=True, subs=[
             (BYTES, '&std::path::Path', '&Folder<\'_>'),
