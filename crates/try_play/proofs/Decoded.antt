@@ -114,8 +114,7 @@ module _ (dim seed : ℕ) where
           one-part zero₃₂ count (weight_at dim seed) l.weights i h,
           pushes_are,
         ) (of_kind-call (kind_in d) (frame_at dim seed i) _ (numbers_at dim seed i) _ _ (weight_at dim seed i) (mod-lt (draw d.state) {m = 5} (omega arith))
-        (λ e. ap (λ (n : ℕ). part (n * dim) (n * dim + dim) (over (flat count (numbers_at dim seed)) l.frames)) pushes_are
-        ∙ row_part count i (d.pushes * dim) dim (numbers_at dim seed) l.frames h (before_is dim seed i) (wide-0 dim (kind_in d) (draw d.state) e)) refl refl)
+        (λ e. row_part count i (d.pushes * dim) dim (numbers_at dim seed) l.frames h (before_is dim seed i) (wide-0 dim (kind_in d) (draw d.state) e)) refl refl)
 
   pub decoded_calls : (count : ℕ) (l : DrawnLists) → listed_calls dim count (filled dim seed count l) ≡ drawn_calls dim seed count
   unfolding listed_calls drawn_calls
