@@ -25,14 +25,14 @@ AllNot n [] = Unit {0}
 AllNot n (t ∷ ts) = (t.1 ≡ n → ⊥) × AllNot n ts
 
 -- it is not n: neither by the first test, nor by the others where the first fails
-first_either : (n : ℕ) (t : Bool × ℕ) (ts : List (Bool × ℕ)) → (t.0 ≡ true → t.1 ≡ n → ⊥) → (t.0 ≡ false → first_of ts ≡ n → ⊥) → first_of (t ∷ ts) ≡ n → ⊥
+pub first-either : (n : ℕ) (t : Bool × ℕ) (ts : List (Bool × ℕ)) → (t.0 ≡ true → t.1 ≡ n → ⊥) → (t.0 ≡ false → first_of ts ≡ n → ⊥) → first_of (t ∷ ts) ≡ n → ⊥
 unfolding first_of
-first_either n t ts here there e = by-test t.0 (λ q. here q (rw q at e)) (λ q. there q (rw q at e))
+first-either n t ts here there e = by-test t.0 (λ q. here q (rw q at e)) (λ q. there q (rw q at e))
 
 pub first-not : (n : ℕ) (ts : List (Bool × ℕ)) → (0 ≡ n → ⊥) → AllNot n ts → first_of ts ≡ n → ⊥
 unfolding first_of
 first-not n [] z h e = z e
-first-not n (t ∷ ts) z h e = first_either n t ts (λ q. h.0) (λ q. first-not n ts z h.1) e
+first-not n (t ∷ ts) z h e = first-either n t ts (λ q. h.0) (λ q. first-not n ts z h.1) e
 
 -- ---- the lowest of a number and a list
 
@@ -44,6 +44,12 @@ lowest_under a (f ∷ fs) = omega (arith, lowest_under (min a f) fs)
 pub low_raised : (mark floor left low f : ℕ) → mark ≤ floor - left → low ≤ f → max mark (low - left) ≤ max floor f - left
 low_raised mark floor left low f h l = omega arith
 
+-- of a mark not above the floor less left context: frames of which none is below the floor reach none below the mark
+pub reach-none : (left mark floor : ℕ) (fs : List ℕ) → mark ≤ floor - left → any_of (λ f. ltb f floor) fs ≡ false → any_of (λ f. ltb (f - left) mark) fs ≡ false
+reach-none left mark floor fs h e =
+    at_none (λ f. ltb (f - left) mark) 0 fs
+    (λ j l. le-ltb (get_or fs j 0 - left) mark (omega (arith, h, ltb-false (get_or fs j 0) floor (none_at (λ f. ltb f floor) 0 fs j e l))))
+
 -- ---- the machine
 
 module _ (M : Model) (z : RingLengths) where
@@ -53,19 +59,13 @@ module _ (M : Model) (z : RingLengths) where
   abbrev Low : Machine → Type 0
   Low k = k.mark ≤ k.floor - left
 
-  -- frames of which none is below the floor reach none below the mark
-  above : (mark floor : ℕ) (fs : List ℕ) → mark ≤ floor - left → any_of (λ f. ltb f floor) fs ≡ false → any_of (λ f. ltb (f - left) mark) fs ≡ false
-  above mark floor fs h e =
-      at_none (λ f. ltb (f - left) mark) 0 fs
-      (λ j l. le-ltb (get_or fs j 0 - left) mark (omega (arith, h, ltb-false (get_or fs j 0) floor (none_at (λ f. ltb f floor) 0 fs j e l))))
-
   change_not : (k : Machine) (n : ℕ) (fs : List ℕ) (ws : List Float) → Low k → first_of (change_tests M.info.opts z k.mark k.floor n fs ws) ≡ 18 → ⊥
   unfolding change_tests
   change_not k n fs ws h =
-      first_either 18 _ _ (λ q. omega arith)
-      (λ even. first_either 18 _ _ (λ q. omega arith)
-      (λ near. first_either 18 _ _ (λ q. omega arith)
-      (λ high. first_either 18 _ _ (λ q e. true≢false (sym q ∙ above k.mark k.floor fs h high))
+      first-either 18 _ _ (λ q. omega arith)
+      (λ even. first-either 18 _ _ (λ q. omega arith)
+      (λ near. first-either 18 _ _ (λ q. omega arith)
+      (λ high. first-either 18 _ _ (λ q e. true≢false (sym q ∙ reach-none left k.mark k.floor fs h high))
       (λ back. first-not 18 _ (omega arith) (omega arith, tt)))))
 
   not_18 : (k : Machine) (c : Call) → Low k → (does M z k c).refusal ≡ 18 → ⊥

@@ -6,27 +6,20 @@ use Prim.Native.Nat.{ℕ, ◌-◌, ◌≤◌}
 use native.Mathlib.Omega.{arith}
 use mathlib.Core.Bool.{Bool, true, false, true≢false}
 use mathlib.Core.List.{List, [], ◌∷◌}
-use lib.ListN.{get_or}
 use lib.Dec.{eqb, ltb}
-use borrow.Author.Tests.{ne_eqb, ltb-false, le-ltb}
+use borrow.Author.Tests.{ne_eqb, ltb-false}
 use Rattle.loops.specs.Lists.{any_of}
-use Rattle.loops.specs.Refusal.{first_of}
-use Rattle.loops.proofs.Choose.{by-test, or_none}
-use Rattle.loops.proofs.Refusal.{first-here, first_past}
-use Rattle.loops.proofs.Tests.{none_of, none_at, at_none}
+use Rattle.loops.proofs.Choose.{or_none}
+use Rattle.loops.proofs.Tests.{none_of}
 use Rattle.definition.specs.declared.IvectorStream.{IvectorStream}
 use Rattle.definition.specs.Model.{Tables}
 use Rattle.definition.specs.Machine.{Call, push, finish, change, forget, set_window, fetch, push_tests, change_tests, window_tests, fetch_tests}
 use Rattle.definition.specs.Stream.{breaks, is_broken}
-use Rattle.definition.proofs.Floor.{first-not}
+use Rattle.definition.proofs.Floor.{first-either, first-not, reach-none}
 use Rattle.program.specs.Calls.{Step, push_frame, set_input_finished, update_frame_weights, forget_before, set_cmn_window, fetch_refusal, get_frame}
 use Rattle.program.specs.Session.{Program, stepped, reply, step_of, program_answers}
 use Rattle.program.proofs.Returned.{number_is}
 use Rattle.program.specs.Keeping.{ChangeNever18, AnyNever18}
-
--- not n by the first test, nor by the others where it fails
-neither : (n : ℕ) (t : Bool × ℕ) (ts : List (Bool × ℕ)) → (t.0 ≡ true → t.1 ≡ n → ⊥) → (t.0 ≡ false → first_of ts ≡ n → ⊥) → first_of (t ∷ ts) ≡ n → ⊥
-neither n t ts here there e = by-test t.0 (λ q. here q (sym (first-here t ts q) ∙ e)) (λ q. there q (sym (first_past t ts q) ∙ e))
 
 module _ (s : IvectorStream) where
   abbrev left : ℕ
@@ -37,20 +30,15 @@ module _ (s : IvectorStream) where
   unfolding is_broken breaks
   mark_low waiting e = ltb-false (s.floor - left) s.mark (none_of (λ t. t) (breaks s waiting) e).1.1.1.1.1.0
 
-  reaches : (fs : List ℕ) → s.mark ≤ s.floor - left → any_of (λ f. ltb f s.floor) fs ≡ false → any_of (λ f. ltb (f - left) s.mark) fs ≡ false
-  reaches fs h e =
-      at_none (λ f. ltb (f - left) s.mark) 0 fs
-      (λ j l. le-ltb (get_or fs j 0 - left) s.mark (omega (arith, h, ltb-false (get_or fs j 0) s.floor (none_at (λ f. ltb f s.floor) 0 fs j e l))))
-
 pub change-never-18 : ChangeNever18
 unfolding update_frame_weights change_tests
 change-never-18 s z fs ws =
-    neither 18 _ _ (λ q. omega arith)
-    (λ same. neither 18 _ _ (λ q. omega arith)
-    (λ sound. neither 18 _ _ (λ q. omega arith)
-    (λ even. neither 18 _ _ (λ q. omega arith)
-    (λ near. neither 18 _ _ (λ q. omega arith)
-    (λ high. neither 18 _ _ (λ q e. true≢false (sym q ∙ reaches s fs (mark_low s z.waiting_frames sound) high))
+    first-either 18 _ _ (λ q. omega arith)
+    (λ same. first-either 18 _ _ (λ q. omega arith)
+    (λ sound. first-either 18 _ _ (λ q. omega arith)
+    (λ even. first-either 18 _ _ (λ q. omega arith)
+    (λ near. first-either 18 _ _ (λ q. omega arith)
+    (λ high. first-either 18 _ _ (λ q e. true≢false (sym q ∙ reach-none s.info.opts.left_context s.mark s.floor fs (mark_low s z.waiting_frames sound) high))
     (λ back. first-not 18 _ (omega arith) (omega arith, tt)))))))
 
 module _ (t : Tables) (n : ℕ) where
