@@ -1,4 +1,4 @@
-//! README's lines of Rust, run: they stand here as they stand there.
+//! The lines of Rust in this crate's README, run: they stand here as they stand there.
 use shofrakin::{IvectorInfo, IvectorStream, Room};
 use std::path::Path;
 
@@ -24,7 +24,7 @@ fn lines(utterances: &[Vec<[f32; 4]>]) -> Result<(usize, Vec<f32>), Box<dyn std:
 
 #[test]
 fn the_lines_are_the_readmes() {
-    let (readme, here) = (include_str!("../../../README.md"), include_str!("readme.rs"));
+    let (readme, here) = (include_str!("../README.md"), include_str!("readme.rs"));
     let lines = here.split("    // README\n").nth(1).unwrap();
     assert!(readme.contains(&format!("\n\n{lines}\n")), "README.md has other lines than\n{lines}");
 }
