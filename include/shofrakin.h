@@ -16,7 +16,7 @@
  * nothing, and may run in several threads on different records and rooms.
  *
  * Answers: `refusal` is 0 for a call that is taken, else a number from 1 to 32. A refused call leaves the record and all that it is lent as
- * they were. A round is several calls: those before the refused one remain done.
+ * they were; of a NaN that stood there the proof does not tell the bits. A round is several calls: those before the refused one remain done.
  *   1 an option is outside its range               13 push: 1,000,000,000 frames are in
  *   2 bytes end before an item does                14 push: the frame room is full
  *   3 the mark, a token or a size byte is wrong    15 push: the row room is full
@@ -289,7 +289,8 @@ shofrakin_stream_answer shofrakin_set_cmn_window(shofrakin_stream *s, size_t win
     const size_t *waiting_frames, size_t waiting_frames_len, const float *waiting_weights, size_t waiting_weights_len);
 
 /* The vector at `frame`, the bits of s floats, NaN as 7FC00000. Brings the statistics up to the frame; below them it answers the current
- * vector. Refusals 10, 20, 21, 22. */
+ * vector. Refusals 10, 20, 21, 22. A frame whose c0 is at most the minimum energy is viewed by the CMVN state that the fetches before it left. So the vector
+ * can depend on when a host fetches: equal frames give equal vectors where they are fetched at equal moments. */
 shofrakin_stream_answer shofrakin_get_frame(shofrakin_stream *s, size_t frame,
     const float *gconsts, size_t gconsts_len, const float *means_invvars_t, size_t means_invvars_t_len,
     const float *inv_vars_t, size_t inv_vars_t_len, const double *sigma_inv_m, size_t sigma_inv_m_len,
@@ -379,9 +380,10 @@ typedef struct {
 
 /* Of `count` enrolled vectors, 1 to 32, the nearest to `vector`: the lowest index whose distance is least, where that is at most `limit`. Vectors are bits
  * as a fetch gives them out, `dim` numbers each (shofrakin_ivector_dim), the enrolled ones one after the other. A distance is the sum of the squared
- * differences in order, in float; one that overflows is never near enough. No root is taken: the limit is one for a sum of squares. Nothing is written.
+ * differences in order, in float; one that overflows is never near enough. No root is taken: the limit is one for a sum of squares. Squares of differences
+ * below some 2.6e-23 are 0, so that unlike vectors can be at distance 0. Nothing is written.
  * Refusals 27: no enrolled vector, or more than 32; 28: a length that is not dim, or count times dim (of the enrolled ones only the length of all
- * together is seen); 29: a number that is not finite, in a vector or the limit, or a limit below 0. */
+ * together is seen: one too short and another too long by as much go unseen); 29: a number that is not finite, in a vector or the limit, or a limit below 0. */
 shofrakin_voice_answer shofrakin_nearest_voice(size_t dim, const uint32_t *vector, size_t vector_len,
     size_t count, const uint32_t *enrolled, size_t enrolled_len, float limit);
 
@@ -400,7 +402,8 @@ typedef struct {
  *   8..11  frames held, the lowest byte first
  *   12     the command's refusal number or 0;  13..15  zero
  * With no command bits 0 and 1 and byte 12 stay as they are found. A refused command is told in the block alone: the step is taken. Where the record falls
- * under 10, bit 2 and bytes 8 to 11 are 0. A block of another length is refused 10: nothing is written, and no command done. */
+ * under 10, bit 2 and bytes 8 to 11 are 0. A block of another length is refused 10: nothing is written, and no command done. A fetch that is refused leaves the
+ * last vector in `out`: bit 0 says whose it is. Bit 2 and bytes 8 to 11 are those of the last step, and a plain call between steps does not change them. */
 shofrakin_step_answer shofrakin_registers_step(shofrakin_stream *s, uint8_t *block, size_t block_len, const float *frame, size_t frame_len,
     const float *gconsts, size_t gconsts_len, const float *means_invvars_t, size_t means_invvars_t_len,
     const float *inv_vars_t, size_t inv_vars_t_len, const double *sigma_inv_m, size_t sigma_inv_m_len,
@@ -439,7 +442,9 @@ typedef struct {
  * stream's ready count; 5 change by what weighing gave; 6 fetch the last ready frame into `out`; 7 find the nearest of `voices` enrolled vectors.
  * A refusal ends the round with its number and step, and what was done remains done: go on with the records that the answer holds, whatever it
  * says. The first `changes` places of `delta_frames` and `delta_weights` hold what weighing gave, `out` the vector once the fetch is taken. Weighing
- * that gives more than 384 changes is refused 16 at step 5, with its weights noted in the table: they are not given again. The table is not made
+ * that gives more than 384 changes is refused 16 at step 5, with its weights noted in the table: they are not given again. A host hands them over in parts by
+ * plain calls and goes on with a fetch, or lends lists of at most 384 places: then it is 24 at step 4, before a weight has moved. A start above 1,000,000,000 is
+ * forgotten at step 1 before it is 23 at step 4: that stream takes no change any more, but for the empty one. The table is not made
  * anew by a round: a new utterance wants a fresh one. Refusals by step: 1: 10. 2: 10 to 15. 3 and 4: 10, 23, 24. 5: 10, 16, 17, 30, 19.
  * 6: 10, 20, 22. 7: 27 to 29. */
 shofrakin_round_answer shofrakin_round(shofrakin_stream s, shofrakin_silence silence, size_t start, const float *numbers, size_t numbers_len,

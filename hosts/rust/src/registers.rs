@@ -2,8 +2,8 @@ use crate::{sys, IvectorStream, Refusal};
 
 impl IvectorStream {
     /// One step over a board's block of sixteen bytes, laid out as include/shofrakin.h has it: the command in byte 0 is done as its plain call, a push of
-    /// `frame`, a finish, a forget or a fetch into `out`, and the block tells of it. A refused command is told in the block alone. Refusal 10 for a
-    /// block of another length.
+    /// `frame`, a finish, a forget or a fetch into `out`, and the block tells of it. A refused command is told in the block alone. A fetch that is
+    /// refused leaves the last vector in `out`: bit 0 of the flags says whose it is. Refusal 10 for a block of another length.
     #[rustfmt::skip]
     pub fn registers_step(&mut self, block: &mut [u8], frame: &[f32], out: &mut [f32]) -> Result<(), Refusal> {
         let m = &self.info.loaded().tables;

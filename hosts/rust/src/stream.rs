@@ -270,6 +270,9 @@ impl IvectorStream {
 
     /// The vector at `frame`, into `out` of [`IvectorInfo::ivector_dim`] numbers, a NaN as 7FC00000: statistics are brought up to the frame,
     /// the estimate is refreshed, and the prior is taken off element 0. Below the statistics it is the current vector. Refusals 20 to 22.
+    ///
+    /// A frame whose c0 is at most the minimum energy is viewed by the CMVN state that the fetches before it left. So the vector can depend on when a host
+    /// fetches: equal frames give equal vectors where they are fetched at equal moments.
     #[rustfmt::skip]
     pub fn get_frame(&mut self, frame: usize, out: &mut [f32]) -> Result<Fetched, Refusal> {
         let m = &self.info.loaded().tables;

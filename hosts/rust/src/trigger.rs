@@ -32,6 +32,8 @@ impl IvectorStream {
     /// A new utterance wants a fresh table. Where weighing gives more than [`MAX_CHANGES`](crate::MAX_CHANGES), step 5 is refused (16), and the table
     /// gives them no second time: they are in [`Round::changes`], for
     /// [`update_frame_weights_in_parts`](IvectorStream::update_frame_weights_in_parts).
+    ///
+    /// A start above 1,000,000,000 is forgotten at step 1 before step 4 refuses it (23): that stream takes no change any more, but for the empty one.
     #[allow(clippy::too_many_arguments)]
     #[rustfmt::skip]
     pub fn round<V: AsRef<[f32]>>(

@@ -16,6 +16,7 @@ pub struct Voice {
 
 /// Of 1 to 32 enrolled vectors the nearest to `vector`: the lowest index whose distance is least, where that is at most `limit`; else
 /// nobody. All are of `dim` numbers, as a fetch gives them out. No root is taken, so the limit is one for a sum of squares. Refusals 27 to 29.
+/// Squares of differences below some 2.6e-23 are 0, so that unlike vectors can be at distance 0.
 pub fn nearest_voice<V: AsRef<[f32]>>(dim: usize, vector: &[f32], enrolled: &[V], limit: f32) -> Result<Option<Voice>, Refusal> {
     let enrolled = at_most_taken(enrolled);
     let all: Vec<f32> = enrolled.iter().flat_map(|v| v.as_ref()).copied().collect();
