@@ -237,7 +237,7 @@ typedef struct {
  * that wait, and rooms of b+1, s, s(s+1)/2 and s numbers; scratch is the larger of gd and ss: shofrakin_rooms_needed. Longer rooms are taken.
  * Refusals 10, 8.
  * F frames are as many as may be held at once. How long the rooms have to be, proved over every list of calls, refused ones among them
- * (crates/program/specs/Habit.antt, docs/PROOFS.md):
+ * (crates/program/specs/Habit.antt, docs/THEOREMS.md):
  * - rows_enough: with R = F + window no push is refused 15. The window is the options', or the longest that is set.
  * - frames-enough: with F = L + left + right context no push is refused 14, where at most L frames are pushed from one start of an utterance to the next.
  *   A start is a forget of a frame above the last ready one (the count of frames pushed will do), where that one was fetched and no change since has

@@ -12,7 +12,7 @@ const MAX_FRAMES: usize = 1_000_000_000;
 /// How much a stream has room for. It is allocated when the stream is made, exactly that much; its calls allocate nothing but the lists of a
 /// [`round`](IvectorStream::round).
 ///
-/// How much is enough is proved over every list of calls, refused ones among them (docs/PROOFS.md and crates/program/specs/Habit.antt of the
+/// How much is enough is proved over every list of calls, refused ones among them (docs/THEOREMS.md and crates/program/specs/Habit.antt of the
 /// repository):
 ///
 /// - `frames-enough`: with at least L frames and both contexts no push is refused for want of a frame (14), where at most L frames are pushed
@@ -213,7 +213,7 @@ impl IvectorStream {
     /// good, but for the empty one.
     ///
     /// Where all frames below `frame` were fetched and no change below it waits, at most the frames from it on and the left context are held
-    /// (`held-after-forget` of docs/PROOFS.md).
+    /// (`held-after-forget` of docs/THEOREMS.md).
     #[rustfmt::skip]
     pub fn forget_before(&mut self, frame: usize) -> Result<Held, Refusal> {
         // SAFETY: as in `change`.
