@@ -10,7 +10,6 @@ use definition::{FrameWeight, IvectorOptions};
 pub use gmm::{DiagGmm, LikeRooms};
 
 // The prune floor of a weight.
-#[tactic(auto, unfolding(definition::specs::Posteriors::min_post_for))]
 pub fn min_post_for(o: IvectorOptions, weight: f32) -> f32
     ensures { result ≡ min_post_for o weight }
 {
@@ -21,7 +20,6 @@ pub fn min_post_for(o: IvectorOptions, weight: f32) -> f32
 }
 
 // How a frame of this weight enters the statistics.
-#[tactic(auto, unfolding(definition::specs::Posteriors::weighed))]
 pub fn weighed(o: IvectorOptions, weight: f32) -> FrameWeight
     ensures { result ≡ weighed_of o weight }
 {
@@ -32,7 +30,6 @@ pub fn weighed(o: IvectorOptions, weight: f32) -> FrameWeight
 }
 
 // How a frame enters the statistics where there are no weights.
-#[tactic(auto, unfolding(definition::specs::Posteriors::unweighted))]
 pub fn unweighted(o: IvectorOptions) -> FrameWeight
     ensures { result ≡ unweighted_of o }
 {
