@@ -1,16 +1,17 @@
 -- The walk over the log-likelihoods: the candidates that are put down, and what is held of them, of which the first k are those of all in front of place g.
 use Rattle.std.specs.Prelude.{Option, Some, IfSome}
 use mathlib.Core.Path.{◌≡◌, sym, ap, ◌∙◌}
-use mathlib.Core.Bool.{Bool, true, false, ◌||◌}
+use mathlib.Core.Bool.{Bool, true, false}
 use mathlib.Core.List.{List, [], ◌∷◌, ◌++◌, map, append-nil, append_assoc, map-append, foldl-append}
 use Prim.Native.Nat.{ℕ, ◌+◌, ◌-◌, ◌≤◌, ◌<◌}
 use native.Mathlib.Omega.{arith}
-use borrow.Author.Count.{below_more}
+use lib.Dec.{ltb}
+use borrow.Author.Tests.{ltb-true, ltb-false}
 use lib.ListN.{length, get_or, set, take, drop}
 use lib.Seq.{take_all, take_at, drop_at, take-add}
 use lib.Ieee.{Float, nan}
 use Rattle.loops.specs.Lists.{those}
-use Rattle.loops.proofs.Choose.{or_fails}
+use Rattle.loops.proofs.Choose.{by-test}
 use Rattle.loops.proofs.Build.{length_build, at_build}
 use Rattle.loops.proofs.Parts.{take_next, at_part, length_part}
 use Rattle.loops.proofs.Tests.{those_append, those_none, at_none}
@@ -31,15 +32,16 @@ length-every ls = length_build (length ls) _
 every-at : (ls : List Float) (k : ℕ) → k < length ls → get_or (every ls) k (0, nan) ≡ (k, at ls k)
 every-at ls k h = at_build (0, nan) (length ls) _ k h
 
--- ---- four at a time
+-- ---- some at a time
 
-pub past-four : (test : ℕ → Bool) (g k : ℕ) → ((i : ℕ) → i < k → g ≤ i → test i ≡ false) → (test k || (test (k + 1) || (test (k + 2) || test (k + 3)))) ≡ false
-    → (i : ℕ) → i < k + 4 → g ≤ i → test i ≡ false
-past-four test g k h e i s =
-    let a = or_fails (test k) (test (k + 1) || (test (k + 2) || test (k + 3))) e in
-    let b = or_fails (test (k + 1)) (test (k + 2) || test (k + 3)) a.1 in
-    let c = or_fails (test (k + 2)) (test (k + 3)) b.1 in
-    below_more _ (k + 3) (λ i s. below_more _ (k + 2) (λ i s. below_more _ (k + 1) (below_more _ k h (λ l. a.0)) (λ l. b.0) i (omega arith)) (λ l. c.0) i (omega arith)) (λ l. c.1) i (omega arith)
+-- none from g to k, and none from k to m
+pub none_on : (test : ℕ → Bool) (g k m : ℕ) → ((i : ℕ) → i < k → g ≤ i → test i ≡ false) → ((i : ℕ) → i < m → k ≤ i → test i ≡ false) → (i : ℕ) → i < m → g ≤ i → test i ≡ false
+none_on test g k m h n i l s = by-test (ltb i k) (λ t. h i (ltb-true i k t) s) (λ t. n i l (ltb-false i k t))
+
+-- none from g to k, and r is the first from k on
+pub next_on : (test : ℕ → Bool) (g k m n r : ℕ) → g ≤ k → r < m → r < n → ((i : ℕ) → i < k → g ≤ i → test i ≡ false) → Next test k m r → Next test g n r
+next_on test g k m n r s l e h next =
+    let f = next.from in record { from = omega (arith, f, s); most = omega (arith, e); none = none_on test g k r h next.none; here = λ i. next.here l }
 
 -- ---- those in front of a place
 

@@ -4,7 +4,7 @@
 // That at most num_gselect are held is one comparison of each count: a name for it would be no shorter.
 #![tactic(auto)]
 
-ghost use Rattle.std.specs.Prelude.{◌≡◌, IfSome, ◌||◌, true, false, List, [], ◌∷◌, ℕ, ◌+◌, ◌-◌, ◌*◌, ◌<◌, ◌≤◌, length, take, drop, if◌then◌else◌};
+ghost use Rattle.std.specs.Prelude.{◌≡◌, IfSome, List, ℕ, ◌+◌, ◌-◌, ◌<◌, ◌≤◌, length, take};
 ghost use Rattle.std.specs.Float.Ieee.{lt, neg};
 ghost use Rattle.loops.specs.Lists.{those};
 ghost use Rattle.loops.specs.Steps.{fill};
@@ -15,11 +15,13 @@ ghost use Rattle.definition.specs.Posteriors.{pruned, every, max_like, ranked, b
 ghost use Rattle.leading.specs.Steps.{held};
 ghost use Rattle.leading.specs.Rooms.{Places, SameChosen};
 ghost use Rattle.posteriors.specs.Rooms.{Selected, Collects, Likely};
-ghost use Rattle.posteriors.specs.Steps.{Next, likelihoods as likelihoods_of, passes, place_or, above as above_of, least, top, joined};
+ghost use Rattle.posteriors.specs.Steps.{Next, likelihoods as likelihoods_of, passes, place_or};
 
 use leading::{Chosen, Holding};
 
-// The likelihood of a difference d from the largest log-likelihood; the largest itself has one of the two zeros.
+// The likelihood of a difference d from the largest log-likelihood; the largest itself has one of the two zeros. In the loop of its caller its constants would be
+// put down first, also where there is but one likelihood.
+#[inline(never)]
 fn likelihood(d: f32) -> f32
     ensures { result ≡ exp_of d }
 {
@@ -29,33 +31,49 @@ fn likelihood(d: f32) -> f32
     floats::exp(d)
 }
 
-// Whether one of four is above the cutoff.
-fn any_above(cutoff: f32, a: f32, b: f32, c: f32, d: f32) -> bool
-    ensures { result ≡ (lt cutoff a || (lt cutoff b || (lt cutoff c || lt cutoff d))) }
+// The first of the four from k on that is above the cutoff.
+fn first_of_four(cutoff: f32, k: usize, loglikes: &[f32]) -> Option<usize>
+    requires { k + 4 ≤ length loglikes.now }
+    ensures first { Next (λ i. lt cutoff (at loglikes.now i)) k (k + 4) (place_or (k + 4) result) }
+    ensures in_list { IfSome result (λ i. i < k + 4) }
 {
-    a > cutoff || b > cutoff || c > cutoff || d > cutoff
+    if loglikes[k] > cutoff {
+        Some(k)
+    } else if loglikes[k + 1] > cutoff {
+        Some(k + 1)
+    } else if loglikes[k + 2] > cutoff {
+        Some(k + 2)
+    } else if loglikes[k + 3] > cutoff {
+        Some(k + 3)
+    } else {
+        None
+    }
 }
 
-// From g on past fours of which none is above the cutoff.
-fn skip(cutoff: f32, g: usize, loglikes: &[f32]) -> usize
+// The first from g on that is above the cutoff.
+fn next_above(cutoff: f32, g: usize, loglikes: &[f32]) -> Option<usize>
     requires { g ≤ length loglikes.now }
-    ensures { (g ≤ result) × (result ≤ length loglikes.now) × ((k : ℕ) → k < result → g ≤ k → lt cutoff (at loglikes.now k) ≡ false) }
+    ensures first { Next (λ k. lt cutoff (at loglikes.now k)) g (length loglikes.now) (place_or (length loglikes.now) result) }
+    ensures in_list { IfSome result (λ k. k < length loglikes.now) }
 {
     let mut k = g;
-    // No `for`: the place where it stops is the answer. Four at a time, since one at a time is slower.
-    while loglikes.len() - k >= 4 {
-        if any_above(
-            cutoff,
-            loglikes[k],
-            loglikes[k + 1],
-            loglikes[k + 2],
-            loglikes[k + 3],
-        ) {
-            return k;
+    // No `for`: eight at a time, since one at a time is slower.
+    while loglikes.len() - k >= 8 {
+        if let Some(i) = first_of_four(cutoff, k, loglikes) {
+            return Some(i);
         }
-        k += 4;
+        if let Some(i) = first_of_four(cutoff, k + 4, loglikes) {
+            return Some(i);
+        }
+        k += 8;
     }
-    k
+    // By index: the place is the answer.
+    for i in k..loglikes.len() {
+        if loglikes[i] > cutoff {
+            return Some(i);
+        }
+    }
+    None
 }
 
 // The first from g on that is above the cutoff, or g itself where there is no cutoff.
@@ -67,13 +85,7 @@ fn next(cutoff: Option<f32>, g: usize, loglikes: &[f32]) -> Option<usize>
     let Some(cutoff) = cutoff else {
         return (g < loglikes.len()).then_some(g);
     };
-    // By index: the place is the answer.
-    for k in skip(cutoff, g, loglikes)..loglikes.len() {
-        if loglikes[k] > cutoff {
-            return Some(k);
-        }
-    }
-    None
+    next_above(cutoff, g, loglikes)
 }
 
 // How many candidates are held, and the Gaussian that the walk goes on from.
@@ -117,13 +129,13 @@ fn collect(
     Collected { count: n, next: k }
 }
 
-// The likelihoods of the differences from place `first` up to `end`, eight at most. In three loops, so that the one that computes is compiled to vector instructions.
+// The likelihoods of the differences from place `first` up to `end`, sixteen at most. In three loops, so that the one that computes is compiled to vector instructions.
 fn some_likelihoods(first: usize, end: usize, likes: &mut [f32])
-    requires { (first ≤ end) × (end ≤ first + 8) × (end ≤ length likes.old) }
+    requires { (first ≤ end) × (end ≤ first + 16) × (end ≤ length likes.old) }
     ensures { Likely first end likes.old likes.new }
 {
     let n = end - first;
-    let mut wide = [0.0f64; 8];
+    let mut wide = [0.0f64; 16];
     for i in 0..n {
         wide[i] = floats::exp_argument(likes[first + i]);
     }
@@ -148,9 +160,9 @@ fn make_likely(first: usize, end: usize, likes: &mut [f32])
     }
     let mut j = first;
     // No `for`: the last turn can be shorter.
-    while end - j > 8 {
-        some_likelihoods(j, j + 8, likes);
-        j += 8;
+    while end - j > 16 {
+        some_likelihoods(j, j + 16, likes);
+        j += 16;
     }
     some_likelihoods(j, end, likes);
 }
@@ -199,7 +211,7 @@ fn gather_many(
     chosen: &mut Chosen<'_>,
 ) -> usize
     requires places { Places num_gselect chosen.old }
-    requires few { (few.count ≤ 4) × (few.count ≤ length few_gauss.now) × (few.count ≤ length few_likes.now) × (few.next ≤ length loglikes.now) }
+    requires few { (few.count ≤ 16) × (few.count ≤ length few_gauss.now) × (few.count ≤ length few_likes.now) × (few.next ≤ length loglikes.now) }
     requires met { held few.count few_gauss.now few_likes.now ≡ likelihoods_of max_like (those (λ p. passes cutoff p.1) (take few.next (every loglikes.now))) }
     ensures gathered { held result chosen.new.gauss.now chosen.new.posts.now ≡ ranked num_gselect max_like (those (λ p. passes cutoff p.1) (every loglikes.now)) }
     ensures most { result ≤ num_gselect }
@@ -243,8 +255,8 @@ fn gather_many(
     leading::finish(holding, num_gselect, &mut gauss, &mut likes, chosen)
 }
 
-// The most likely of the Gaussians above the cutoff, or of all where there is none. Where few are above it there is nothing to choose, and the room that is cleared
-// for candidates is small.
+// The most likely of the Gaussians above the cutoff, or of all where there is none. Where they are sixteen at most there is nothing to choose: they are put in order
+// in less than it takes to choose among them, and the room that is cleared for candidates is small.
 fn gather(
     cutoff: Option<f32>,
     max_like: f32,
@@ -257,8 +269,8 @@ fn gather(
     ensures most { result ≤ num_gselect }
     ensures loans { SameChosen chosen.old chosen.new }
 {
-    let mut gauss = [0usize; 4];
-    let mut likes = [0.0f32; 4];
+    let mut gauss = [0usize; 16];
+    let mut likes = [0.0f32; 16];
     let few = candidates(cutoff, max_like, 0, loglikes, 0, &mut gauss, &mut likes);
     if few.next == loglikes.len() {
         return leading::order(few.count, &gauss, &likes, 0, num_gselect, chosen);
@@ -275,101 +287,19 @@ fn gather(
     )
 }
 
-// The larger of m and l; m, which is no NaN, where l is one.
-fn above(m: f32, l: f32) -> f32
-    ensures { result ≡ above_of m l }
-{
-    if m < l {
-        return l;
-    }
-    m
-}
-
-// Part k of the parts that are h long. By index, here and in `behind`: parts of no numbers are none to `chunks_exact`.
-fn part(h: usize, k: usize, loglikes: &[f32]) -> &[f32]
-    requires { k * h + h ≤ length loglikes.now }
-    ensures { (result.now ≡ take h (drop (k * h) loglikes.now)) × (length result.now ≡ h) }
-{
-    let start = k * h;
-    let end = start + h;
-    &loglikes[start..end]
-}
-
-// What is behind eight such parts.
-fn behind(h: usize, loglikes: &[f32]) -> &[f32]
-    requires { 8 * h ≤ length loglikes.now }
-    ensures { result.now ≡ drop (8 * h) loglikes.now }
-{
-    let start = 8 * h;
-    &loglikes[start..]
-}
-
-// The largest of each of eight parts at once, so that no comparison waits for the last; then of those, in the order of the parts. Eight slices, and that each is
-// as long as the first: as an array of them they would be no plainer, since each has its own place in the order.
-fn eight(
-    a: &[f32],
-    b: &[f32],
-    c: &[f32],
-    d: &[f32],
-    e: &[f32],
-    f: &[f32],
-    g: &[f32],
-    h: &[f32],
-) -> f32
-    requires { (length b.now ≡ length a.now) × (length c.now ≡ length a.now) × (length d.now ≡ length a.now) × (length e.now ≡ length a.now) × (length f.now ≡ length a.now) × (length g.now ≡ length a.now) × (length h.now ≡ length a.now) }
-    ensures { result ≡ joined (top least a.now) (b.now ∷ c.now ∷ d.now ∷ e.now ∷ f.now ∷ g.now ∷ h.now ∷ []) }
-{
-    let mut ma = -1.0 / 0.0;
-    let mut mb = -1.0 / 0.0;
-    let mut mc = -1.0 / 0.0;
-    let mut md = -1.0 / 0.0;
-    let mut me = -1.0 / 0.0;
-    let mut mf = -1.0 / 0.0;
-    let mut mg = -1.0 / 0.0;
-    let mut mh = -1.0 / 0.0;
-    // By index: eight parts go side by side.
-    for i in 0..a.len() {
-        ma = above(ma, a[i]);
-        mb = above(mb, b[i]);
-        mc = above(mc, c[i]);
-        md = above(md, d[i]);
-        me = above(me, e[i]);
-        mf = above(mf, f[i]);
-        mg = above(mg, g[i]);
-        mh = above(mh, h[i]);
-    }
-    let m = above(ma, mb);
-    let m = above(m, mc);
-    let m = above(m, md);
-    let m = above(m, me);
-    let m = above(m, mf);
-    let m = above(m, mg);
-    above(m, mh)
-}
-
-// The largest of m and the others.
-fn rest(m: f32, loglikes: &[f32]) -> f32
-    ensures { result ≡ top m loglikes.now }
-{
-    loglikes.iter().fold(m, |m, l| above(m, *l))
-}
-
-// The largest, a NaN passed over. Parts and joins keep the order: of equal ones the first is the answer.
+// The largest, a NaN passed over: the last that is above all in front of it. So of equal ones the first is the answer.
 fn largest(loglikes: &[f32]) -> f32
     ensures { result ≡ max_like loglikes.now }
 {
-    let h = loglikes.len() / 8;
-    let front = eight(
-        part(h, 0, loglikes),
-        part(h, 1, loglikes),
-        part(h, 2, loglikes),
-        part(h, 3, loglikes),
-        part(h, 4, loglikes),
-        part(h, 5, loglikes),
-        part(h, 6, loglikes),
-        part(h, 7, loglikes),
-    );
-    rest(front, behind(h, loglikes))
+    let mut m = -1.0 / 0.0;
+    let mut k = 0;
+    // No `for`: a turn goes on behind the next that is above the largest so far. That is seldom, and the others are passed over in fewer instructions than eight parts
+    // of the list side by side, with no branch, would take.
+    while let Some(j) = next_above(m, k, loglikes) {
+        m = loglikes[j];
+        k = j + 1;
+    }
+    m
 }
 
 // The most likely Gaussians, before they are pruned; ln: the logarithm of min_post.
@@ -471,8 +401,8 @@ fn select(
     renormalize(n, min_post, chosen.posts)
 }
 
-// How many of the log-likelihoods are NaN. One pass of its own with no branch in it, so that it is compiled to vector instructions. By index: with a
-// filter and its count, which was tried, a selection among 512 takes up to 7 in a hundred more instructions.
+// How many of the log-likelihoods are NaN. One pass of its own with no branch in it: some six instructions for each, and no vector ones, which the compiler uses for no
+// comparison of floats. By index: with a filter and its count, which was tried, a selection among 512 takes up to 7 in a hundred more instructions.
 fn count_nans(loglikes: &[f32]) -> usize
     ensures { result ≡ nan_count loglikes.now }
 {

@@ -9,10 +9,10 @@ use Rattle.posteriors.specs.Rooms.{Likely}
 use Rattle.posteriors.proofs.some_likelihoods.Given as goal
 
 abbrev pub invariant-loop-i : goal.invariant-loop-i
-invariant-loop-i l = (length l.wide ≡ 8) × ((m : ℕ) → m < l.i → at l.wide m ≡ at l.likes (l.first + m) /₆₄ as_f64 128)
+invariant-loop-i l = (length l.wide ≡ 16) × ((m : ℕ) → m < l.i → at l.wide m ≡ at l.likes (l.first + m) /₆₄ as_f64 128)
 
 abbrev pub invariant-loop-j : goal.invariant-loop-j
-invariant-loop-j l = (length l.wide ≡ 8) × ((m : ℕ) → m < l.j → at l.wide m ≡ wide_exp (at l.likes (l.first + m) /₆₄ as_f64 128))
+invariant-loop-j l = (length l.wide ≡ 16) × ((m : ℕ) → m < l.j → at l.wide m ≡ wide_exp (at l.likes (l.first + m) /₆₄ as_f64 128))
     × ((m : ℕ) → l.j ≤ m → m < l.n → at l.wide m ≡ at l.likes (l.first + m) /₆₄ as_f64 128)
 
 abbrev pub invariant-loop-k : goal.invariant-loop-k
