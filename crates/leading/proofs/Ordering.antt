@@ -1,13 +1,13 @@
 -- The loop that puts the candidates in order: one more candidate.
-use mathlib.Core.Path.{◌≡◌, refl, sym, ap, ◌∙◌}
-use mathlib.Core.List.{List, [], ◌∷◌, ◌++◌, foldl-append}
+use mathlib.Core.Path.{◌≡◌, sym, ap, ◌∙◌}
+use mathlib.Core.List.{List, [], ◌∷◌, foldl-append}
 use Prim.Native.Nat.{ℕ, suc, ◌+◌, ◌≤◌, ◌<◌}
 use native.Mathlib.Omega.{arith}
 use lib.ListN.{length, get_or, take}
 use lib.Seq.{take_all, take-take}
 use lib.Ieee.{Float, nan}
 use Rattle.floats.specs.Operators.{at}
-use Rattle.definition.specs.Posteriors.{Post, ahead, insert}
+use Rattle.definition.specs.Posteriors.{Post, insert}
 use Rattle.leading.specs.Steps.{held, into, Falling}
 use Rattle.leading.proofs.Sorting.{take-insert}
 use Rattle.leading.proofs.Ordered.{Ordered, steps_ordered, into_ordered, take_ordered, behind_any}

@@ -1,8 +1,8 @@
 -- Candidates behind a bound may be left out. Of those put in order the first k are the same, where k of them are not behind it: leaving out and putting in order
 -- may change places (`those_into`), and in a list that is in order those behind the bound stand last (`front_stays`).
-use Rattle.std.specs.Prelude.{Option, None, Some, IfSome, if◌then◌else◌, not}
+use Rattle.std.specs.Prelude.{Option, None, Some, IfSome, if◌then◌else◌}
 use mathlib.Core.Path.{◌≡◌, refl, sym, ap, ◌∙◌}
-use mathlib.Core.Bool.{Bool, true, false}
+use mathlib.Core.Bool.{Bool, true}
 use mathlib.Core.List.{List, [], ◌∷◌, ◌++◌, foldl-append}
 use Prim.Native.Nat.{ℕ, zero, suc, ◌+◌, ◌≤◌}
 use native.Mathlib.Nat.{le_of_suc-le-suc, not-suc-le-zero}

@@ -1,12 +1,11 @@
 -- `leading::make_room` meets its contract: what is left out does not count (`sieved_all`, `enough_chosen` in Sieving.antt), and what is put in order stays the same
 -- (`order_done` in Ordering.antt).
-use mathlib.Core.Path.{refl, ap, ◌∙◌}
+use mathlib.Core.Path.{ap, ◌∙◌}
 use mathlib.Core.List.{List}
 use native.Mathlib.Omega.{arith}
 use lib.ListN.{take}
-use Rattle.loops.specs.Lists.{those}
 use Rattle.definition.specs.Posteriors.{Post}
-use Rattle.leading.specs.Steps.{held, stays, into}
+use Rattle.leading.specs.Steps.{held, into}
 use Rattle.leading.proofs.Sieving.{sieved_all, enough_chosen}
 use Rattle.leading.proofs.Ordering.{falls_ordered, order_done}
 use Rattle.leading.proofs.make_room.Goals as goal
