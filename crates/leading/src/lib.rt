@@ -127,7 +127,7 @@ fn settle(g: usize, p: f32, last: usize, chosen: &mut [usize], posts: &mut [f32]
 // Put in among the first n; past num_gselect the last falls off. That the rooms have places, and are the same ones afterwards, are clauses by a word each: in
 // the struct's type they would be no plainer, since a ghost field beside a `&mut` is not covered. That at most num_gselect are held is one comparison of the
 // count: a name for it would be no shorter.
-fn insert(g: usize, p: f32, n: usize, num_gselect: usize, chosen: &mut Chosen<'_>) -> usize
+pub fn insert(g: usize, p: f32, n: usize, num_gselect: usize, chosen: &mut Chosen<'_>) -> usize
     requires few { n ≤ num_gselect }
     requires places { Places num_gselect chosen.old }
     requires in_order { Falling n chosen.old.posts.now }

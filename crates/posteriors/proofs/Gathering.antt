@@ -8,7 +8,7 @@ use native.Mathlib.Omega.{arith}
 use lib.Dec.{ltb}
 use borrow.Author.Tests.{ltb-true, ltb-false}
 use lib.ListN.{length, get_or, set, take, drop}
-use lib.Seq.{take_all, take_at, drop_at, take-add}
+use lib.Seq.{take_all, take-nil, take_at, drop_at, take-add}
 use lib.Ieee.{Float, nan}
 use Rattle.loops.specs.Lists.{those}
 use Rattle.loops.proofs.Choose.{by-test}
@@ -18,12 +18,12 @@ use Rattle.loops.proofs.Tests.{those_append, those_none, at_none}
 use Rattle.floats.specs.Operators.{◌-₃₂◌, at}
 use Rattle.floats.specs.Exp.{exp_of}
 use Rattle.definition.specs.Posteriors.{Post, insert, sorted, every, ranked}
-use Rattle.leading.specs.Steps.{held, stays, into}
+use Rattle.leading.specs.Steps.{held, stays, into, Falling}
 use Rattle.posteriors.specs.Steps.{likelihoods, Next, passes}
 use Rattle.posteriors.specs.Rooms.{Collects}
-use Rattle.leading.proofs.Sorting.{take_sort}
-use Rattle.leading.proofs.Ordered.{Ordered}
-use Rattle.leading.proofs.Rooms.{held_none, length_held, held_take, held_put}
+use Rattle.leading.proofs.Sorting.{take_sort, take-insert}
+use Rattle.leading.proofs.Ordered.{Ordered, sort_ordered, take_ordered, behind_any}
+use Rattle.leading.proofs.Rooms.{held_none, length_held, held_at, held_take, held_put}
 use Rattle.leading.proofs.Sieving.{sieved_more, enough_more}
 
 length-every : (ls : List Float) → length (every ls) ≡ length ls
@@ -107,7 +107,42 @@ gather_more k largest l ps es found e i =
     ∙ take_sort k (into [] (likelihoods largest es)) new ∙ sym (ap (take k) (foldl-append (λ (r : List Post) (p : Post). insert p r) [] (likelihoods largest es) new))
     ∙ sym (ap (λ (r : List Post). take k (into [] r)) (ap (map like) e ∙ map-append like es found))
 
+-- one more, of which the first k are kept
+ranked_more : (k : ℕ) (largest : Float) (ps : List Post) (p : Post) → ranked k largest (ps ++ (p ∷ [])) ≡ take k (insert (p.0, exp_of (p.1 -₃₂ largest)) (ranked k largest ps))
+unfolding ranked sorted
+ranked_more k largest ps p =
+    let q : Post = (p.0, exp_of (p.1 -₃₂ largest)) in
+    ap (λ (qs : List Post). take k (into [] qs)) (map-append (λ (p : Post). (p.0, exp_of (p.1 -₃₂ largest))) ps (p ∷ []))
+    ∙ ap (take k) (foldl-append (λ qs p. insert p qs) [] (likelihoods largest ps) (q ∷ [])) ∙ sym (take-insert k q (into [] (likelihoods largest ps)))
+
 module _ (k : ℕ) (cutoff : Option Float) (largest : Float) (ls : List Float) where
+  -- what is met first
+  -- nothing is held, and nothing is looked at
+  pub few_none : (gauss : List ℕ) (likes : List Float) → held 0 gauss likes ≡ gathered k cutoff largest ls 0
+  unfolding ranked sorted those
+  few_none gauss likes = held_none gauss likes ∙ sym (take-nil k)
+
+  -- Gaussian g passes and is put in
+  pub few_turn : (g : ℕ) {p : Float} {ps qs : List Post} → g < length ls → passes cutoff (at ls g) ≡ true → p ≡ exp_of (at ls g -₃₂ largest) → ps ≡ gathered k cutoff largest ls g
+      → qs ≡ take k (insert (g, p) ps) → qs ≡ gathered k cutoff largest ls (g + 1)
+  few_turn g {ps = ps} h t e f d =
+      d ∙ ap (λ (x : Float). take k (insert (g, x) ps)) e ∙ ap (λ (l : List Post). take k (insert (g, exp_of (at ls g -₃₂ largest)) l)) f
+      ∙ sym (ranked_more k largest (those (λ p. passes cutoff p.1) (take g (every ls))) (g, at ls g)) ∙ sym (ap (ranked k largest) (those_here (λ p. passes cutoff p.1) ls g h t))
+
+  -- Gaussian g does not pass
+  pub few_stay : (g : ℕ) {ps : List Post} → g < length ls → passes cutoff (at ls g) ≡ false → ps ≡ gathered k cutoff largest ls g → ps ≡ gathered k cutoff largest ls (g + 1)
+  few_stay g h t f =
+      f ∙ sym (ap (ranked k largest) (those_before (λ p. passes cutoff p.1) ls g (g + 1) (omega arith) (omega (arith, h))
+      (λ i l s. let same : i ≡ g = omega (arith, l, s) in ap (λ (j : ℕ). passes cutoff (at ls j)) same ∙ t)))
+
+  -- what is held falls
+  pub few_fall : (g n : ℕ) (gauss : List ℕ) (posts : List Float) → n ≤ length gauss → n ≤ length posts → held n gauss posts ≡ gathered k cutoff largest ls g → Falling n posts
+  unfolding ranked
+  few_fall g n gauss posts h l e =
+      let o : Ordered (held n gauss posts) = rw e (take_ordered k (sort_ordered (likelihoods largest (those (λ p. passes cutoff p.1) (take g (every ls)))))) in
+      let m = length_held n gauss posts h l in
+      record { behind = λ i j s t. rw (held_at n gauss posts h l (0, nan) i (omega arith), held_at n gauss posts h l (0, nan) j t) at (behind_any (0, nan) i j o s (omega arith)) }
+
   -- what is met first
   pub first_met : {r n : ℕ} {gauss gauss₁ : List ℕ} {likes likes₁ : List Float} → Collects cutoff (λ l. exp_of (l -₃₂ largest)) ls 0 0 r n gauss likes gauss₁ likes₁
       → held n gauss₁ likes₁ ≡ likelihoods largest (those (λ p. passes cutoff p.1) (take r (every ls)))

@@ -255,6 +255,40 @@ fn gather_many(
     leading::finish(holding, num_gselect, &mut gauss, &mut likes, chosen)
 }
 
+// Whether a log-likelihood is above the cutoff, if there is one.
+fn is_above(cutoff: Option<f32>, l: f32) -> bool
+    ensures { result ≡ passes cutoff l }
+{
+    match cutoff {
+        Some(cutoff) => l > cutoff,
+        None => true,
+    }
+}
+
+// The most likely of few Gaussians: there is nothing to choose among them, so those that pass are put in order at once, and no room for candidates is cleared.
+fn gather_few(
+    cutoff: Option<f32>,
+    max_like: f32,
+    loglikes: &[f32],
+    num_gselect: usize,
+    chosen: &mut Chosen<'_>,
+) -> usize
+    requires { Places num_gselect chosen.old }
+    ensures gathered { held result chosen.new.gauss.now chosen.new.posts.now ≡ ranked num_gselect max_like (those (λ p. passes cutoff p.1) (every loglikes.now)) }
+    ensures most { result ≤ num_gselect }
+    ensures loans { SameChosen chosen.old chosen.new }
+{
+    let mut n = 0;
+    // By index: the place is the Gaussian.
+    for g in 0..loglikes.len() {
+        if is_above(cutoff, loglikes[g]) {
+            let p = likelihood(loglikes[g] - max_like);
+            n = leading::insert(g, p, n, num_gselect, chosen);
+        }
+    }
+    n
+}
+
 // The most likely of the Gaussians above the cutoff, or of all where there is none. Where they are sixteen at most there is nothing to choose: they are put in order
 // in less than it takes to choose among them, and the room that is cleared for candidates is small.
 fn gather(
@@ -269,6 +303,9 @@ fn gather(
     ensures most { result ≤ num_gselect }
     ensures loans { SameChosen chosen.old chosen.new }
 {
+    if loglikes.len() <= 16 {
+        return gather_few(cutoff, max_like, loglikes, num_gselect, chosen);
+    }
     let mut gauss = [0usize; 16];
     let mut likes = [0.0f32; 16];
     let few = candidates(cutoff, max_like, 0, loglikes, 0, &mut gauss, &mut likes);
