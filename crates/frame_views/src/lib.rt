@@ -33,7 +33,9 @@ fn row<T>(ring: &[T], start: usize, n: usize) -> &[T]
     &ring[start..end]
 }
 
-// What a frame gives to a spliced row: a part of the raw store, from where the frame begins, or of the room for normalised rows.
+// What a frame gives to a spliced row: a part of the raw store, from where the frame begins, or of the room for normalised rows. Compiled into its caller, as
+// `fetch_frame` and `add_frame` are into theirs: where the LDA is called it is known which of the two it is, so that no row has to ask.
+#[inline(always)]
 fn spliced_row<'a>(
     raw: &'a [f32],
     normalised: &'a [f32],
@@ -130,6 +132,7 @@ impl StreamView<'_> {
     }
 
     // A frame, fetched: one to be normalised leaves its CMVN state, and its view in the front of the room.
+    #[inline(always)]
     fn fetch_frame(&self, features: Features, p: Places, cmvn: &mut [f64], view: &mut [f32])
         requires there { p.frame < self.now.accepted }
         requires state { length cmvn.old ≡ self.now.dim + 1 }
@@ -146,6 +149,7 @@ impl StreamView<'_> {
 
     // A frame, fetched, and added to the LDA's sums. `part` is the rows of the LDA's table for this frame; `view` has room for its normalised
     // numbers, and raw ones are added where they lie.
+    #[inline(always)]
     fn add_frame(
         &self,
         features: Features,
