@@ -34,7 +34,7 @@ WHY = {
 }
 
 # the project's crates that the contracts and proofs speak of; those below them come with them
-DEPS = 'loops floats definition basics packed_matrix linear leading posteriors diag_gmm table_sums batch_sums ivector_stats'
+DEPS = 'loops floats definition algebra gmm ivector_stats'
 
 IVECTOR = 'ivector.rs'
 SILENCE = 'silence_weighting.rs'

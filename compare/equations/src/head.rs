@@ -33,11 +33,11 @@ use Rattle.definition.proofs.Computed.{computed}
 use Rattle.program.specs.Rooms.{rings_from, estimate_from, Rooms, rooms_from, room_lengths_of, ring_at, waiting_in}
 use Rattle.program.specs.Calls.{answer_of, fresh_stream, new_answer, fresh_rooms, pushed_frames, pushed_rows, push_frame, set_input_finished, update_frame_weights, forget_mark, forget_before, set_cmn_window, fetch_refusal, fetch_estimate, fetch_changes, fetch_stream, fetch_rooms, fetch_vector, fetch_nans, get_frame}
 use Rattle.program.specs.Session.{Program, program, stepped, reply, step_of}
-use Rattle.nearest_voice.specs.Voice.{distance, least, voice_refusal, within_limit, nearest_voice}
-use Rattle.register_bytes.specs.Board.{board, bytes_of, interrupt_of, held_count, room_for_push, command_of, call_flags, rewritten, block_refusal, performed, board_step}
-use Rattle.trigger_steps.specs.declared.RoundOutcome.{RoundOutcome}
-use Rattle.trigger_steps.specs.declared.RoundEnd.TheVariants as E
-use Rattle.trigger_steps.specs.Round.{Utterance, Voices, Bench, bench, round_from, after, ended as ended_by, forgets, cut, push_all, pushes, decoded, notes, weighs, changes, fetches, result_of, finds, last_steps, round, round_outcome}
+use Rattle.rounds.specs.Voice.{distance, least, voice_refusal, within_limit, nearest_voice}
+use Rattle.board.specs.Board.{board, bytes_of, interrupt_of, held_count, room_for_push, command_of, call_flags, rewritten, block_refusal, performed, board_step}
+use Rattle.rounds.specs.declared.trigger_steps.RoundOutcome.{RoundOutcome}
+use Rattle.rounds.specs.declared.trigger_steps.RoundEnd.TheVariants as E
+use Rattle.rounds.specs.Round.{Utterance, Voices, Bench, bench, round_from, after, ended as ended_by, forgets, cut, push_all, pushes, decoded, notes, weighs, changes, fetches, result_of, finds, last_steps, round, round_outcome}
 
 -- ---- the keeping machine, and forged records
 

@@ -28,13 +28,13 @@ use Rattle.program.specs.Rooms.{Rings, Rooms, room_lengths_of}
 use Rattle.program.specs.Calls.{call_of, fresh_stream, new_answer, fresh_rooms, RingStep, RingCall, done_on, push_frame, update_frame_weights, forget_before, set_input_finished, set_cmn_window, Step, FetchCall, fetched_on, get_frame}
 use Rattle.program.specs.Session.{Program, program, step_of}
 use Rattle.program.proofs.Returned.{number_is}
-use Rattle.model_bytes.specs.Written.{write_refusal, written, written_out, written_answer, Files as Wrote, Refused}
-use Rattle.model_bytes.specs.declared.WrittenAnswer.{WrittenAnswer}
-use Rattle.register_bytes.specs.Board.{Board, board, byte, frame_number, block_refusal, command_of, performed, board_step}
-use Rattle.trigger_steps.specs.Round.{Utterance, Voices, Bench, bench, with_rings, with_table, with_fetch, Done, on_rings, push_all, cut, frame_length, ready, ended, forgets, pushes, notes, weighs, changes, fetches, result_of, finds, last_steps, Round, round_from, refused_at, round, worked, round_outcome}
-use Rattle.trigger_steps.specs.declared.RoundOutcome.{RoundOutcome}
-use Rattle.nearest_voice.specs.Voice.{NearestVoice, nearest_voice}
-use Rattle.ivector_info.specs.Load.{scratch_kept}
+use Rattle.writer.specs.Written.{write_refusal, written, written_out, written_answer, Files as Wrote, Refused}
+use Rattle.writer.specs.declared.model_bytes.WrittenAnswer.{WrittenAnswer}
+use Rattle.board.specs.Board.{Board, board, byte, frame_number, block_refusal, command_of, performed, board_step}
+use Rattle.rounds.specs.Round.{Utterance, Voices, Bench, bench, with_rings, with_table, with_fetch, Done, on_rings, push_all, cut, frame_length, ready, ended, forgets, pushes, notes, weighs, changes, fetches, result_of, finds, last_steps, Round, round_from, refused_at, round, worked, round_outcome}
+use Rattle.rounds.specs.declared.trigger_steps.RoundOutcome.{RoundOutcome}
+use Rattle.rounds.specs.Voice.{NearestVoice, nearest_voice}
+use Rattle.model.specs.Load.{scratch_kept}
 use Rattle.answers.specs.Answers.{load_answer, new_stream_answer}
 use Rattle.answers.specs.declared.LoadAnswer.{LoadAnswer}
 use Rattle.exports.specs.Kept.{RingsKept, OutputKept, forgot, heard, noted, weighed, changed, fetched, Stopped, at_forget, at_push, at_path, at_weighing, at_change, at_fetch, at_voice, KeptWhereRefused}

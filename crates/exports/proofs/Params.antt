@@ -2,8 +2,8 @@
 use mathlib.Core.Path.{◌≡◌}
 use mathlib.Core.List.{List, map, map-id}
 use lib.Ieee.{Float}
-use Rattle.model_bytes.specs.declared.ModelSizes.{ModelSizes}
-use Rattle.model_bytes.specs.Written.{params_from}
+use Rattle.writer.specs.declared.model_bytes.ModelSizes.{ModelSizes}
+use Rattle.writer.specs.Written.{params_from}
 
 pub as_they_are : (z : ModelSizes) (weights means_invvars inv_vars m sigma_inv : List Float) (prior_offset : Float) (lda : List Float)
     → params_from z (map (λ x. x) weights) (map (λ x. x) means_invvars) (map (λ x. x) inv_vars) (map (λ x. x) m) (map (λ x. x) sigma_inv) prior_offset (map (λ x. x) lda)

@@ -10,8 +10,8 @@ use Rattle.definition.specs.declared.IvectorOptions.{IvectorOptions}
 use Rattle.definition.specs.declared.TableLengths.{TableLengths}
 use Rattle.definition.specs.Reader.{Got, refused}
 use Rattle.definition.specs.Model.{Files, Model, load}
-use Rattle.ivector_info.specs.Load.{scratch_kept}
-use Rattle.settings.specs.Settings.{plain, settings_of, load_with}
+use Rattle.model.specs.Load.{scratch_kept}
+use Rattle.kaldi.specs.Settings.{plain, settings_of, load_with}
 use Rattle.exports.specs.declared.SettingsAnswer.{SettingsAnswer}
 use Rattle.exports.specs.Answers.{settings_answer}
 

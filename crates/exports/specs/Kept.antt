@@ -19,13 +19,13 @@ use Rattle.definition.specs.Silence.{TableRooms, compute_current_traceback, get_
 use Rattle.program.specs.Rooms.{Rings, Rooms, room_lengths_of}
 use Rattle.program.specs.Calls.{new_answer, fresh_rooms, RingStep, ring_call, done_on, push_frame, set_input_finished, update_frame_weights, forget_before, set_cmn_window, fetch_call, fetched_on, get_frame}
 use Rattle.program.specs.Session.{program, step_of}
-use Rattle.model_bytes.specs.Written.{Params, written, written_out, written_answer}
-use Rattle.model_bytes.specs.declared.WrittenAnswer.{WrittenAnswer}
-use Rattle.register_bytes.specs.Board.{board, block_refusal, command_of, board_step, FetchTaken}
-use Rattle.settings.specs.Settings.{settings_of, load_with}
-use Rattle.trigger_steps.specs.Round.{Utterance, Voices, Bench, bench, with_rings, Pushed, push_all, cut, frame_length, ready, forgets, pushes, notes, weighs, changes, fetches, round, worked, round_outcome}
-use Rattle.trigger_steps.specs.declared.RoundOutcome.{RoundOutcome}
-use Rattle.ivector_info.specs.Load.{scratch_kept}
+use Rattle.writer.specs.Written.{Params, written, written_out, written_answer}
+use Rattle.writer.specs.declared.model_bytes.WrittenAnswer.{WrittenAnswer}
+use Rattle.board.specs.Board.{board, block_refusal, command_of, board_step, FetchTaken}
+use Rattle.kaldi.specs.Settings.{settings_of, load_with}
+use Rattle.rounds.specs.Round.{Utterance, Voices, Bench, bench, with_rings, Pushed, push_all, cut, frame_length, ready, forgets, pushes, notes, weighs, changes, fetches, round, worked, round_outcome}
+use Rattle.rounds.specs.declared.trigger_steps.RoundOutcome.{RoundOutcome}
+use Rattle.model.specs.Load.{scratch_kept}
 use Rattle.answers.specs.Answers.{load_answer, answered, new_stream_answer}
 use Rattle.answers.specs.declared.LoadAnswer.{LoadAnswer}
 use Rattle.exports.specs.declared.SilenceCounts.{SilenceCounts}

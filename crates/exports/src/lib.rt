@@ -15,28 +15,33 @@ ghost use Rattle.definition.specs.Stream.{new_refusal};
 ghost use Rattle.definition.specs.Silence.{TableRooms, table_rooms, new_table, active, compute_current_traceback, get_delta_weights, table_call, table_done};
 ghost use Rattle.program.specs.Rooms.{Rings, rings_from, estimate_from, Rooms, rooms_from, room_lengths_of};
 ghost use Rattle.program.specs.Calls.{new_answer, fresh_rooms, ring_call, done_on, push_frame, set_input_finished, update_frame_weights, forget_before, set_cmn_window, Step, fetch_call, fetched_on, get_frame};
-ghost use Rattle.model_bytes.specs.Written.{Params, params_from, written, written_out, written_answer};
-ghost use Rattle.nearest_voice.specs.Voice.{nearest_voice, voice_answer};
+ghost use Rattle.writer.specs.Written.{Params, params_from, written, written_out, written_answer};
+ghost use Rattle.rounds.specs.Voice.{nearest_voice, voice_answer};
 ghost use Rattle.program.specs.Session.{program};
-ghost use Rattle.register_bytes.specs.Board.{Board, board, block_refusal, board_step, FetchTaken};
-ghost use Rattle.settings.specs.Settings.{settings_of, load_with};
-ghost use Rattle.memory.specs.Memory.{dimensions_of, dimensions_answer, tables_needed, rooms_needed};
-ghost use Rattle.trigger_steps.specs.Round.{Utterance, Voices, Bench, bench, Round, round as round_of, worked, round_outcome};
-ghost use Rattle.ivector_info.specs.Load.{files_of, scratch_kept};
+ghost use Rattle.board.specs.Board.{Board, board, block_refusal, board_step, FetchTaken};
+ghost use Rattle.kaldi.specs.Settings.{settings_of, load_with};
+ghost use Rattle.model.specs.Memory.{dimensions_of, dimensions_answer, tables_needed, rooms_needed};
+ghost use Rattle.rounds.specs.Round.{Utterance, Voices, Bench, bench, Round, round as round_of, worked, round_outcome};
+ghost use Rattle.model.specs.Load.{files_of, scratch_kept};
 ghost use Rattle.answers.specs.Answers.{load_answer, answered, new_stream_answer, new_table_answer};
 ghost use Rattle.exports.specs.Answers.{settings_answer, counted};
 
 use answers::{LoadAnswer, NewTableAnswer};
+use board::registers;
 use definition::{
     DecoderFrame, Dimensions, FrameRooms, InputFrame, IvectorInfo, IvectorOptions, IvectorStream,
     LentEstimate, LentFrames, LentTables, LentWaiting, SilenceWeighting, StreamAnswer, StreamCall,
     WaitingRooms, number_or_0, numbered,
 };
-use memory::{DimensionsAnswer, RoomsAnswer, TablesAnswer};
-use model_bytes::{LentParams, ModelSizes, WrittenAnswer};
-use nearest_voice::VoiceAnswer;
-use silence_weighting::{LentPath, SilenceRooms};
-use trigger::{LentUtterance, LentVoices, RoundAnswer};
+use kaldi::settings;
+use model::ivector_info;
+use model::memory::{self, DimensionsAnswer, RoomsAnswer, TablesAnswer};
+use rounds::nearest_voice::{self, VoiceAnswer};
+use rounds::silence_weighting::{self, LentPath, SilenceRooms};
+use rounds::trigger::{self, LentUtterance, LentVoices, RoundAnswer};
+use stream::{ivector_fetch, ivector_stream};
+use writer::model_bytes::{LentParams, ModelSizes, WrittenAnswer};
+use writer::model_writer;
 
 // The answer of a call on a silence table: the refusal, and how many changes it gives.
 #[repr(C)]

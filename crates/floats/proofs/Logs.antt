@@ -13,7 +13,7 @@ use lib.Ieee.Order.{drop}
 use mir.ValLaws.{to_z_pos, to_z-of_z}
 use Rattle.floats.specs.Operators.{◌+₆₄◌, ◌-₆₄◌, ◌*₆₄◌, ◌/₆₄◌, f64, zero₆₄, one₆₄, as_f64}
 use Rattle.floats.specs.Ln.{chained, ln_sum, plus, ln_of}
-use Rattle.floats.specs.Steps.{units_of, IsSplit}
+use Rattle.floats.specs.Inner.{units_of, IsSplit}
 use Rattle.floats.proofs.Sizes.{size_gt, size_exact, size_shift, drop_is}
 use Rattle.floats.proofs.Closest.{closest-under}
 use Rattle.floats.proofs.Rounding.{round_bits, round-no_nan}

@@ -8,7 +8,7 @@ use lib.Ieee.Nearest.{closest}
 use lib.Ieee.Order.{drop}
 use lib.Ieee.Scale.{round_same}
 use Rattle.floats.specs.Narrow.{narrowed}
-use Rattle.floats.specs.Steps.{digits, units_of, mag_bits}
+use Rattle.floats.specs.Inner.{digits, units_of, mag_bits}
 use Rattle.floats.proofs.Sizes.{drop_is}
 use Rattle.floats.proofs.Closest.{closest-le, closest_ge, closest-none}
 use Rattle.floats.proofs.Rounding.{round_bits, round-no_nan}

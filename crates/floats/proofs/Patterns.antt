@@ -9,7 +9,7 @@ use lib.Ieee.Compare.{differs_from_itself, nan_differs}
 use lib.Ieee.Exact.{HasValue, odd_sign}
 use denote.Floats.{passes}
 use borrow.Author.Tests.{lt-leb}
-use Rattle.floats.specs.Steps.{digits, units_of}
+use Rattle.floats.specs.Inner.{digits, units_of}
 
 -- ---- the value that a pattern stands for
 of_bits_is : (f : Format) (b : ℕ) → of_bits f b ≡ of_fields f (leb (top f) b) (b % top f / hid f) (b % hid f)

@@ -4,7 +4,7 @@ use mathlib.Core.Bool.{false≢true}
 use lib.Ieee.{Float, nan, inf, fin, binary64, div, ne, fits, is_nan, to_bits, of_bits}
 use lib.Ieee.Bits.{of_bits-to_bits}
 use lib.Ieee.Exact.{HasValue}
-use Rattle.floats.specs.Steps.{units_of}
+use Rattle.floats.specs.Inner.{units_of}
 use Rattle.floats.proofs.Patterns.{pattern-value, units-pos, value_nonzero, is_nan_lem, plus_le, minus_le}
 
 -- a function that has no value below zero

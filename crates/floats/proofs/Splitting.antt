@@ -2,7 +2,7 @@
 use Rattle.std.proofs.Common.{◌≡◌, ℕ, ◌+◌, ◌-◌, ◌*◌, ◌/◌, ◌%◌, ◌^◌, ◌<◌, ◌≤◌, cond, eqb, sym, ap, ◌∙◌, subst, le_trans, le_of_eq, lt_of_le_of_lt, mul-le-mul_right, mul_assoc, one-mul, zero-add, arith, pow-add, shl_lt}
 use native.Mathlib.Nat.{pow-succ'}
 use lib.Ieee.{binary64}
-use Rattle.floats.specs.Steps.{digits, units_of, IsSplit}
+use Rattle.floats.specs.Inner.{digits, units_of, IsSplit}
 use Rattle.floats.proofs.Sizes.{none_left, one_back, pow_lt_back}
 use Rattle.floats.proofs.Patterns.{digits_normal, digits_lt, units-pos}
 

@@ -1,4 +1,4 @@
--- Floats: operators, and the functions that the Rust takes from its standard library. `Steps` is not for readers.
+-- Floats: operators, and the functions that the Rust takes from its standard library. `Inner` is not for readers.
 pub mod Operators
 pub mod Narrow
 pub mod Sqrt
@@ -7,4 +7,4 @@ pub mod Exp
 pub mod Extremes
 pub mod Decimal
 pub mod Real
-pub mod Steps
+pub mod Inner

@@ -13,7 +13,7 @@ ghost use Rattle.floats.specs.Operators.{◌/₆₄◌, as_f64};
 ghost use Rattle.floats.specs.Exp.{series, squares, wide_exp, exp_of};
 ghost use Rattle.floats.specs.Extremes.{larger, smaller, absolute};
 ghost use Rattle.floats.specs.Decimal.{scaled, tens};
-ghost use Rattle.floats.specs.Steps.{mag_bits, IsSplit};
+ghost use Rattle.floats.specs.Inner.{mag_bits, IsSplit};
 
 mod real;
 

@@ -6,7 +6,7 @@ use lib.ListN.{length, get_or, take, drop}
 use lib.Ieee.{Float, nan}
 use Rattle.loops.specs.Loop.{iter}
 use Rattle.loops.specs.Lists.{build}
-use Rattle.loops.specs.Steps.{fill}
+use Rattle.loops.specs.Inner.{fill}
 use Rattle.loops.proofs.Loop.{iter_ext}
 use Rattle.loops.proofs.Build.{length_build, at_build, build_ext, build_take, build_list, map-build}
 use Rattle.loops.proofs.Fill.{fill_ext}
@@ -16,9 +16,9 @@ use Rattle.loops.proofs.Parts.{lent_is, at_part}
 use Rattle.floats.specs.Operators.{◌+₆₄◌, ◌*₆₄◌, zero₆₄, at, sum₆₄, total₆₄}
 use Rattle.definition.specs.Kaldi.{triangle}
 use Rattle.definition.specs.Statistics.{Entry, seen, sum_for, rescaled, acc_linear, acc_quadratic, acc}
-use Rattle.batch_sums.specs.Batch.{weight, Sums}
-use Rattle.ivector_stats.specs.Steps.{linear_term, linear_over, quadratic_over, stats_in}
-use Rattle.batch_sums.proofs.Totals.{sum_total}
+use Rattle.gmm.specs.Batch.{weight, Sums}
+use Rattle.ivector_stats.specs.Inner.{linear_term, linear_over, quadratic_over, stats_in}
+use Rattle.gmm.proofs.Totals.{sum_total}
 
 -- n elements from a on, as code lends them
 abbrev part : ℕ → ℕ → List Float → List Float

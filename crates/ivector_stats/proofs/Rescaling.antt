@@ -8,7 +8,7 @@ use lib.Ieee.{Float, lt, ne}
 use Rattle.floats.specs.Operators.{◌+₆₄◌, ◌-₆₄◌, ◌*₆₄◌, ◌/₆₄◌, zero₆₄, at}
 use Rattle.floats.specs.Extremes.{larger}
 use Rattle.definition.specs.Statistics.{add_diagonal, rescaled}
-use Rattle.ivector_stats.specs.Steps.{stats_in}
+use Rattle.ivector_stats.specs.Inner.{stats_in}
 
 module _ (s : ℕ) (prior max_count tot n : Float) (linear quadratic : List Float) where
   pub rescaled_never : lt zero₆₄ max_count ≡ false → stats_in (n +₆₄ tot) linear quadratic ≡ rescaled s prior max_count tot (stats_in n linear quadratic)

@@ -9,7 +9,7 @@ use lib.Ieee.{Float, lt, eq}
 use Rattle.loops.proofs.Choose.{choose_true, choose_false}
 use Rattle.floats.specs.Operators.{zero₆₄, at}
 use Rattle.definition.specs.Solve.{linear_cgd, prior_vector, get_ivector}
-use Rattle.ivector_stats.specs.Steps.{stats_in}
+use Rattle.ivector_stats.specs.Inner.{stats_in}
 
 module _ (n : ℕ) (prior : Float) (iters : ℕ) (count : Float) (linear quadratic current : List Float) {y : List Float} where
   pub solved : {x : List Float} → lt zero₆₄ count ≡ true → x ≡ (if eq (at current 0) zero₆₄ then set current 0 prior else current) → y ≡ linear_cgd quadratic n linear x iters

@@ -1,3 +1,3 @@
 -- What the contracts of this crate need besides the definition.
-pub mod Steps
+pub mod Inner
 pub mod Rooms

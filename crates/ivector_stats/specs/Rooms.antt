@@ -4,7 +4,7 @@ use Rattle.definition.specs.Kaldi.{triangle}
 use Rattle.definition.specs.Statistics.{Stats}
 use Rattle.ivector_stats.specs.declared.Statistics.{Statistics}
 use Rattle.ivector_stats.specs.declared.LentStatistics.{LentStatistics}
-use Rattle.ivector_stats.specs.Steps.{stats_in}
+use Rattle.ivector_stats.specs.Inner.{stats_in}
 
 -- what they say
 abbrev pub stats_of : Statistics → Stats

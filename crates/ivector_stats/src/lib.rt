@@ -4,20 +4,21 @@
 
 ghost use Rattle.std.specs.Prelude.{◌≡◌, List, ◌+◌, ◌*◌, ◌<◌, ◌≤◌, length, set, if◌then◌else◌};
 ghost use Rattle.std.specs.Float.Ieee.{eq};
-ghost use Rattle.loops.specs.Steps.{fill};
+ghost use Rattle.loops.specs.Inner.{fill};
 ghost use Rattle.floats.specs.Operators.{◌+₆₄◌, ◌*₆₄◌, ◌/₆₄◌, zero₆₄, at, sum₆₄};
 ghost use Rattle.floats.specs.Extremes.{larger};
 ghost use Rattle.definition.specs.Kaldi.{triangle};
 ghost use Rattle.definition.specs.Statistics.{Entry, new_stats, add_diagonal, rescaled, acc as acc_of};
 ghost use Rattle.definition.specs.Solve.{prior_vector, get_ivector};
-ghost use Rattle.batch_sums.specs.Batch.{Slots, Sums};
-ghost use Rattle.ivector_stats.specs.Steps.{linear_term, linear_over, quadratic_over};
+ghost use Rattle.gmm.specs.Batch.{Slots, Sums};
+ghost use Rattle.ivector_stats.specs.Inner.{linear_term, linear_over, quadratic_over};
 ghost use Rattle.ivector_stats.specs.Rooms.{stats_of, stats_lent, StatsFit, SameStats};
 
-use basics::add_scaled;
-use batch_sums::RunningSums;
+use algebra::basics::add_scaled;
+use algebra::linear;
+use algebra::packed_matrix::{self, Symmetric, weighted_rows};
 use definition::IvectorInfo;
-use packed_matrix::{Symmetric, weighted_rows};
+use gmm::batch_sums::RunningSums;
 
 /// The statistics of a speaker: how many frames went in, and their two terms.
 #[derive(Drop)]

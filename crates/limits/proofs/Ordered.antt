@@ -19,7 +19,7 @@ use Rattle.loops.specs.Lists.{any_of}
 use Rattle.loops.proofs.Choose.{by-test, and_holds, or_first}
 use Rattle.loops.proofs.Tests.{at_none, at_some}
 use Rattle.definition.specs.Stream.{rising}
-use Rattle.limits.specs.Steps.{waiting_broken}
+use Rattle.limits.specs.Inner.{waiting_broken}
 
 -- ---- std's order is `rising`
 

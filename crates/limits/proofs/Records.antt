@@ -22,7 +22,7 @@ use Rattle.definition.specs.declared.IvectorStream.{IvectorStream}
 use Rattle.definition.specs.Machine.{frames_held, rows_held, waiting_room}
 use Rattle.definition.specs.Model.{table_sizes, table_lengths, tables_fit}
 use Rattle.definition.specs.Stream.{info_sound, stream_scratch, estimate_lengths, estimate_sizes, rooms_fit, rising, breaks, is_broken}
-use Rattle.limits.specs.Steps.{waiting_broken, counts_broken}
+use Rattle.limits.specs.Inner.{waiting_broken, counts_broken}
 use Rattle.limits.proofs.Listed.{FirstAre, all-last, any_rest, pair_fail, pair_last}
 
 -- ---- lists of lengths, side by side: one pair that fails decides, or the last one

@@ -5,7 +5,7 @@ use Prim.Native.Nat.{ℕ, ◌+◌, ◌≤◌}
 use lib.ListN.{length, get_or}
 use Rattle.loops.specs.Loop.{iter}
 use Rattle.loops.specs.Lists.{build}
-use Rattle.loops.specs.Steps.{fill}
+use Rattle.loops.specs.Inner.{fill}
 use Rattle.loops.proofs.Loop.{at_end, iter_more}
 use Rattle.loops.proofs.Build.{length_build, at_build, build_ext}
 use Rattle.loops.proofs.Fill.{fill_whole}

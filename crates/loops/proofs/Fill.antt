@@ -10,7 +10,7 @@ use lib.ListN.{length, get_or, set, take, drop, replicate, length-append, length
 use lib.Seq.{drop-cons, set_at, take_at, drop_at, drop-drop, drop-length, length-take-le, get_or-append-add, get_or-take, get_or-drop}
 use Rattle.loops.specs.Loop.{iter}
 use Rattle.loops.specs.Lists.{build, over}
-use Rattle.loops.specs.Steps.{fill}
+use Rattle.loops.specs.Inner.{fill}
 use Rattle.loops.specs.Ring.{put}
 use Rattle.loops.proofs.Loop.{at_end}
 use Rattle.loops.proofs.Build.{length_build, at_build, build_snoc, build_ext, build_add, build_take, build_list, build_same}

@@ -3,7 +3,7 @@ use mathlib.Core.Path.{◌≡◌, sym, ap, ◌∙◌}
 use Prim.Native.Nat.{ℕ, ◌+◌, ◌-◌, ◌≤◌}
 use native.Mathlib.Omega.{arith}
 use Rattle.loops.specs.Loop.{iter}
-use Rattle.loops.specs.Steps.{from}
+use Rattle.loops.specs.Inner.{from}
 use Rattle.loops.proofs.Loop.{iter_add}
 
 -- the turns below a, then those from a on

@@ -7,7 +7,7 @@ use native.Mathlib.Nat.{eq-or-lt_of_le, le_of_suc-le-suc}
 use native.Mathlib.Numerals.{add-one}
 use native.Mathlib.Omega.{arith}
 use Rattle.loops.specs.Loop.{Out, on, off, next, leave, final}
-use Rattle.loops.specs.Steps.{done}
+use Rattle.loops.specs.Inner.{done}
 use Rattle.loops.proofs.Loop.{at_end}
 
 module _ {S : Type 0} (f : ℕ → S → Out S) (s : S) where

@@ -10,7 +10,7 @@ use lib.Seq.{length-take-le}
 use Rattle.std.specs.List.{list_any, list_all, filter}
 use Rattle.loops.specs.Lists.{build, those, any_of, all_of, over}
 use Rattle.loops.specs.Ring.{put}
-use Rattle.loops.specs.Steps.{fill}
+use Rattle.loops.specs.Inner.{fill}
 use Rattle.loops.proofs.Build.{build_same}
 use Rattle.loops.proofs.Fill.{put_back}
 

@@ -4,4 +4,4 @@ pub mod Lists
 pub mod Refusal
 pub mod Ring
 -- what loops in code leave: for the contracts of inner functions, not for readers
-pub mod Steps
+pub mod Inner

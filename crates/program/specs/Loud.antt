@@ -26,7 +26,7 @@ loud_view M window xs =
     let last = length xs - 1 in
     cmvn_frame dim F last (smoothed o dim M.tables.global_mean_stats (windowed o dim F last))
 
--- the view of frame u that `cmvn_frame` gives by a CMVN state, in the words of its contract (crates/frame_views): that by the state which it leaves
+-- the view of frame u that `cmvn_frame` gives by a CMVN state, in the words of its contract (`frame_views`): that by the state which it leaves
 unfoldable pub view_by : IvectorOptions → ℕ → List Float → Frames → ℕ → List Float → List Float
 view_by o dim global F u state = cmvn_frame dim F u (cmvn_state o dim global F u state)
 

@@ -1,10 +1,13 @@
 // The calls of the library: each is lent the fronts of the program's rooms that the script wants.
 use super::rooms::{Lengths, Rooms, Tables};
+use board::registers;
 use definition::{
     FrameRooms, IvectorInfo, IvectorOptions, IvectorStream, LentEstimate, LentFrames, LentWaiting,
     Refusal, StreamCall, WaitingRooms,
 };
+use model::ivector_info;
 use script::{Files, front, lend};
+use stream::{ivector_fetch, ivector_stream};
 
 impl Tables {
     pub(crate) fn load(

@@ -1,8 +1,8 @@
 // A model's files, as the text has them, and the dimensions of their model.
 use definition::{Dimensions, Refusal};
-use kaldi_files::checks::{check_extractor, check_gmm, check_lda};
-use kaldi_io::reader::KaldiReader;
-use kaldi_text::check_cmvn;
+use kaldi::kaldi_files::checks::{check_extractor, check_gmm, check_lda};
+use kaldi::kaldi_io::reader::KaldiReader;
+use kaldi::kaldi_text::check_cmvn;
 use script::{Files, Words};
 use std::alloc::{AllocError, Global};
 

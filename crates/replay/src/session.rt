@@ -2,8 +2,8 @@
 // functions, is no plainer.
 use super::load::{FILE_BYTES, dimensions, file, file_bytes};
 use super::rooms::{Lengths, Rooms, Tables};
+use board::register_bytes::Command;
 use definition::{IvectorOptions, IvectorStream, Refusal, StreamCall};
-use register_bytes::Command;
 use script::{
     Files, Held, Item, NO_FILES, Words, front, lend, not_here, print, print_answer, print_list,
 };

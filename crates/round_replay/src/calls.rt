@@ -6,9 +6,11 @@ use definition::{
     EstimateLengths, FrameRooms, IvectorInfo, IvectorOptions, IvectorStream, LentEstimate,
     LentWaiting, Refusal, RingLengths, SilenceWeighting, StreamCall, WaitingRooms,
 };
+use model::{ivector_info, memory};
+use rounds::silence_weighting::SilenceRooms;
+use rounds::trigger::{self, TriggerRound};
 use script::{Files, Words, front, lend};
-use silence_weighting::SilenceRooms;
-use trigger::TriggerRound;
+use stream::ivector_stream;
 
 /// How many numbers a model keeps in each room of its estimate.
 pub(crate) fn estimate_lengths(info: IvectorInfo) -> EstimateLengths {

@@ -1,10 +1,10 @@
 // The line of a round. What these functions print is words and numbers on one line, of lists beside the result: a `Display` would be no plainer.
 use super::session::{Session, print_changes};
+use rounds::silence_weighting::LentPath;
+use rounds::trigger::{LentUtterance, LentVoices};
+use rounds::trigger_steps::{Halt, RoundEnd};
 use script::{Held, Item, Words, front, lend, not_here, print, print_list};
-use silence_weighting::LentPath;
 use std::io::{self, Write};
-use trigger::{LentUtterance, LentVoices};
-use trigger_steps::{Halt, RoundEnd};
 
 /// What a line asks of a round: an utterance, the rooms for changes and a vector, the voices that are known, and how far one may be.
 #[derive(Drop)]

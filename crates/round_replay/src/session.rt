@@ -6,6 +6,7 @@ use super::rooms::{Rooms, TableRooms, Tables};
 use definition::{
     DecoderFrame, IvectorOptions, IvectorStream, RingLengths, SilenceWeighting, StreamCall,
 };
+use rounds::silence_weighting;
 use script::{
     Files, Held, Item, NO_FILES, Words, front, not_here, print, print_answer, print_list,
 };

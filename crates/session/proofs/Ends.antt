@@ -21,7 +21,7 @@ use Rattle.definition.proofs.Ranges.{option_ranges, info_sound_lem}
 use Rattle.program.specs.Rooms.{Rooms, ring_lengths_of, room_lengths_of}
 use Rattle.program.specs.Calls.{answer_from, fresh_stream, fresh_rooms}
 use Rattle.program.specs.Session.{program, program_after}
-use Rattle.run_calls.specs.Listed.{Written, writes, list_refusal, run_refusal}
+use Rattle.lists.specs.Listed.{Written, writes, list_refusal, run_refusal}
 use Rattle.whole.specs.Whole.{Answered, not_loaded, not_made, played, got, left, on_model, machine_session}
 use Rattle.whole.proofs.Whole.{loaded_sound, refused_for-rooms, answers-from-bytes}
 use Rattle.session.specs.Session.{written_of, returned_with, of_list, session_answered, after_calls, rooms_left}

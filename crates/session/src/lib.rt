@@ -8,13 +8,14 @@ ghost use Rattle.definition.specs.Model.{Files, Tables, tables_from, table_lengt
 ghost use Rattle.definition.specs.Machine.{Call};
 ghost use Rattle.program.specs.Lent.{estimate_of};
 ghost use Rattle.program.specs.Rooms.{rings_from, Rooms, rooms_from};
-ghost use Rattle.ivector_info.specs.Load.{files_of};
-ghost use Rattle.run_calls.specs.Listed.{calls, written, writes, list_refusal};
+ghost use Rattle.model.specs.Load.{files_of};
+ghost use Rattle.lists.specs.Listed.{calls, written, writes, list_refusal};
 ghost use Rattle.whole.specs.Whole.{Answered, machine_session};
 ghost use Rattle.session.specs.Session.{written_of, returned_with, session_answered, rooms_left};
 
 use definition::{IvectorOptions, LentEstimate, LentTables, Refusal, StreamAnswer, WaitingRooms};
-use run_calls::CallList;
+use lists::run_calls::{self, CallList};
+use model::ivector_info;
 
 /// Why nothing was played.
 #[derive(Clone, Copy, Debug, PartialEq, Eq)]

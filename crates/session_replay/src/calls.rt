@@ -1,6 +1,6 @@
 // A list of calls as `run_calls` takes it, gathered line by line; its answers are printed from where they were written.
 use definition::StreamAnswer;
-use run_calls::CallList;
+use lists::run_calls::CallList;
 use script::{Words, front, print_answer, print_list};
 use std::alloc::{AllocError, Global};
 use std::io::{self, Write};

@@ -2,6 +2,7 @@
 use super::calls::Calls;
 use super::rooms::{Lengths, Rooms, Tables};
 use definition::{IvectorOptions, LentEstimate, StreamAnswer, WaitingRooms};
+use model::memory;
 use script::{Files, Item, NO_FILES, Words, not_here, print_answer};
 use session::NotPlayed;
 use std::alloc::{AllocError, Global};

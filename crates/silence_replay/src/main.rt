@@ -4,8 +4,8 @@
 #![tactic(auto)]
 
 use definition::{DecoderFrame, InputFrame, SilenceWeighting};
+use rounds::silence_weighting::{self, LentPath, SilenceRooms};
 use script::{Item, Script, Words, front, lend, not_here, print};
-use silence_weighting::{LentPath, SilenceRooms};
 use std::alloc::{AllocError, Global};
 use std::io::{self, Write};
 

@@ -7,9 +7,13 @@
 // Option by `get` is no plainer.
 #![tactic(auto)]
 
+use algebra::linear;
+use algebra::packed_matrix::Symmetric;
 use definition::IvectorOptions;
-use leading::Chosen;
-use packed_matrix::Symmetric;
+use gmm::leading::Chosen;
+use gmm::{diag_gmm, posteriors};
+use kaldi::{kaldi_text, settings};
+use rounds::nearest_voice;
 use script::{Item, Pattern, Script, Words, front, lend, print, print_list};
 use std::io::{self, Write};
 

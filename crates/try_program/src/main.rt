@@ -5,11 +5,13 @@
 #![tactic(auto)]
 
 use definition::{IvectorInfo, LentEstimate, LentTables, Refusal, WaitingRooms};
+use lists::try_load::{self, LoadSizes};
+use lists::try_model;
+use lists::try_play::{self, Totals};
+use model::ivector_info;
 use script::{Script, Words, front, lend, print, print_list};
 use std::env::{Env, FillError};
 use std::io::{self, Write};
-use try_load::LoadSizes;
-use try_play::Totals;
 
 // ---- the model: one Gaussian, one dimension and no context, over frames of the base dimension that an input asks for
 

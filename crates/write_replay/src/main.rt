@@ -6,10 +6,11 @@
 
 use definition::{IvectorOptions, Refusal};
 use floats::KeepAs;
-use model_bytes::{FileLengths, LentParams, ModelSizes};
 use script::{Item, Script, Words, lend};
 use std::alloc::Global;
 use std::io::{self, Write};
+use writer::model_bytes::{FileLengths, LentParams, ModelSizes};
+use writer::model_writer;
 
 /// What a call answered, and the output up to the last byte that is not ee. The types are the library's, so a `Display` would need one around them, and be no
 /// plainer.

@@ -5,8 +5,8 @@ use lib.ListN.{length}
 use Rattle.definition.specs.declared.IvectorOptions.{IvectorOptions}
 use Rattle.definition.specs.Reader.{Got}
 use Rattle.definition.specs.Model.{Model, tables_from, table_lengths_of, load, loaded_of, loaded_tables}
-use Rattle.settings.specs.Settings.{settings_of}
-use Rattle.ivector_info.specs.Load.{files_of, scratch_kept}
+use Rattle.kaldi.specs.Settings.{settings_of}
+use Rattle.model.specs.Load.{files_of, scratch_kept}
 use Rattle.answers.specs.Answers.{load_answer}
 use Rattle.exports.specs.Answers.{settings_answer}
 use Rattle.exports.proofs.WithSettings.{same_options, not_loaded, is_loaded, kept_with}

@@ -8,10 +8,10 @@ use borrow.Author.Rules.{rules}
 use mathlib.Core.Bool.{false}
 use Rattle.definition.specs.Silence.{TableRooms}
 use Rattle.program.specs.Rooms.{Rooms}
-use Rattle.trigger.specs.Answer.{round_answer}
-use Rattle.trigger.specs.declared.RoundAnswer.{RoundAnswer}
-use Rattle.trigger.specs.declared.TriggerRound.{TriggerRound}
-use Rattle.trigger_steps.specs.Round.{bench, Round, round_from, worked, round_outcome}
+use Rattle.rounds.specs.Answer.{round_answer}
+use Rattle.rounds.specs.declared.trigger.RoundAnswer.{RoundAnswer}
+use Rattle.rounds.specs.declared.trigger.TriggerRound.{TriggerRound}
+use Rattle.rounds.specs.Round.{bench, Round, round_from, worked, round_outcome}
 use Rattle.exports.proofs.shofrakin_round.Goals as goal
 
 round_told :

@@ -3,8 +3,8 @@ use borrow.Author.Rules.{rules}
 use mathlib.Core.Path.{◌≡◌, ap, ◌∙◌}
 use lib.ListN.{length}
 use lib.Ieee.{binary32}
-use Rattle.model_bytes.specs.Written.{Params, written, written_out, written_answer}
-use Rattle.model_bytes.specs.Lent.{written_of}
+use Rattle.writer.specs.Written.{Params, written, written_out, written_answer}
+use Rattle.writer.specs.Lent.{written_of}
 use Rattle.exports.proofs.Params.{as_they_are}
 use Rattle.exports.proofs.shofrakin_write_f32.Goals as goal
 

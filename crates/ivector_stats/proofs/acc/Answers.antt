@@ -4,7 +4,7 @@ use mathlib.Core.Path.{ap, ◌∙◌}
 use Prim.Native.Nat.{ℕ}
 use native.Mathlib.Omega.{arith}
 use lib.Seq.{length-take-le}
-use Rattle.ivector_stats.specs.Steps.{linear_over, quadratic_over}
+use Rattle.ivector_stats.specs.Inner.{linear_over, quadratic_over}
 use Rattle.ivector_stats.proofs.Gaussians.{acc_is}
 use Rattle.ivector_stats.proofs.acc.Goals as goal
 

@@ -4,14 +4,14 @@ use mathlib.Core.Path.{◌≡◌, refl, ap, ◌∙◌}
 use Prim.Native.Nat.{ℕ, ◌+◌, ◌-◌, ◌*◌, ◌≤◌}
 use native.Mathlib.Omega.{arith}
 use lib.ListN.{length, get_or, take, drop}
-use Rattle.loops.specs.Steps.{fill}
+use Rattle.loops.specs.Inner.{fill}
 use Rattle.loops.proofs.Loop.{at_end, iter_none, iter_next}
 use Rattle.loops.proofs.Cells.{row_in_lem}
 use Rattle.loops.proofs.Parts.{length_lent}
 use Rattle.floats.specs.Operators.{◌+₆₄◌, zero₆₄, at, sum₆₄}
-use Rattle.ivector_stats.specs.Steps.{linear_term, linear_over, quadratic_over}
+use Rattle.ivector_stats.specs.Inner.{linear_term, linear_over, quadratic_over}
 use Rattle.ivector_stats.proofs.Gaussians.{linear_none, linear_turn, quadratic_none, quadratic_turn}
-use Rattle.batch_sums.proofs.Places.{slot_sum}
+use Rattle.gmm.proofs.Places.{slot_sum}
 use Rattle.ivector_stats.proofs.acc_batch.Goals.{In-loop-k}
 use Rattle.ivector_stats.proofs.acc_batch.Goals as goal
 

@@ -5,7 +5,7 @@ use Prim.Native.Nat.{◌≤◌}
 use lib.ListN.{length}
 use Rattle.floats.specs.Operators.{zero₆₄, at, sum₆₄}
 use Rattle.ivector_stats.specs.Rooms.{SameStats}
-use Rattle.ivector_stats.specs.Steps.{linear_over, quadratic_over}
+use Rattle.ivector_stats.specs.Inner.{linear_over, quadratic_over}
 use Rattle.ivector_stats.proofs.acc_batch.Given as goal
 
 abbrev pub invariant-loop-k : goal.invariant-loop-k

@@ -6,8 +6,8 @@ use Rattle.definition.specs.Model.{Files, Tables, tables_from}
 use Rattle.definition.specs.Machine.{Call}
 use Rattle.program.specs.Lent.{estimate_of}
 use Rattle.program.specs.Rooms.{rings_from, Rooms, rooms_from}
-use Rattle.ivector_info.specs.Load.{files_of}
-use Rattle.run_calls.specs.Listed.{calls, Written, written}
+use Rattle.model.specs.Load.{files_of}
+use Rattle.lists.specs.Listed.{calls, Written, written}
 use Rattle.session.proofs.Ends.{load_ends, session_played, session_refused}
 use Rattle.session.proofs.session.Goals.{Start}
 use Rattle.session.proofs.session.Goals as goal

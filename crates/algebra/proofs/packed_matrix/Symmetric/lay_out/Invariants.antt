@@ -1,0 +1,16 @@
+-- `Symmetric::lay_out` meets its contract. The loop's invariant: the first i columns stand in the room, by the laws of rows that make a table (crate
+-- loops), and row i of the packed matrix begins at `start`; that this is the square is `square_whole` (Square.antt).
+use mathlib.Core.Path.{◌≡◌}
+use Prim.Native.Nat.{◌-◌, ◌≤◌}
+use lib.ListN.{length}
+use Rattle.loops.specs.Lists.{build, flat, over}
+use Rattle.floats.specs.Operators.{at}
+use Rattle.definition.specs.Kaldi.{triangle}
+use Rattle.definition.specs.Model.{packed}
+use Rattle.algebra.proofs.packed_matrix.Symmetric.lay_out.Given as goal
+
+abbrev pub invariant-loop-i : goal.invariant-loop-i
+invariant-loop-i l = (l.i ≤ l.n) × (length l.square ≡ length l.initial.square) × (l.start ≡ triangle l.i) × (l.square ≡ over (flat l.i (λ i. build l.n (λ j. at l.self.cells.now (packed j i)))) l.initial.square)
+
+abbrev pub decreases-loop-i : goal.decreases-loop-i
+decreases-loop-i l = l.n - l.i

@@ -1,0 +1,2 @@
+-- What contracts of inner functions say; no reader needs it.
+pub mod Inner

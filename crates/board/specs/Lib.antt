@@ -1,0 +1,4 @@
+-- What contracts of inner functions say; no reader needs it.
+pub mod Inner
+-- register_bytes: a board with registers: its block, one step, and lists of steps. To be believed.
+pub mod Board

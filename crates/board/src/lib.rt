@@ -1,0 +1,5 @@
+// A stream behind a block of registers: one step a command.
+#![tactic(auto)]
+
+pub mod register_bytes;
+pub mod registers;

@@ -1,2 +1,0 @@
--- Laws of what is written.
-pub mod Chain

@@ -1,7 +1,0 @@
--- `Writer::repeated` meets its contract: as many are written as there were turns.
-use Rattle.loops.specs.Lists.{flat}
-use Rattle.byte_writer.specs.Wrote.{Wrote}
-use Rattle.byte_writer.proofs.Writer.repeated.Given as goal
-
-abbrev pub invariant-loop : goal.invariant-loop
-invariant-loop l = Wrote (flat l.counter (λ i. l.src)) l.initial.self l.self

@@ -1,2 +1,0 @@
--- What a call on a writer leaves.
-pub mod Wrote

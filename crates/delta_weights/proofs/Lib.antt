@@ -1,3 +1,0 @@
--- Laws of waiting changes in their rooms.
-pub mod Inserted
-pub mod Groups

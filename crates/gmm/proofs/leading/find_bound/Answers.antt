@@ -1,0 +1,6 @@
+-- `leading::find_bound` meets its contract: what is above another is a number. The loop's invariant: so many are not behind the bound, if there is one.
+use Rattle.floats.proofs.Order.{lt-no_nan}
+use Rattle.gmm.proofs.leading.find_bound.Goals as goal
+
+pub staying-count-requires-clause-number : goal.staying-count-requires-clause-number
+staying-count-requires-clause-number c = lt-no_nan _ _ c.if-low-x.true

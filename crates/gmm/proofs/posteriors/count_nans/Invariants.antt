@@ -1,0 +1,10 @@
+-- `posteriors::count_nans` meets its contract. The loop's invariant: what is counted, and what is left from g on, are together the list's count; at most
+-- g are counted, so that the sum is in range (laws in Counting.antt).
+use mathlib.Core.Path.{◌≡◌}
+use Prim.Native.Nat.{◌+◌, ◌≤◌}
+use lib.ListN.{drop}
+use Rattle.definition.specs.Posteriors.{nan_count}
+use Rattle.gmm.proofs.posteriors.count_nans.Given as goal
+
+abbrev pub invariant-loop-g : goal.invariant-loop-g
+invariant-loop-g l = (l.nans ≤ l.g) × (l.nans + nan_count (drop l.g l.loglikes) ≡ nan_count l.loglikes)

@@ -1,0 +1,493 @@
+// The posteriors of the most likely Gaussians, from the log-likelihoods of all. The chosen and their posteriors go as `Chosen`; each function that is lent it
+// says by a word that its rooms are long enough, and by another that they are still those that were lent. In the struct's type these would be no plainer: a
+// ghost field beside a `&mut` is not covered. That `ln` is the logarithm of the floor is said where each is taken: a struct of the two would be made for that.
+// That at most num_gselect are held is one comparison of each count: a name for it would be no shorter.
+
+ghost use Rattle.std.specs.Prelude.{◌≡◌, IfSome, List, ℕ, ◌+◌, ◌-◌, ◌<◌, ◌≤◌, length, take};
+ghost use Rattle.std.specs.Float.Ieee.{lt, neg};
+ghost use Rattle.loops.specs.Lists.{those};
+ghost use Rattle.loops.specs.Inner.{fill};
+ghost use Rattle.floats.specs.Operators.{◌-₃₂◌, ◌*₃₂◌, f32, zero₃₂, at, sum₃₂};
+ghost use Rattle.floats.specs.Exp.{exp_of};
+ghost use Rattle.floats.specs.Ln.{ln_narrow};
+ghost use Rattle.definition.specs.Posteriors.{pruned, every, max_like, ranked, best_of, renormalised, nan_count};
+ghost use Rattle.gmm.specs.Inner.Leading.{held};
+ghost use Rattle.gmm.specs.Inner.LeadingRooms.{Places, SameChosen};
+ghost use Rattle.gmm.specs.Inner.PosteriorsRooms.{Selected, Collects, Likely};
+ghost use Rattle.gmm.specs.Inner.Posteriors.{Next, likelihoods as likelihoods_of, passes, place_or};
+
+use crate::leading::{self, Chosen, Holding};
+
+// The likelihood of a difference d from the largest log-likelihood; the largest itself has one of the two zeros. In the loop of its caller its constants would be
+// put down first, also where there is but one likelihood.
+#[inline(never)]
+fn likelihood(d: f32) -> f32
+    ensures { result ≡ exp_of d }
+{
+    if d == 0.0 {
+        return 1.0;
+    }
+    floats::exp(d)
+}
+
+// The first of the four from k on that is above the cutoff.
+fn first_of_four(cutoff: f32, k: usize, loglikes: &[f32]) -> Option<usize>
+    requires { k + 4 ≤ length loglikes.now }
+    ensures first { Next (λ i. lt cutoff (at loglikes.now i)) k (k + 4) (place_or (k + 4) result) }
+    ensures in_list { IfSome result (λ i. i < k + 4) }
+{
+    if loglikes[k] > cutoff {
+        Some(k)
+    } else if loglikes[k + 1] > cutoff {
+        Some(k + 1)
+    } else if loglikes[k + 2] > cutoff {
+        Some(k + 2)
+    } else if loglikes[k + 3] > cutoff {
+        Some(k + 3)
+    } else {
+        None
+    }
+}
+
+// The first from g on that is above the cutoff.
+fn next_above(cutoff: f32, g: usize, loglikes: &[f32]) -> Option<usize>
+    requires { g ≤ length loglikes.now }
+    ensures first { Next (λ k. lt cutoff (at loglikes.now k)) g (length loglikes.now) (place_or (length loglikes.now) result) }
+    ensures in_list { IfSome result (λ k. k < length loglikes.now) }
+{
+    let mut k = g;
+    // No `for`: eight at a time, since one at a time is slower.
+    while loglikes.len() - k >= 8 {
+        if let Some(i) = first_of_four(cutoff, k, loglikes) {
+            return Some(i);
+        }
+        if let Some(i) = first_of_four(cutoff, k + 4, loglikes) {
+            return Some(i);
+        }
+        k += 8;
+    }
+    // By index: the place is the answer.
+    for i in k..loglikes.len() {
+        if loglikes[i] > cutoff {
+            return Some(i);
+        }
+    }
+    None
+}
+
+// The first from g on that is above the cutoff, or g itself where there is no cutoff.
+fn next(cutoff: Option<f32>, g: usize, loglikes: &[f32]) -> Option<usize>
+    requires { g ≤ length loglikes.now }
+    ensures first { Next (λ k. passes cutoff (at loglikes.now k)) g (length loglikes.now) (place_or (length loglikes.now) result) }
+    ensures in_list { IfSome result (λ k. k < length loglikes.now) }
+{
+    let Some(cutoff) = cutoff else {
+        return (g < loglikes.len()).then_some(g);
+    };
+    next_above(cutoff, g, loglikes)
+}
+
+// How many candidates are held, and the Gaussian that the walk goes on from.
+#[derive(Clone, Copy)]
+struct Collected {
+    count: usize,
+    next: usize,
+}
+
+// The Gaussians from g on that are above the cutoff, or all where there is none, put down as candidates from place `first` on, until the lists are full: each
+// with its log-likelihood's difference from the largest. The lists are as long as each other.
+fn collect(
+    cutoff: Option<f32>,
+    max_like: f32,
+    g: usize,
+    loglikes: &[f32],
+    first: usize,
+    gauss: &mut [usize],
+    likes: &mut [f32],
+) -> Collected
+    requires { (first ≤ length gauss.old) × (length likes.old ≡ length gauss.old) × (g ≤ length loglikes.now) }
+    ensures collected { Collects cutoff (λ l. l -₃₂ max_like) loglikes.now g first result.next result.count gauss.old likes.old gauss.new likes.new }
+    ensures places { (first ≤ result.count) × (result.count ≤ length gauss.old) × (result.next ≤ length loglikes.now) }
+    ensures on { first < length gauss.old → g < length loglikes.now → g < result.next }
+{
+    let mut n = first;
+    let mut k = g;
+    // No `for`: the walk ends where the lists are full or none is left, and where it ends is the answer.
+    while n < gauss.len() {
+        let Some(found) = next(cutoff, k, loglikes) else {
+            return Collected {
+                count: n,
+                next: loglikes.len(),
+            };
+        };
+        gauss[n] = found;
+        likes[n] = loglikes[found] - max_like;
+        n += 1;
+        k = found + 1;
+    }
+    Collected { count: n, next: k }
+}
+
+// The likelihoods of the differences from place `first` up to `end`, sixteen at most. In three loops, so that the one that computes is compiled to vector instructions.
+fn some_likelihoods(first: usize, end: usize, likes: &mut [f32])
+    requires { (first ≤ end) × (end ≤ first + 16) × (end ≤ length likes.old) }
+    ensures { Likely first end likes.old likes.new }
+{
+    let n = end - first;
+    let mut wide = [0.0f64; 16];
+    for i in 0..n {
+        wide[i] = floats::exp_argument(likes[first + i]);
+    }
+    for j in 0..n {
+        wide[j] = floats::exp_wide(wide[j]);
+    }
+    for k in 0..n {
+        likes[first + k] = floats::exp_narrow(likes[first + k], wide[k]);
+    }
+}
+
+// The likelihoods of the differences from place `first` up to `end`. Of fewer than four each is made alone, the largest with no exponential.
+fn make_likely(first: usize, end: usize, likes: &mut [f32])
+    requires { (first ≤ end) × (end ≤ length likes.old) }
+    ensures { Likely first end likes.old likes.new }
+{
+    if end - first < 4 {
+        for i in first..end {
+            likes[i] = likelihood(likes[i]);
+        }
+        return;
+    }
+    let mut j = first;
+    // No `for`: the last turn can be shorter.
+    while end - j > 16 {
+        some_likelihoods(j, j + 16, likes);
+        j += 16;
+    }
+    some_likelihoods(j, end, likes);
+}
+
+// Candidates as `collect` has them, each with its likelihood.
+fn candidates(
+    cutoff: Option<f32>,
+    max_like: f32,
+    g: usize,
+    loglikes: &[f32],
+    first: usize,
+    gauss: &mut [usize],
+    likes: &mut [f32],
+) -> Collected
+    requires { (first ≤ length gauss.old) × (length likes.old ≡ length gauss.old) × (g ≤ length loglikes.now) }
+    ensures collected { Collects cutoff (λ l. exp_of (l -₃₂ max_like)) loglikes.now g first result.next result.count gauss.old likes.old gauss.new likes.new }
+    ensures places { (first ≤ result.count) × (result.count ≤ length gauss.old) × (result.next ≤ length loglikes.now) }
+    ensures on { first < length gauss.old → g < length loglikes.now → g < result.next }
+{
+    let more = collect(cutoff, max_like, g, loglikes, first, gauss, likes);
+    make_likely(first, more.count, likes);
+    more
+}
+
+// The first n candidates of two lists, put into two others.
+fn copy(n: usize, from_gauss: &[usize], from_likes: &[f32], gauss: &mut [usize], likes: &mut [f32])
+    requires { (n ≤ length from_gauss.now) × (n ≤ length from_likes.now) × (n ≤ length gauss.old) × (n ≤ length likes.old) }
+    ensures { held n gauss.new likes.new ≡ held n from_gauss.now from_likes.now }
+{
+    for j in 0..n {
+        gauss[j] = from_gauss[j];
+        likes[j] = from_likes[j];
+    }
+}
+
+// The most likely where there are more candidates than the few that were met first. They are held unordered, 64 at most, and the leading ones are chosen among them
+// where room is wanted.
+fn gather_many(
+    cutoff: Option<f32>,
+    max_like: f32,
+    loglikes: &[f32],
+    num_gselect: usize,
+    few: Collected,
+    few_gauss: &[usize],
+    few_likes: &[f32],
+    chosen: &mut Chosen<'_>,
+) -> usize
+    requires places { Places num_gselect chosen.old }
+    requires few { (few.count ≤ 16) × (few.count ≤ length few_gauss.now) × (few.count ≤ length few_likes.now) × (few.next ≤ length loglikes.now) }
+    requires met { held few.count few_gauss.now few_likes.now ≡ likelihoods_of max_like (those (λ p. passes cutoff p.1) (take few.next (every loglikes.now))) }
+    ensures gathered { held result chosen.new.gauss.now chosen.new.posts.now ≡ ranked num_gselect max_like (those (λ p. passes cutoff p.1) (every loglikes.now)) }
+    ensures most { result ≤ num_gselect }
+    ensures loans { SameChosen chosen.old chosen.new }
+{
+    let mut gauss = [0usize; 64];
+    let mut likes = [0.0f32; 64];
+    copy(few.count, few_gauss, few_likes, &mut gauss, &mut likes);
+    let mut holding = Holding {
+        candidates: few.count,
+        ordered: 0,
+        bound: None,
+    };
+    let mut g = few.next;
+    // No `for`: a turn goes over as many Gaussians as give the candidates that there is room for.
+    while g < loglikes.len() {
+        let more = candidates(
+            cutoff,
+            max_like,
+            g,
+            loglikes,
+            holding.candidates,
+            &mut gauss,
+            &mut likes,
+        );
+        let kept = leading::keep(
+            holding.bound,
+            holding.candidates,
+            more.count,
+            &mut gauss,
+            &mut likes,
+        );
+        let with = Holding {
+            candidates: kept,
+            ordered: holding.ordered,
+            bound: holding.bound,
+        };
+        holding = leading::make_room(with, num_gselect, &mut gauss, &mut likes, chosen);
+        g = more.next;
+    }
+    leading::finish(holding, num_gselect, &mut gauss, &mut likes, chosen)
+}
+
+// Whether a log-likelihood is above the cutoff, if there is one.
+fn is_above(cutoff: Option<f32>, l: f32) -> bool
+    ensures { result ≡ passes cutoff l }
+{
+    match cutoff {
+        Some(cutoff) => l > cutoff,
+        None => true,
+    }
+}
+
+// The most likely of few Gaussians: there is nothing to choose among them, so those that pass are put in order at once, and no room for candidates is cleared.
+fn gather_few(
+    cutoff: Option<f32>,
+    max_like: f32,
+    loglikes: &[f32],
+    num_gselect: usize,
+    chosen: &mut Chosen<'_>,
+) -> usize
+    requires { Places num_gselect chosen.old }
+    ensures gathered { held result chosen.new.gauss.now chosen.new.posts.now ≡ ranked num_gselect max_like (those (λ p. passes cutoff p.1) (every loglikes.now)) }
+    ensures most { result ≤ num_gselect }
+    ensures loans { SameChosen chosen.old chosen.new }
+{
+    let mut n = 0;
+    // By index: the place is the Gaussian.
+    for g in 0..loglikes.len() {
+        if is_above(cutoff, loglikes[g]) {
+            let p = likelihood(loglikes[g] - max_like);
+            n = leading::insert(g, p, n, num_gselect, chosen);
+        }
+    }
+    n
+}
+
+// The most likely of the Gaussians above the cutoff, or of all where there is none. Where they are sixteen at most there is nothing to choose: they are put in order
+// in less than it takes to choose among them, and the room that is cleared for candidates is small.
+fn gather(
+    cutoff: Option<f32>,
+    max_like: f32,
+    loglikes: &[f32],
+    num_gselect: usize,
+    chosen: &mut Chosen<'_>,
+) -> usize
+    requires { Places num_gselect chosen.old }
+    ensures gathered { held result chosen.new.gauss.now chosen.new.posts.now ≡ ranked num_gselect max_like (those (λ p. passes cutoff p.1) (every loglikes.now)) }
+    ensures most { result ≤ num_gselect }
+    ensures loans { SameChosen chosen.old chosen.new }
+{
+    if loglikes.len() <= 16 {
+        return gather_few(cutoff, max_like, loglikes, num_gselect, chosen);
+    }
+    let mut gauss = [0usize; 16];
+    let mut likes = [0.0f32; 16];
+    let few = candidates(cutoff, max_like, 0, loglikes, 0, &mut gauss, &mut likes);
+    if few.next == loglikes.len() {
+        return leading::order(few.count, &gauss, &likes, 0, num_gselect, chosen);
+    }
+    gather_many(
+        cutoff,
+        max_like,
+        loglikes,
+        num_gselect,
+        few,
+        &gauss,
+        &likes,
+        chosen,
+    )
+}
+
+// The largest, a NaN passed over: the last that is above all in front of it. So of equal ones the first is the answer.
+fn largest(loglikes: &[f32]) -> f32
+    ensures { result ≡ max_like loglikes.now }
+{
+    let mut m = -1.0 / 0.0;
+    let mut k = 0;
+    // No `for`: a turn goes on behind the next that is above the largest so far. That is seldom, and the others are passed over in fewer instructions than eight parts
+    // of the list side by side, with no branch, would take.
+    while let Some(j) = next_above(m, k, loglikes) {
+        m = loglikes[j];
+        k = j + 1;
+    }
+    m
+}
+
+// The most likely Gaussians, before they are pruned; ln: the logarithm of min_post.
+fn best(
+    loglikes: &[f32],
+    num_gselect: usize,
+    min_post: f32,
+    ln: f32,
+    chosen: &mut Chosen<'_>,
+) -> usize
+    requires places { Places num_gselect chosen.old }
+    requires log { ln ≡ ln_narrow min_post }
+    ensures best { held result chosen.new.gauss.now chosen.new.posts.now ≡ best_of loglikes.now num_gselect min_post }
+    ensures most { result ≤ num_gselect }
+    ensures loans { SameChosen chosen.old chosen.new }
+{
+    let max_like = largest(loglikes);
+    if min_post != 0.0 {
+        let cutoff = Some(max_like + ln);
+        let n = gather(cutoff, max_like, loglikes, num_gselect, chosen);
+        if n > 0 {
+            return n;
+        }
+    }
+    gather(None, max_like, loglikes, num_gselect, chosen)
+}
+
+fn total(posts: &[f32]) -> f32
+    ensures { result ≡ sum₃₂ (neg zero₃₂) (length posts.now) (at posts.now) }
+{
+    posts.iter().sum()
+}
+
+// How many are left after pruning, and their total.
+#[derive(Clone, Copy)]
+struct Left {
+    count: usize,
+    tot: f32,
+}
+
+// The last of the first n are left out while they are below the cutoff, and their total with them. The room goes with n, as in `renormalize`, which says why a
+// part of it is no plainer.
+fn prune(n: usize, posts: &[f32], cutoff: f32, tot: f32) -> Left
+    requires { n ≤ length posts.now }
+    ensures { ((chosen : List ℕ) → n ≤ length chosen → (result.count, result.tot) ≡ pruned (held n chosen posts.now) cutoff n tot) × (result.count ≤ n) }
+{
+    let mut count = n;
+    let mut left = tot;
+    // No `for`, which would be no plainer: how many are left is the answer.
+    while count > 1 {
+        let last = posts[count - 1];
+        if last < cutoff {
+            left -= last;
+            count -= 1;
+        } else {
+            return Left { count, tot: left };
+        }
+    }
+    Left { count, tot: left }
+}
+
+// All times v.
+fn scale(v: f32, posts: &mut [f32])
+    ensures { posts.new ≡ fill (length posts.old) (λ k. at posts.old k *₃₂ v) posts.old }
+{
+    for p in posts.iter_mut() {
+        *p *= v;
+    }
+}
+
+// Of the first n likelihoods those of at least min_post of their total, renormalised to one; the answer is how many they are. Here and above the room goes with
+// n: what is held in the first places of the whole is what is spoken of, and a part of it would be no plainer.
+fn renormalize(n: usize, min_post: f32, posts: &mut [f32]) -> usize
+    requires { n ≤ length posts.old }
+    ensures scaled { (chosen : List ℕ) → n ≤ length chosen → held result chosen posts.new ≡ renormalised min_post (held n chosen posts.old) }
+    ensures most { result ≤ n }
+{
+    let tot = total(&posts[..n]);
+    let left = prune(n, posts, min_post * tot, tot);
+    scale(1.0 / left.tot, &mut posts[..left.count]);
+    left.count
+}
+
+// The num_gselect most likely Gaussians as posteriors, pruned below min_post of the total, renormalised to one. The rooms hold as many as
+// the answer says.
+fn select(
+    loglikes: &[f32],
+    num_gselect: usize,
+    min_post: f32,
+    ln: f32,
+    chosen: &mut Chosen<'_>,
+) -> usize
+    requires places { Places num_gselect chosen.old }
+    requires log { ln ≡ ln_narrow min_post }
+    ensures selected { Selected loglikes.now num_gselect min_post result chosen.new }
+    ensures loans { SameChosen chosen.old chosen.new }
+{
+    let n = best(loglikes, num_gselect, min_post, ln, chosen);
+    renormalize(n, min_post, chosen.posts)
+}
+
+// How many of the log-likelihoods are NaN. One pass of its own with no branch in it: some six instructions for each, and no vector ones, which the compiler uses for no
+// comparison of floats. By index: with a filter and its count, which was tried, a selection among 512 takes up to 7 in a hundred more instructions.
+fn count_nans(loglikes: &[f32]) -> usize
+    ensures { result ≡ nan_count loglikes.now }
+{
+    let mut nans = 0;
+    for g in 0..loglikes.len() {
+        let l = loglikes[g];
+        nans += (l != l) as usize;
+    }
+    nans
+}
+
+// A selection: how many posteriors there are, and how many of the log-likelihoods that it was made from were NaN.
+#[derive(Clone, Copy)]
+pub struct Selection {
+    pub count: usize,
+    pub nans: usize,
+}
+
+// `select_posteriors` where the logarithm of min_post is known: frames of a batch share it.
+pub fn select_by(
+    loglikes: &[f32],
+    num_gselect: usize,
+    min_post: f32,
+    ln: f32,
+    chosen: &mut Chosen<'_>,
+) -> Selection
+    requires places { Places num_gselect chosen.old }
+    requires log { ln ≡ ln_narrow min_post }
+    ensures selected { Selected loglikes.now num_gselect min_post result.count chosen.new }
+    ensures nans { result.nans ≡ nan_count loglikes.now }
+    ensures loans { SameChosen chosen.old chosen.new }
+{
+    let count = select(loglikes, num_gselect, min_post, ln, chosen);
+    let nans = count_nans(loglikes);
+    Selection { count, nans }
+}
+
+// A selection: the most likely Gaussians as posteriors, and the count of NaN.
+pub fn select_posteriors(
+    loglikes: &[f32],
+    num_gselect: usize,
+    min_post: f32,
+    chosen: &mut Chosen<'_>,
+) -> Selection
+    requires { Places num_gselect chosen.old }
+    ensures selected { Selected loglikes.now num_gselect min_post result.count chosen.new }
+    ensures nans { result.nans ≡ nan_count loglikes.now }
+    ensures loans { SameChosen chosen.old chosen.new }
+{
+    let ln = floats::ln_f32(min_post);
+    select_by(loglikes, num_gselect, min_post, ln, chosen)
+}

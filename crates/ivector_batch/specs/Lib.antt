@@ -1,3 +1,0 @@
--- What a batch of frames adds.
-pub mod Steps
-pub mod Fetched

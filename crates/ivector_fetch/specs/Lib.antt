@@ -1,2 +1,0 @@
--- What inner functions leave. Not for readers.
-pub mod Steps

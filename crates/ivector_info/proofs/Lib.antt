@@ -1,4 +1,0 @@
--- Laws of the load.
-pub mod Files
-mod Judging
-mod Tables

@@ -1,4 +1,0 @@
--- Laws of the tables.
-mod Gmm
-mod Rows
-mod Again

@@ -1,3 +1,0 @@
--- Laws of a batch's statistics, and the lent rooms.
-mod Updated
-mod Rooms

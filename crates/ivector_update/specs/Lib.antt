@@ -1,2 +1,0 @@
--- What the statistics of a batch ask.
-pub mod Steps

@@ -1,0 +1,10 @@
+-- `finite_double` meets its contract: the pattern is that of the bytes, and its field says whether the number is finite (`finite_64` in Values.antt).
+use Rattle.std.proofs.Common.{◌≡◌, rules}
+use Rattle.definition.specs.Reader.{little_endian}
+use Rattle.kaldi.proofs.Values.{reads, finite_64}
+use Rattle.kaldi.proofs.kaldi_io.blocks.finite_double.Goals as goal
+
+pub returns : goal.returns
+returns c =
+    let pattern : c.from_le_bytes-bits.result ≡ little_endian c.args.bytes.now = search (rules, reads) in
+    finite_64 c.args.bytes.now _ pattern

@@ -1,4 +1,0 @@
--- What the contracts of this crate need besides the definitions. Not for readers of the promises.
-pub mod Answers
-pub mod Widths
-pub mod Got

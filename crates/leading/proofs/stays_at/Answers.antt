@@ -1,6 +1,0 @@
--- `leading::stays_at` meets its contract (`stays_is` in Comparing.antt).
-use Rattle.leading.proofs.Comparing.{stays_is}
-use Rattle.leading.proofs.stays_at.Goals as goal
-
-pub returns : goal.returns
-returns c = stays_is c.args.v c.args.p c.requires

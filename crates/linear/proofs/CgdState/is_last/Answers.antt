@@ -1,6 +1,0 @@
--- `CgdState::is_last` meets its contract: the test is the definition's, so that an edit of it differs from that and no search is asked.
-use mathlib.Core.Path.{refl}
-use Rattle.linear.proofs.CgdState.is_last.Goals as goal
-
-pub returns : goal.returns
-returns c = refl

@@ -1,6 +1,0 @@
--- `CgdState::stepped` meets its contract: the state that it hands back is the one of the definition, field by field; no search is asked.
-use mathlib.Core.Path.{refl}
-use Rattle.linear.proofs.CgdState.stepped.Goals as goal
-
-pub returns : goal.returns
-returns c = refl

@@ -1,0 +1,3 @@
+pub mod TryLoad
+pub mod TryNotes
+pub mod TryPlay

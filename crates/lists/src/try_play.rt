@@ -1,0 +1,142 @@
+// A load to try it with, played: each call is drawn and then played on a stream, and the totals are those over the calls and the keeping
+// machine's answers.
+//
+// Each of these two functions says of the structs of rooms that it writes that their slices stay the ones that were lent: a caller knows it by that
+// clause alone, and in the struct's type it would be no plainer, since a ghost field beside a `&mut` is not covered.
+// A `let` in a clause is a name, and states nothing.
+
+ghost use Rattle.std.specs.Prelude.{◌≡◌, List, ℕ, ◌≤◌, ◌<◌, length, replicate};
+ghost use Rattle.loops.specs.Refusal.{taken};
+ghost use Rattle.definition.specs.Lent.{tables_in, SameRings, SameWaiting, SameEstimate};
+ghost use Rattle.definition.specs.Model.{Tables, model_in};
+ghost use Rattle.definition.specs.Machine as M;
+ghost use Rattle.definition.specs.Machine.{Call};
+ghost use Rattle.program.specs.Lent.{estimate_of, rooms_of};
+ghost use Rattle.program.specs.Rooms.{rings_from, Rooms, rooms_from, ring_lengths_of, room_lengths_of};
+ghost use Rattle.program.specs.Calls.{fresh_stream, fresh_rooms};
+ghost use Rattle.program.specs.Session.{program, program_after, program_answers};
+ghost use Rattle.lists.specs.Draws.{drawn_calls};
+ghost use Rattle.lists.specs.Inner.TryNotes.{tally};
+ghost use Rattle.lists.specs.Totals.{totals, no_totals, play_refusal};
+ghost use Rattle.lists.specs.Inner.TryPlay.{tallied, totals_of};
+
+use crate::try_load::{self, Place};
+use crate::{run_calls, try_notes};
+use definition::{
+    FrameRooms, IvectorInfo, IvectorStream, LentEstimate, LentTables, Refusal, WaitingRooms,
+};
+use stream::ivector_stream;
+
+/// The totals: how many calls were drawn of each kind, how many answers had each refusal number (the first is for those that were taken), and the
+/// greatest frames held.
+#[derive(Clone, Copy, Debug, PartialEq, Eq)]
+pub struct Totals {
+    pub calls: [usize; 5],
+    pub refusals: [usize; 34],
+    pub greatest: usize,
+}
+
+// All calls, on a stream: what is lent goes on to `run_calls::turn`, and a struct around it, which would be taken apart again at each call, would be no
+// plainer. `dim` and `times` are what is asked for, and no slice's length.
+fn play_calls(
+    dim: usize,
+    seed: u32,
+    times: usize,
+    stream: IvectorStream,
+    tables: LentTables<'_>,
+    held: &mut FrameRooms<'_>,
+    waiting: &mut WaitingRooms<'_>,
+    estimate: &mut LentEstimate<'_>,
+    scratch: &mut [f64],
+) -> Totals
+    requires { (0 < dim) × (dim ≤ 64) × (times ≤ 10000) }
+    ensures played { (
+        let t : Tables = tables_in tables.entry in
+        let z : Rooms = rooms_of held.old waiting.old estimate.old in
+        let n : ℕ = length scratch.old in
+        let cs : List Call = drawn_calls dim seed times in
+        (tally result.calls result.refusals result.greatest ≡ tallied (tally (replicate 5 0) (replicate 34 0) 0) cs (program_answers t n (program stream z) cs))
+        × (rooms_of held.new waiting.new estimate.new ≡ (program_after t n (program stream z) cs).rooms)) }
+    ensures held { SameRings held.old held.new }
+    ensures waiting { SameWaiting waiting.old waiting.new }
+    ensures estimate { SameEstimate estimate.old estimate.new }
+{
+    let mut s = stream;
+    let mut p = Place {
+        state: seed,
+        pushes: 0,
+    };
+    let mut lists = [0usize; 1];
+    let mut samples = [0.0f32; 64];
+    let mut outs = [0u32; 1];
+    let mut calls = [0usize; 5];
+    let mut refusals = [0usize; 34];
+    let mut greatest = 0;
+    // a range: a fold over numbers that are not used is no plainer
+    for i in 0..times {
+        let k = try_notes::draw_call(dim, p.state, p.pushes, &mut lists, &mut samples);
+        let r = run_calls::turn(
+            k, s, &lists, &samples, tables, held, waiting, estimate, scratch, &mut outs,
+        );
+        greatest = try_notes::note(&mut calls, &mut refusals, greatest, k.kind, r.answer);
+        s = r.stream;
+        p = try_load::next_place(dim, p);
+    }
+    Totals {
+        calls,
+        refusals,
+        greatest,
+    }
+}
+
+/// A fresh stream, and `times` calls on it, each drawn as it is played. Where it is refused nothing is played.
+/// The rings are lent one by one, as to `ivector_stream::new`: a struct around the parameters would be no plainer.
+pub fn play(
+    info: IvectorInfo,
+    tables: LentTables<'_>,
+    frames: &mut [f32],
+    rows: &mut [f64],
+    waiting: &mut WaitingRooms<'_>,
+    estimate: &mut LentEstimate<'_>,
+    scratch: &mut [f64],
+    seed: usize,
+    times: usize,
+) -> Result<Totals, Refusal>
+    ensures play { (
+        let t : Tables = tables_in tables.entry in
+        let z : Rooms = rooms_from (rings_from frames.old rows.old waiting.old.frames.now waiting.old.weights.now) (estimate_of estimate.old) in
+        let y : Rooms = rooms_from (rings_from frames.new rows.new waiting.new.frames.now waiting.new.weights.now) (estimate_of estimate.new) in
+        let n : ℕ = length scratch.old in
+        let cs : List Call = drawn_calls info.dims.base_dim seed times in
+        let q : ℕ = play_refusal info t z n seed times in
+        (totals_of result ≡ taken q (totals cs (M.answers (model_in info t) (ring_lengths_of z.rings) cs)) (no_totals q))
+        × (y ≡ taken q (program_after t n (program (fresh_stream info (room_lengths_of z n)) (fresh_rooms info z)) cs).rooms z)
+        × ((q ≡ 0 → ⊥) → scratch.new ≡ scratch.old)) }
+    ensures waiting { SameWaiting waiting.old waiting.new }
+    ensures estimate { SameEstimate estimate.old estimate.new }
+{
+    let dim = info.dims.base_dim;
+    try_load::size_refusal(seed, dim, times)?;
+    let made = ivector_stream::new(
+        info,
+        tables,
+        frames,
+        rows,
+        waiting.lent(),
+        estimate,
+        scratch,
+    )?;
+    let state = seed as u32;
+    let mut held = FrameRooms { frames, rows };
+    Ok(play_calls(
+        dim,
+        state,
+        times,
+        made.stream,
+        tables,
+        &mut held,
+        waiting,
+        estimate,
+        scratch,
+    ))
+}

@@ -1,0 +1,2 @@
+pub mod IvectorInfo
+pub mod IvectorTables

@@ -1,3 +1,0 @@
--- Laws of the files' lengths and of the refusals' order.
-pub mod Lengths
-pub mod Order

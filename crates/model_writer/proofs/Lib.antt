@@ -1,3 +1,0 @@
--- Laws of what is written.
-pub mod Bytes
-pub mod Call

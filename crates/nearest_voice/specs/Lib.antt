@@ -1,2 +1,0 @@
--- Request 7: whose voice it is.
-pub mod Voice

@@ -1,2 +1,0 @@
--- What stands between the definitions and the code.
-pub mod Steps

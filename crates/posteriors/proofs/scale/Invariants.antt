@@ -1,9 +1,0 @@
--- `posteriors::scale` meets its contract. The loop's invariant: a turn at each of the first places; each place is made from its old value alone.
-use mathlib.Core.Path.{◌≡◌}
-use lib.ListN.{set}
-use Rattle.loops.specs.Loop.{iter}
-use Rattle.floats.specs.Operators.{◌*₃₂◌, at}
-use Rattle.posteriors.proofs.scale.Given as goal
-
-abbrev pub invariant-loop-p : goal.invariant-loop-p
-invariant-loop-p l = l.posts ≡ iter l.p-index (λ k s. set s k (at s k *₃₂ l.v)) l.initial.posts

@@ -1,4 +1,0 @@
--- Laws of the block's bytes, of the room for a push and of a command.
-pub mod Bytes
-pub mod Room
-pub mod Commands

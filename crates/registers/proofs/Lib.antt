@@ -1,2 +1,0 @@
--- What is shown of every list of steps.
-pub mod Lists

@@ -1,0 +1,2 @@
+pub mod SilenceWeighting
+pub mod SilenceWeightingRooms

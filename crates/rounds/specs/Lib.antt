@@ -1,0 +1,12 @@
+-- What contracts of inner functions say; no reader needs it.
+pub mod Inner
+-- silence_weighting: lists of calls on a table.
+pub mod Chain
+-- nearest_voice: whose voice it is.
+pub mod Voice
+-- trigger_steps: the round of an utterance, step by step. To be believed.
+pub mod Round
+pub mod Halts
+-- trigger: what a round returns, as a record for hosts. To be believed. `Lent`: what it is given.
+pub mod Answer
+pub mod Lent

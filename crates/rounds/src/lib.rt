@@ -1,0 +1,7 @@
+// The silence weights of a decoder's path, the nearest voice, and the round of an utterance, which makes them and the stream's calls in turn.
+#![tactic(auto)]
+
+pub mod nearest_voice;
+pub mod silence_weighting;
+pub mod trigger;
+pub mod trigger_steps;

@@ -1,0 +1,8 @@
+-- What contracts of inner functions say; no reader needs it.
+pub mod Inner
+-- frame_views: the views of a frame.
+pub mod Rows
+-- delta_weights: the waiting changes, as a change call finds them.
+pub mod Waiting
+-- ivector_batch: what a batch of frames adds.
+pub mod Fetched

@@ -1,0 +1,156 @@
+// The waiting weight changes of a stream, `delta_weights`, in two rooms: n frames in order, and by how much the weight of each changes. The rooms
+// are longer than what waits, so n goes beside them: cut to n, they could not grow. Changes that are given come as two lists, as the definition takes
+// them. Each function that inserts asks that what waits is in order: a ghost field beside a `&mut` is not covered, and n is no field. Each that writes says
+// that the rooms stay those that were lent: of a struct behind `&mut` a caller knows what a clause says, and no more (tried without).
+
+ghost use Rattle.std.specs.Prelude.{◌≡◌, true, false, ◌+◌, ◌-◌, ◌<◌, ◌≤◌, max, length, get_or, take, drop, leb};
+ghost use mathlib.Core.List.{◌∷◌, foldl};
+ghost use Rattle.loops.specs.Lists.{build, those, any_of};
+ghost use Rattle.loops.specs.Ring.{put};
+ghost use Rattle.floats.specs.Operators.{at};
+ghost use Rattle.definition.specs.Lent.{SameWaiting};
+ghost use Rattle.definition.specs.Changes.{insert_change, changed, merged};
+ghost use Rattle.definition.specs.Stream.{rising};
+ghost use Rattle.program.specs.Rooms.{waiting_in};
+ghost use Rattle.stream.specs.Waiting.{waiting_of, waiting_changes, InOrder, Holds};
+ghost use Rattle.stream.specs.Inner.DeltaWeights.{inserted_to};
+
+use definition::{LentWaiting, WaitingRooms};
+
+// How many of these frames, which are in order, are up to frame f. Sought from the back, where changes mostly go.
+pub fn up_to(frames: &[usize], f: usize) -> usize
+    requires { rising 0 frames.now ≡ true }
+    ensures { (result ≡ length (those (λ g. leb g f) frames.now)) × (result ≤ length frames.now) }
+{
+    frames
+        .iter()
+        .rposition(|&g| g <= f)
+        .map_or(0, |last| last + 1)
+}
+
+// Places k to n - 1 go up by one. Not compiled into the walk over the changes, which mostly go behind all others: there its loops kept the walk's numbers
+// out of registers, and 300 changes took 557,443 instructions in twenty calls, where it is 427,583 so (counted).
+#[inline(never)]
+fn open_place(waiting: &mut WaitingRooms<'_>, k: usize, n: usize)
+    requires place { k ≤ n }
+    requires frames { n < length waiting.old.frames.now }
+    requires weights { n < length waiting.old.weights.now }
+    ensures frames { waiting.new.frames.now ≡ put (k + 1) (build (n - k) (λ j. get_or waiting.old.frames.now (k + j) 0)) waiting.old.frames.now }
+    ensures weights { waiting.new.weights.now ≡ put (k + 1) (build (n - k) (λ j. at waiting.old.weights.now (k + j))) waiting.old.weights.now }
+    ensures frames_long { length waiting.new.frames.now ≡ length waiting.old.frames.now }
+    ensures weights_long { length waiting.new.weights.now ≡ length waiting.old.weights.now }
+    ensures loans { SameWaiting waiting.old waiting.new }
+{
+    waiting.frames.copy_within(k..n, k + 1);
+    waiting.weights.copy_within(k..n, k + 1);
+}
+
+// One change more, behind those of its own frame and of lower ones.
+pub fn insert_change(waiting: &mut WaitingRooms<'_>, n: usize, frame: usize, weight: f32)
+    requires frames { n < length waiting.old.frames.now }
+    requires weights { n < length waiting.old.weights.now }
+    requires order { InOrder n waiting.old }
+    ensures changes { Holds (insert_change (waiting_of n waiting.old) (frame, weight)) waiting.old waiting.new }
+    ensures loans { SameWaiting waiting.old waiting.new }
+{
+    let k = up_to(&waiting.lent().frames[..n], frame);
+    open_place(waiting, k, n);
+    waiting.frames[k] = frame;
+    waiting.weights[k] = weight;
+}
+
+// Changes more, in the order given. Not compiled into the call that tests the record: its numbers took the walk's registers.
+#[inline(never)]
+fn insert_changes(
+    waiting: &mut WaitingRooms<'_>,
+    n: usize,
+    delta_frames: &[usize],
+    delta_weights: &[f32],
+)
+    requires frames { n + length delta_frames.now ≤ length waiting.old.frames.now }
+    requires weights { n + length delta_frames.now ≤ length waiting.old.weights.now }
+    requires paired { length delta_weights.now ≡ length delta_frames.now }
+    requires order { InOrder n waiting.old }
+    ensures changes { Holds (inserted_to (length delta_frames.now) delta_frames.now delta_weights.now (waiting_of n waiting.old)) waiting.old waiting.new }
+    ensures loans { SameWaiting waiting.old waiting.new }
+{
+    let m = delta_frames.len();
+    // By index: i is a place of both lists and counts the changes that wait, so `zip` with `enumerate` is no plainer.
+    for i in 0..m {
+        insert_change(waiting, n + i, delta_frames[i], delta_weights[i]);
+    }
+}
+
+// One more than the highest frame ever changed.
+fn past_highest_of(past_highest: usize, delta_frames: &[usize]) -> usize
+    requires { any_of (leb 1000000000) delta_frames.now ≡ false }
+    ensures { result ≡ foldl (λ n f. max n (f + 1)) past_highest delta_frames.now }
+{
+    let mut past = past_highest;
+    for &f in delta_frames {
+        past = past.max(f + 1);
+    }
+    past
+}
+
+// A change call. It gives one more than the highest frame ever changed.
+pub fn update_frame_weights(
+    waiting: &mut WaitingRooms<'_>,
+    n: usize,
+    past_highest: usize,
+    delta_frames: &[usize],
+    delta_weights: &[f32],
+) -> usize
+    requires frames { n + length delta_frames.now ≤ length waiting.old.frames.now }
+    requires weights { n + length delta_frames.now ≤ length waiting.old.weights.now }
+    requires paired { length delta_weights.now ≡ length delta_frames.now }
+    requires order { InOrder n waiting.old }
+    requires bound { any_of (leb 1000000000) delta_frames.now ≡ false }
+    ensures changes { Holds (changed (waiting_changes n past_highest waiting.old) delta_frames.now delta_weights.now).waiting waiting.old waiting.new }
+    ensures past_highest { result ≡ (changed (waiting_changes n past_highest waiting.old) delta_frames.now delta_weights.now).past_highest }
+    ensures loans { SameWaiting waiting.old waiting.new }
+{
+    insert_changes(waiting, n, delta_frames, delta_weights);
+    past_highest_of(past_highest, delta_frames)
+}
+
+// The first k of them are taken out.
+pub fn remove_first(waiting: &mut WaitingRooms<'_>, n: usize, k: usize)
+    requires within { k ≤ n }
+    requires frames { n ≤ length waiting.old.frames.now }
+    requires weights { n ≤ length waiting.old.weights.now }
+    ensures changes { Holds (drop k (waiting_of n waiting.old)) waiting.old waiting.new }
+    ensures loans { SameWaiting waiting.old waiting.new }
+{
+    waiting.frames.copy_within(k..n, 0);
+    waiting.weights.copy_within(k..n, 0);
+}
+
+// Where the changes of one frame end, and the sum of their weights.
+#[derive(Clone, Copy, Debug, PartialEq)]
+pub struct Group {
+    pub end: usize,
+    pub weight: f32,
+}
+
+// The changes of change j's frame, from change j on, summed in their order from the first.
+pub fn sum_group(waiting: LentWaiting<'_>, n: usize, j: usize) -> Group
+    requires within { j < n }
+    requires frames { n ≤ length waiting.frames.now }
+    requires weights { n ≤ length waiting.weights.now }
+    ensures further { j < result.end }
+    ensures within { result.end ≤ n }
+    ensures sum { merged (drop j (waiting_in n waiting.entry.frames.now waiting.entry.weights.now))
+        ≡ (get_or waiting.entry.frames.now j 0, result.weight) ∷ merged (drop result.end (waiting_in n waiting.entry.frames.now waiting.entry.weights.now)) }
+{
+    let frame = waiting.frames[j];
+    let mut weight = waiting.weights[j];
+    // By index: the first place of another frame is the answer, and elements of both lists stand there.
+    for end in j + 1..n {
+        if waiting.frames[end] != frame {
+            return Group { end, weight };
+        }
+        weight += waiting.weights[end];
+    }
+    Group { end: n, weight }
+}

@@ -1,0 +1,113 @@
+// The frames of a fetch's batch: each is fetched, weighed and added to the batch's sums. That the rooms stay those that were lent is a clause of each function that
+// writes them: a ghost field cannot say it of a `&mut`, so that no struct is plainer, and without it a caller knows nothing of its rooms.
+
+mod batch;
+mod intake;
+
+ghost use Rattle.std.specs.Prelude.{◌≡◌, ◌+◌, ◌<◌, length};
+ghost use Rattle.definition.specs.Estimate.{entries, nans_over};
+ghost use Rattle.gmm.specs.Inner.DiagGmmRooms.{SameLikes};
+ghost use Rattle.gmm.specs.Batch.{Logged};
+ghost use Rattle.gmm.specs.Inner.BatchSumsRooms.{SlotsIn, SumsIn, Grown, SameSums};
+ghost use Rattle.stream.specs.Inner.IvectorBatch.{frame_state, frame_entries, frame_nans};
+ghost use Rattle.stream.specs.Fetched.{model_of, frames_of, whole_of};
+
+use crate::frame_views::{Features, Lda, StreamView};
+pub use batch::FetchBatch;
+use gmm::batch_sums::{self, LentFeatures, RunningSums};
+use gmm::diag_gmm::{DiagGmm, LikeRooms};
+pub use intake::{BatchFrame, Intake};
+
+impl FetchBatch<'_> {
+    // A frame of the batch goes into the batch's sums, by way of rooms for its normalised and its raw features and for its likelihoods. A skipped
+    // one is fetched all the same. The answer: how many of its likelihoods were NaN.
+    fn take_frame(
+        &self,
+        b: BatchFrame,
+        cmvn: &mut [f64],
+        normalized: &mut [f32],
+        raw: &mut [f32],
+        rooms: &mut LikeRooms<'_>,
+        sums: &mut RunningSums<'_>,
+    ) -> usize
+        requires there { b.frame < self.now.intake.accepted }
+        requires log { Logged b.weight b.ln }
+        requires state { length cmvn.old ≡ self.now.info.dims.base_dim + 1 }
+        requires features { (length normalized.old ≡ self.now.info.dims.feat_dim) × (length raw.old ≡ self.now.info.dims.feat_dim) }
+        requires likes { (length rooms.old.likes.now ≡ self.now.info.dims.num_gauss) × (length rooms.old.squares.now ≡ self.now.info.dims.num_gauss) }
+        requires slots { SlotsIn self.now.info.dims.num_gauss self.now.info.dims.feat_dim sums.old }
+        ensures state { cmvn.new ≡ frame_state (model_of self.now) (frames_of self.now) b.frame cmvn.old }
+        ensures grown { Grown self.now.info.dims.num_gauss self.now.info.dims.feat_dim
+            (frame_entries (model_of self.now) (frames_of self.now) b.frame b.weight cmvn.old) sums.old sums.new }
+        ensures nans { result ≡ frame_nans (model_of self.now) (frames_of self.now) b.frame b.weight cmvn.old }
+        ensures loans { SameSums sums.old sums.new }
+        ensures like_loans { SameLikes rooms.old rooms.new }
+    {
+        let dims = self.info.dims;
+        let t = self.tables;
+        let view = StreamView {
+            options: self.info.opts,
+            dim: dims.base_dim,
+            accepted: self.intake.accepted,
+            global: t.global_mean_stats,
+            frames: self.held.frames,
+            rows: self.held.rows,
+        };
+        let lda = Lda {
+            table: t.lda_t,
+            offset: t.lda_offset,
+        };
+        view.lda_frame(Features::Normalized, lda, b.frame, cmvn, normalized);
+        view.lda_frame(Features::Raw, lda, b.frame, cmvn, raw);
+        let gmm = DiagGmm {
+            num_gauss: dims.num_gauss,
+            dim: dims.feat_dim,
+            gconsts: t.gconsts,
+            means_invvars_t: t.means_invvars_t,
+            inv_vars_t: t.inv_vars_t,
+        };
+        let features = LentFeatures { normalized, raw };
+        let select = self.info.opts.num_gselect;
+        batch_sums::acc_frame(gmm, select, b.weight, b.ln, features, rooms, sums)
+    }
+
+    /// The frames of the batch go into the sums of a batch that has none yet. The answer: the NaN likelihoods of all of them, added up; of at most
+    /// 10^9 frames, so that the sum is in range.
+    pub fn take_batch(
+        &self,
+        cmvn: &mut [f64],
+        rooms: &mut LikeRooms<'_>,
+        sums: &mut RunningSums<'_>,
+    ) -> usize
+        requires state { length cmvn.old ≡ self.now.info.dims.base_dim + 1 }
+        requires likes { (length rooms.old.likes.now ≡ self.now.info.dims.num_gauss) × (length rooms.old.squares.now ≡ self.now.info.dims.num_gauss) }
+        requires none { sums.old.count ≡ 0 }
+        requires slots { SlotsIn self.now.info.dims.num_gauss self.now.info.dims.feat_dim sums.old }
+        ensures state { cmvn.new ≡ (entries (model_of self.now) (frames_of self.now) (whole_of self.now) cmvn.old).0 }
+        ensures slots { SlotsIn self.now.info.dims.num_gauss self.now.info.dims.feat_dim sums.new }
+        ensures sums { SumsIn self.now.info.dims.feat_dim (entries (model_of self.now) (frames_of self.now) (whole_of self.now) cmvn.old).1 sums.new }
+        ensures nans { result ≡ nans_over (model_of self.now) (frames_of self.now) (whole_of self.now) cmvn.old }
+        ensures loans { SameSums sums.old sums.new }
+        ensures like_loans { SameLikes rooms.old rooms.new }
+    {
+        let o = self.info.opts;
+        let d = self.info.dims.feat_dim;
+        let ln = floats::ln_f32(o.min_post);
+        let places = self.intake.places();
+        // A copy: behind the reference each frame loads the record's numbers again (21,000 instructions more of a small fetch, counted).
+        let batch = *self;
+        let mut normalized = [0.0f32; 64];
+        let mut raw = [0.0f32; 64];
+        let mut nans = 0;
+        let mut j = 0;
+        // By `while`: a group of changes takes several places, so that where the next one begins is a turn's answer, and an iterator is no plainer.
+        while j < places {
+            let b = batch.intake.frame_at(o, ln, places, j);
+            // the rooms for features are arrays for the longest, as there is no heap, and are cut to the dimension
+            let heard = batch.take_frame(b, cmvn, &mut normalized[..d], &mut raw[..d], rooms, sums);
+            nans += heard;
+            j = b.end;
+        }
+        nans
+    }
+}

@@ -1,0 +1,87 @@
+//! What a fetch brings into the statistics.
+
+ghost use Rattle.std.specs.Prelude.{◌≡◌, ◌∷◌, ◌<◌, ◌≤◌};
+ghost use Rattle.floats.specs.Ln.{ln_narrow};
+ghost use Rattle.gmm.specs.Batch.{Logged};
+ghost use Rattle.stream.specs.Inner.IvectorBatch.{places_of, frame_in, left_of, Lined};
+
+use crate::delta_weights;
+use definition::{FrameWeight, IvectorOptions, LentWaiting};
+use gmm::diag_gmm;
+
+/// What a fetch brings in: the frames from `next` on, up to but not with `end` (none where the two are the same), or, once a change call was taken,
+/// those of the first `changes` of the waiting changes. The stream took `accepted` frames.
+#[derive(Clone, Copy)]
+pub struct Intake<'a> {
+    pub accepted: usize,
+    pub called: bool,
+    pub next: usize,
+    pub end: usize,
+    pub changes: usize,
+    pub waiting: LentWaiting<'a>,
+}
+
+/// A frame of a batch, its weight, the logarithm of its prune floor, and the place behind it.
+#[derive(Clone, Copy)]
+pub struct BatchFrame {
+    pub frame: usize,
+    pub weight: FrameWeight,
+    pub ln: f32,
+    pub end: usize,
+}
+
+// The logarithm of a frame's prune floor.
+fn floor_log(weight: FrameWeight) -> f32
+    ensures { Logged weight result }
+{
+    match weight {
+        FrameWeight::Skipped => 0.0,
+        FrameWeight::Weighed(floor, _) => floats::ln_f32(floor),
+    }
+}
+
+impl Intake<'_> {
+    /// How many places its batch has: one for each frame from `next` to before `end`, or, once a change call was taken, one for each change.
+    pub fn places(&self) -> usize
+        requires { self.now.next ≤ self.now.end }
+        ensures { result ≡ places_of self.now }
+    {
+        if self.called {
+            return self.changes;
+        }
+        self.end - self.next
+    }
+
+    /// The frame at place j of so many: frame next + j, unweighted, or that of waiting change j, weighed by the sum of its own; ln: the logarithm of
+    /// the floor of frames without weights, which is the same for all.
+    pub fn frame_at(&self, o: IvectorOptions, ln: f32, places: usize, j: usize) -> BatchFrame
+        requires within { j < places }
+        requires lined { Lined places self.now }
+        requires near { frame_in self.now j < 1000000000 }
+        requires log { ln ≡ ln_narrow o.min_post }
+        ensures frame { result.frame ≡ frame_in self.now j }
+        ensures further { j < result.end }
+        ensures within { result.end ≤ places }
+        ensures left { left_of o self.now places j ≡ (result.frame, result.weight) ∷ left_of o self.now places result.end }
+        ensures log { Logged result.weight result.ln }
+    {
+        if self.called {
+            let group = delta_weights::sum_group(self.waiting, places, j);
+            let weight = diag_gmm::weighed(o, group.weight);
+            let own = floor_log(weight);
+            return BatchFrame {
+                frame: self.waiting.frames[j],
+                weight,
+                ln: own,
+                end: group.end,
+            };
+        }
+        let weight = diag_gmm::unweighted(o);
+        BatchFrame {
+            frame: self.next + j,
+            weight,
+            ln,
+            end: j + 1,
+        }
+    }
+}

@@ -1,0 +1,224 @@
+// A fetch's work on a batch of frames: the batch's sums go into the statistics, and the i-vector is solved for.
+//
+// Each of these functions that writes a struct of lent rooms says by the clause `loans` or `room_loans` that its slices stay the ones that were lent: a caller
+// knows it by that clause alone, and in the struct's type it would be no plainer, since a ghost field beside a `&mut` is not covered.
+
+ghost use Rattle.std.specs.Prelude.{◌≡◌, true, ◌<◌, length};
+ghost use Rattle.definition.specs.Lent.{tables_in, SameEstimate};
+ghost use Rattle.definition.specs.Model.{table_lengths_of, table_sizes, tables_fit, kept_tables, Model, model_in};
+ghost use Rattle.definition.specs.Views.{Frames};
+ghost use Rattle.definition.specs.Changes.{Batch};
+ghost use Rattle.definition.specs.Estimate.{Estimate, nans_over, updated};
+ghost use Rattle.definition.specs.Stream.{record_sound, rooms_fit};
+ghost use Rattle.program.specs.Rooms.{EstimateRooms, estimate_from, rooms_from, room_lengths_of, ring_frames, estimate_at};
+ghost use Rattle.program.specs.Lent.{rings_in, estimate_of};
+ghost use Rattle.program.specs.Calls.{over_estimate};
+ghost use Rattle.stream.specs.Inner.IvectorBatch.{batch_in, places_of, Held};
+ghost use Rattle.stream.specs.Fetched.{model_of, frames_of, whole_of};
+ghost use Rattle.stream.specs.Inner.IvectorUpdate.{Solvable, learnt, RoomsFit, SameRooms};
+
+use crate::ivector_batch::{FetchBatch, Intake};
+use definition::{IvectorInfo, LentEstimate, LentFrames, LentTables};
+use gmm::batch_sums::RunningSums;
+use gmm::diag_gmm::LikeRooms;
+use ivector_stats::{LentStatistics, LentSums, Statistics};
+
+// What an update leaves: the statistics' frame count, and how many likelihoods of the frames that it brought in were NaN.
+#[derive(Clone, Copy)]
+pub struct Update {
+    pub num_frames: f64,
+    pub nans: usize,
+}
+
+// Rooms of a number for each Gaussian.
+#[derive(Drop)]
+pub struct GaussianRooms<'a> {
+    pub likes: &'a mut [f32],
+    pub squares: &'a mut [f32],
+    pub seen: &'a mut [usize],
+    pub tot: &'a mut [f64],
+}
+
+// What `update_stats_until` does with a batch of some places, in rooms that it is lent.
+fn update_batch(
+    batch: &FetchBatch<'_>,
+    num_frames: f64,
+    estimate: &mut LentEstimate<'_>,
+    scratch: &mut [f64],
+    rooms: &mut GaussianRooms<'_>,
+) -> Update
+    requires some { 0 < places_of batch.now.intake }
+    requires solvable { Solvable batch.now (estimate_of estimate.old) (length scratch.old) }
+    requires rooms { RoomsFit batch.now.info.dims.num_gauss rooms.old }
+    ensures learnt { learnt result.num_frames (estimate_of estimate.new)
+        ≡ updated (model_of batch.now) (frames_of batch.now) (whole_of batch.now) (learnt num_frames (estimate_of estimate.old)) }
+    ensures nans { result.nans ≡ nans_over (model_of batch.now) (frames_of batch.now) (whole_of batch.now) estimate.old.cmvn_stats.now }
+    ensures loans { SameEstimate estimate.old estimate.new }
+    ensures room_loans { SameRooms rooms.old rooms.new }
+{
+    let mut likes = LikeRooms {
+        likes: rooms.likes,
+        squares: rooms.squares,
+    };
+    let mut sums = RunningSums {
+        count: 0,
+        seen: rooms.seen,
+        tot: rooms.tot,
+        sum: scratch,
+    };
+    let nans = batch.take_batch(estimate.cmvn_stats, &mut likes, &mut sums);
+    let mut stats = Statistics {
+        num_frames,
+        linear: estimate.linear,
+        quadratic: estimate.quadratic,
+    };
+    let t = batch.tables;
+    ivector_stats::acc(
+        batch.info,
+        t.sigma_inv_m,
+        t.u,
+        LentSums::of(&sums),
+        &mut stats,
+    );
+    let learnt = stats.lent();
+    ivector_stats::get_ivector(batch.info, learnt, estimate.current, scratch);
+    Update {
+        num_frames: stats.num_frames,
+        nans,
+    }
+}
+
+/// The batch goes into the statistics (where it is empty, nothing is added), and the current vector is solved for. Scratch is free.
+// Rooms for the Gaussians are arrays, as there is no heap, and are cut to their count. With few Gaussians, clearing rooms for
+// as many as there can be would cost more than the work: they have rooms for 64. The rooms of the estimate come one by one, as they are cut: a struct of parts
+// that are cut out of a struct's slices is not covered (tried).
+pub fn update_stats_until(
+    batch: &FetchBatch<'_>,
+    num_frames: f64,
+    cmvn_stats: &mut [f64],
+    linear: &mut [f64],
+    quadratic: &mut [f64],
+    current: &mut [f64],
+    scratch: &mut [f64],
+) -> Update
+    requires { Solvable batch.now (estimate_from cmvn_stats.old linear.old quadratic.old current.old) (length scratch.old) }
+    ensures learnt { learnt result.num_frames (estimate_from cmvn_stats.new linear.new quadratic.new current.new)
+        ≡ updated (model_of batch.now) (frames_of batch.now) (whole_of batch.now) (learnt num_frames (estimate_from cmvn_stats.old linear.old quadratic.old current.old)) }
+    ensures nans { result.nans ≡ nans_over (model_of batch.now) (frames_of batch.now) (whole_of batch.now) cmvn_stats.old }
+{
+    let g = batch.info.dims.num_gauss;
+    if batch.intake.places() == 0 {
+        let stats = LentStatistics {
+            num_frames,
+            linear,
+            quadratic,
+        };
+        ivector_stats::get_ivector(batch.info, stats, current, scratch);
+        return Update {
+            num_frames,
+            nans: 0,
+        };
+    }
+    let mut estimate = LentEstimate {
+        cmvn_stats,
+        linear,
+        quadratic,
+        current,
+    };
+    if g <= 64 {
+        let mut likes = [0.0f32; 64];
+        let mut squares = [0.0f32; 64];
+        let mut seen = [0usize; 64];
+        let mut tot = [0.0f64; 64];
+        let mut rooms = GaussianRooms {
+            likes: &mut likes[..g],
+            squares: &mut squares[..g],
+            seen: &mut seen[..g],
+            tot: &mut tot[..g],
+        };
+        return update_batch(batch, num_frames, &mut estimate, scratch, &mut rooms);
+    }
+    let mut likes = [0.0f32; 1024];
+    let mut squares = [0.0f32; 1024];
+    let mut seen = [0usize; 1024];
+    let mut tot = [0.0f64; 1024];
+    let mut rooms = GaussianRooms {
+        likes: &mut likes[..g],
+        squares: &mut squares[..g],
+        seen: &mut seen[..g],
+        tot: &mut tot[..g],
+    };
+    update_batch(batch, num_frames, &mut estimate, scratch, &mut rooms)
+}
+
+// Of the tables what the record says that they keep. C may lend longer ones: each is cut by hand, to a length of its own.
+fn kept<'a>(info: IvectorInfo, tables: LentTables<'a>) -> LentTables<'a>
+    requires sound { record_sound info ≡ true }
+    requires fit { tables_fit info.opts info.dims (table_lengths_of (tables_in tables)) ≡ true }
+    ensures { tables_in result ≡ kept_tables (table_sizes info.opts info.dims) (tables_in tables.entry) }
+{
+    let o = info.opts;
+    let d = info.dims;
+    let s = d.ivector_dim;
+    let row = d.base_dim + 1;
+    let cells = d.num_gauss * d.feat_dim;
+    let sigma_cells = d.ext_gauss * d.feat_dim * s;
+    let u_cells = d.ext_gauss * (s * (s + 1) / 2);
+    let lda_cells = d.base_dim * (o.left_context + 1 + o.right_context) * d.feat_dim;
+    LentTables {
+        gconsts: &tables.gconsts[..d.num_gauss],
+        means_invvars_t: &tables.means_invvars_t[..cells],
+        inv_vars_t: &tables.inv_vars_t[..cells],
+        sigma_inv_m: &tables.sigma_inv_m[..sigma_cells],
+        u: &tables.u[..u_cells],
+        lda_t: &tables.lda_t[..lda_cells],
+        lda_offset: &tables.lda_offset[..d.feat_dim],
+        global_mean_stats: &tables.global_mean_stats[..row],
+    }
+}
+
+// The same in lent tables and rooms, of which it reads and writes what the record says that they keep. C may lend longer ones: each is cut by hand, to a length
+// of its own.
+pub fn update_rooms(
+    info: IvectorInfo,
+    intake: Intake<'_>,
+    tables: LentTables<'_>,
+    held: LentFrames<'_>,
+    num_frames: f64,
+    estimate: &mut LentEstimate<'_>,
+    scratch: &mut [f64],
+) -> Update
+    requires sound { record_sound info ≡ true }
+    requires tables_fit { tables_fit info.opts info.dims (table_lengths_of (tables_in tables)) ≡ true }
+    requires rooms_fit { rooms_fit info.dims (room_lengths_of (rooms_from (rings_in held intake.waiting) (estimate_of estimate.old)) (length scratch.old)) ≡ true }
+    requires held { Held info.opts intake }
+    ensures learnt { (
+        let M : Model = model_in info (tables_in tables.entry) in
+        let z : EstimateRooms = estimate_of estimate.old in
+        let F : Frames = ring_frames info.dims.base_dim intake.entry.accepted held.entry.frames.now held.entry.rows.now in
+        let bs : Batch = batch_in info.opts intake.entry in
+        let e : Estimate = updated M F bs (estimate_at info.dims num_frames z) in
+        (result.num_frames ≡ e.stats.num_frames)
+        × (estimate_of estimate.new ≡ over_estimate e z)
+        × (result.nans ≡ nans_over M F bs (estimate_at info.dims num_frames z).cmvn)) }
+    ensures loans { SameEstimate estimate.old estimate.new }
+{
+    let s = info.dims.ivector_dim;
+    let row = info.dims.base_dim + 1;
+    let packed = s * (s + 1) / 2;
+    let batch = FetchBatch {
+        info,
+        tables: kept(info, tables),
+        held,
+        intake,
+    };
+    update_stats_until(
+        &batch,
+        num_frames,
+        &mut estimate.cmvn_stats[..row],
+        &mut estimate.linear[..s],
+        &mut estimate.quadratic[..packed],
+        &mut estimate.current[..s],
+        scratch,
+    )
+}

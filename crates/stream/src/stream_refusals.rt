@@ -1,0 +1,253 @@
+// What the calls on a stream refuse, but for the fetch, and the stores of a push: in a crate of their own, so that a check of either stays short.
+// Each says how far a stream goes in the definition's own words, and takes a ring beside the place or the count of frames that its rows are told by, as
+// the definition does: with the record in place of these numbers each clause would speak of its parts, and be no plainer. (As it is compiled, a push takes as
+// many instructions either way: counted.)
+
+ghost use Rattle.std.specs.Prelude.{◌≡◌, false, not, ◌||◌, ◌⊎◌, List, ◌+◌, ◌-◌, ◌<◌, ◌≤◌, length, leb, ltb, Float};
+ghost use Rattle.std.specs.Float.Ieee.Scale.{finite};
+ghost use Rattle.loops.specs.Lists.{build, any_of};
+ghost use Rattle.loops.specs.Refusal.{first_of};
+ghost use Rattle.loops.specs.Ring.{rows_in, place, put};
+ghost use Rattle.floats.specs.Operators.{◌+₆₄◌, at};
+ghost use Rattle.definition.specs.Number.{refused_by};
+ghost use Rattle.definition.specs.Machine.{frames_held, rows_held, waiting_room, push_tests};
+ghost use Rattle.definition.specs.Stream.{new_refusal};
+ghost use Rattle.program.specs.Rooms.{ring_at};
+ghost use Rattle.program.specs.Lent.{rings_in};
+ghost use Rattle.program.specs.Calls.{record_tests, push_frame, update_frame_weights, set_cmn_window};
+
+use algebra::basics;
+use definition::{
+    Dimensions, IvectorInfo, IvectorStream, LentFrames, LentWaiting, Refusal, RingLengths,
+    RoomLengths, TableLengths, need,
+};
+
+// ---- every call
+
+// Refusal 10 of every call: rings of other lengths than the record's, or a record that no call made.
+#[inline(always)]
+#[tactic(auto, unfolding(loops::specs::Refusal::first_of, definition::specs::Stream::same_rings))]
+pub fn plain_refusal(
+    s: &IvectorStream,
+    frames: LentFrames<'_>,
+    waiting: LentWaiting<'_>,
+) -> Result<(), Refusal>
+    ensures { refused_by result ≡ first_of (record_tests s.now (rings_in frames.entry waiting.entry)) }
+{
+    let lent = RingLengths {
+        frames: frames.frames.len(),
+        rows: frames.rows.len(),
+        waiting_frames: waiting.frames.len(),
+        waiting_weights: waiting.weights.len(),
+    };
+    need(lent == s.lengths.rings, Refusal::ForeignRecord)?;
+    need(
+        !limits::is_broken(s, waiting.frames),
+        Refusal::ForeignRecord,
+    )
+}
+
+// ---- a fresh stream
+
+#[tactic(auto, unfolding(loops::specs::Refusal::first_of, definition::specs::Stream::new_refusal, definition::specs::Stream::same_tables))]
+pub fn new_refusal(
+    info: IvectorInfo,
+    tables: TableLengths,
+    lengths: RoomLengths,
+) -> Result<(), Refusal>
+    ensures { refused_by result ≡ new_refusal info tables lengths }
+{
+    need(tables == info.tables, Refusal::ForeignRecord)?;
+    need(limits::record_sound(info), Refusal::ForeignRecord)?;
+    need(
+        limits::tables_fit(info.opts, info.dims, info.tables),
+        Refusal::ShortRoom,
+    )?;
+    let fits = limits::rooms_fit(info.dims, lengths);
+    need(fits, Refusal::ShortRoom)
+}
+
+// ---- push
+
+// Whether there was one that is not finite, or x is not. `bad` is what the loop has found so far: a function of its own, so that the loop has no branch.
+// By index and four at a time it takes 16 instructions (counted).
+#[inline(always)]
+fn or_not_finite(bad: bool, x: f32) -> bool
+    ensures { result ≡ (bad || not (finite x)) }
+{
+    bad || !floats::is_finite(x)
+}
+
+// No early exit, and by index: so the loop takes several at a time. A fold over the numbers, which was tried, takes 31 instructions for four.
+fn any_not_finite(x: &[f32]) -> bool
+    ensures { result ≡ any_of (λ v. not (finite v)) x.now }
+{
+    let mut bad = false;
+    for i in 0..x.len() {
+        bad = or_not_finite(bad, x[i]);
+    }
+    bad
+}
+
+// Refusals 11 to 15 of a push. The record is not passed, so that it is not copied.
+#[tactic(auto, unfolding(loops::specs::Refusal::first_of, definition::specs::Machine::push_tests))]
+fn push_tests(
+    d: Dimensions,
+    own: RingLengths,
+    longest: usize,
+    accepted: usize,
+    mark: usize,
+    frame: &[f32],
+) -> Result<(), Refusal>
+    requires { (0 < d.base_dim) × (d.base_dim ≤ 64) × (accepted ≤ 1000000000) × (mark ≤ 1000000000)
+        × (frames_held accepted mark ≤ rows_in own.frames d.base_dim) × (rows_held longest accepted mark ≤ rows_in own.rows d.base_dim) }
+    ensures { refused_by result ≡ first_of (push_tests d own longest accepted mark frame.now) }
+{
+    need(frame.len() == d.base_dim, Refusal::FrameLength)?;
+    need(!any_not_finite(frame), Refusal::FrameNumber)?;
+    need(accepted != 1000000000, Refusal::LastFrame)?;
+    let frames_held = limits::frames_held(accepted, mark);
+    need(
+        (frames_held + 1) * d.base_dim <= own.frames,
+        Refusal::FramesFull,
+    )?;
+    let rows_held = limits::rows_held(longest, accepted, mark);
+    need((rows_held + 1) * d.base_dim <= own.rows, Refusal::RowsFull)
+}
+
+#[inline(always)]
+#[tactic(auto, unfolding(loops::specs::Refusal::first_of, program::specs::Calls::push_frame))]
+pub fn push_refusal(
+    s: &IvectorStream,
+    frame: &[f32],
+    frames: LentFrames<'_>,
+    waiting: LentWaiting<'_>,
+) -> Result<(), Refusal>
+    ensures { refused_by result ≡ (push_frame s.now (rings_in frames.entry waiting.entry) frame.now).refusal }
+{
+    plain_refusal(s, frames, waiting)?;
+    push_tests(
+        s.info.dims,
+        s.lengths.rings,
+        s.longest,
+        s.accepted,
+        s.mark,
+        frame,
+    )
+}
+
+// A frame stored from place a on.
+#[tactic(auto, using(loops::proofs::Std::put_std))]
+fn put_frame(frames: &mut [f32], a: usize, frame: &[f32])
+    requires { a + length frame.now ≤ length frames.old }
+    ensures { frames.new ≡ put a frame.now frames.old }
+{
+    frames[a..a + frame.len()].copy_from_slice(frame);
+}
+
+// The prefix row at `last` and a frame, summed into the row at `next`. The frame is finite: so the cast needs no test of a NaN.
+fn add_frame(rows: &mut [f64], last: usize, next: usize, frame: &[f32])
+    requires { (last + length frame.now ≤ length rows.old) × (next + length frame.now ≤ length rows.old)
+        × ((last + length frame.now ≤ next) ⊎ (next + length frame.now ≤ last)) × (any_of (λ v. not (finite v)) frame.now ≡ false) }
+    ensures { rows.new ≡ put next (build (length frame.now) (λ d. at rows.old (last + d) +₆₄ at frame.now d)) rows.old }
+{
+    // By index: the row that is read and the one that is written lie in one slice, so no iterator over the one is held while the other is written.
+    for d in 0..frame.len() {
+        rows[next + d] = rows[last + d] + frame[d] as f64;
+    }
+}
+
+// A frame stored at its place, and its sums as the next prefix row.
+pub fn store_frame(frames: &mut [f32], rows: &mut [f64], accepted: usize, frame: &[f32])
+    requires { (0 < length frame.now) × (length frame.now ≤ 64) × (accepted ≤ 1000000000) × (0 < rows_in (length frames.old) (length frame.now))
+        × (2 ≤ rows_in (length rows.old) (length frame.now)) × (any_of (λ v. not (finite v)) frame.now ≡ false) }
+    ensures { (
+        let x : List Float = frame.now in
+        (frames.new ≡ put (place (length frames.old) (length x) accepted) x frames.old)
+        × (rows.new ≡ put (place (length rows.old) (length x) (accepted + 1)) (build (length x) (λ d. ring_at (length x) rows.old accepted d +₆₄ at x d)) rows.old)) }
+{
+    let dim = frame.len();
+    let a = basics::ring_place(frames.len(), dim, accepted);
+    put_frame(frames, a, frame);
+    let last = basics::ring_place(rows.len(), dim, accepted);
+    let next = basics::row_after(rows.len(), dim, last);
+    add_frame(rows, last, next, frame);
+}
+
+// ---- change
+
+// Whether a frame is `limit` or more.
+#[tactic(auto, unfolding(loops::specs::Lists::any_of))]
+fn any_from(frames: &[usize], limit: usize) -> bool
+    ensures { result ≡ any_of (leb limit) frames.now }
+{
+    frames.iter().any(|&f| limit <= f)
+}
+
+// Whether a frame less `left` is below `mark`.
+#[tactic(auto, unfolding(loops::specs::Lists::any_of))]
+fn any_below(frames: &[usize], left: usize, mark: usize) -> bool
+    ensures { result ≡ any_of (λ f. ltb (f - left) mark) frames.now }
+{
+    frames.iter().any(|&f| f.saturating_sub(left) < mark)
+}
+
+// Whether the waiting room has places for n changes more.
+#[tactic(auto, using(crate::proofs::Refusals::room_is))]
+fn has_places(own: RingLengths, waiting: usize, n: usize) -> bool
+    ensures { result ≡ not (ltb (waiting_room own) (waiting + n)) }
+{
+    let room = own.waiting_frames.min(own.waiting_weights);
+    n <= room && waiting <= room - n
+}
+
+// The changes are two lists, as C lends them and the definition takes them.
+#[tactic(auto, unfolding(loops::specs::Refusal::first_of, program::specs::Calls::update_frame_weights, definition::specs::Machine::change_tests))]
+pub fn change_refusal(
+    s: &IvectorStream,
+    delta_frames: &[usize],
+    delta_weights: &[f32],
+    frames: LentFrames<'_>,
+    waiting: LentWaiting<'_>,
+) -> Result<(), Refusal>
+    ensures { refused_by result
+        ≡ (update_frame_weights s.now (rings_in frames.entry waiting.entry) delta_frames.now delta_weights.now).refusal }
+{
+    plain_refusal(s, frames, waiting)?;
+    need(
+        delta_frames.len() == delta_weights.len() && delta_frames.len() <= 384,
+        Refusal::ChangeList,
+    )?;
+    need(
+        !any_from(delta_frames, 1000000000) && !any_not_finite(delta_weights),
+        Refusal::ChangeNumber,
+    )?;
+    need(!any_below(delta_frames, 0, s.floor), Refusal::Forgotten)?;
+    need(
+        !any_below(delta_frames, s.info.opts.left_context, s.mark),
+        Refusal::FrameGone,
+    )?;
+    need(
+        has_places(s.lengths.rings, s.waiting, delta_frames.len()),
+        Refusal::WaitingFull,
+    )
+}
+
+// ---- a new window
+
+#[tactic(auto, unfolding(loops::specs::Refusal::first_of, program::specs::Calls::set_cmn_window, definition::specs::Machine::window_tests))]
+pub fn window_refusal(
+    s: &IvectorStream,
+    window: usize,
+    frames: LentFrames<'_>,
+    waiting: LentWaiting<'_>,
+) -> Result<(), Refusal>
+    ensures { refused_by result ≡ (set_cmn_window s.now (rings_in frames.entry waiting.entry) window).refusal }
+{
+    plain_refusal(s, frames, waiting)?;
+    need(limits::window_in_range(window), Refusal::WindowRange)?;
+    need(
+        window <= s.longest || s.mark < s.longest,
+        Refusal::OldWindow,
+    )
+}

@@ -1,4 +1,0 @@
--- Laws of the calls' refusals, and of a push's stores.
-pub mod Records
-pub mod Refusals
-pub mod Stored

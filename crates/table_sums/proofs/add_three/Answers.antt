@@ -1,8 +1,0 @@
--- `table_sums::add_three` meets its contract. The loop's invariant: the first m places are filled with the sums; a turn does one more (`place_done` in Passes.antt).
-use lib.Ieee.{Float}
-use Rattle.floats.specs.Operators.{◌+₃₂◌, ◌*₃₂◌, at}
-use Rattle.table_sums.proofs.Passes.{place_done}
-use Rattle.table_sums.proofs.add_three.Goals as goal
-
-pub loop-m-preserved : goal.loop-m-preserved
-loop-m-preserved c = let a = c.args in place_done (λ m (s : Float). s +₃₂ at a.r0.now m *₃₂ a.v0 +₃₂ at a.r1.now m *₃₂ a.v1 +₃₂ at a.r2.now m *₃₂ a.v2) c.loop-m.m a.sum.now c.loop-m-test.true c.loop-m.invariant

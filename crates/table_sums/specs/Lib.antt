@@ -1,2 +1,0 @@
--- What a row of a table is times.
-pub mod Factor

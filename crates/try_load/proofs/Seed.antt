@@ -1,7 +1,0 @@
--- From 1 the first result is 270369, computed.
-use mathlib.Core.Path.{◌≡◌, refl}
-use Rattle.try_load.specs.Draws.{draw}
-
-pub first-of-one : draw 1 ≡ 270369
-unfolding draw
-first-of-one = refl

@@ -1,0 +1,18 @@
+-- `numbers` meets its contract: the numbers before an item are written (`Numbered` in Bytes.antt).
+use Rattle.writer.proofs.Chain.{wrote_none}
+use Rattle.writer.specs.Written.{numbers_bytes}
+use Rattle.writer.proofs.Bytes.{number_room, number_turn, number_end}
+use Rattle.writer.proofs.model_writer.numbers.Goals as goal
+
+pub loop-x-init : goal.loop-x-init
+unfolding numbers_bytes
+loop-x-init g c = wrote_none c.args.w.now
+
+pub number-requires : goal.number-requires
+number-requires g c = number_room g.W.Real.float g.W.Real.format c.args.xs.now c.loop-x.x-index c.x-item.result c.requires c.loop-x.invariant c.loop-x-test.true
+
+pub loop-x-preserved : goal.loop-x-preserved
+loop-x-preserved g c = number_turn g.W.Real.float g.W.Real.format c.args.xs.now c.loop-x.x-index c.x-item.result c.loop-x-test.true c.x-item.is c.loop-x.invariant c.number.ensures
+
+pub returns : goal.returns
+returns g c = number_end g.W.Real.float g.W.Real.format c.args.xs.now c.loop-x.x-index c.loop-x-test.false c.loop-x.invariant

@@ -1,0 +1,185 @@
+// A model written back (request 5): its three files, one after the other, from parameters that all are f32, or all f64. Everything is judged before a byte is
+// written.
+
+ghost use Rattle.std.specs.Prelude.{◌≡◌, ◌∷◌, [], ◌*◌, ◌≤◌, map, length};
+ghost use Rattle.definition.specs.Kaldi.{triangle};
+ghost use Rattle.writer.specs.Wrote.{HasRoom, Wrote};
+ghost use Rattle.writer.specs.Written.{numbers_bytes, size_bytes, vector_bytes, matrix_bytes, packed_bytes, gmm_bytes, extractor_bytes, lda_bytes, written, written_out};
+ghost use Rattle.writer.specs.Lent.{params_in, written_of};
+ghost use Rattle.writer.specs.Pieces.{m_blocks, sigma_blocks};
+
+use crate::byte_writer::Writer;
+pub use crate::model_bytes::written_answer;
+use crate::model_bytes::{FileLengths, LentParams};
+use crate::model_checks;
+use definition::{IvectorOptions, Refusal};
+use floats::{KeepAs, Real};
+
+// ---- sizes and numbers
+
+// A size: the byte 4, and its four bytes. The first four of eight: that a cast to `u32` loses nothing no clause says here, so it would be no plainer.
+fn size(w: &mut Writer<'_>, n: usize)
+    requires { HasRoom (size_bytes n) w.old }
+    ensures { Wrote (size_bytes n) w.old w.new }
+{
+    w.bytes(b"\x04");
+    let bytes = n.to_le_bytes();
+    w.bytes(&bytes[..4]);
+}
+
+// A number: the first bytes of eight, as many as its width has. `to_le_bytes` of a pattern gives eight for each type; a method for each would be no plainer.
+fn number<W: Real>(w: &mut Writer<'_>, x: W)
+    requires { HasRoom (numbers_bytes W.format (W.float x ∷ [])) w.old }
+    ensures { Wrote (numbers_bytes W.format (W.float x ∷ [])) w.old w.new }
+{
+    let bytes = x.to_pattern().to_le_bytes();
+    w.bytes(&bytes[..W::BYTES]);
+}
+
+fn numbers<W: Real>(w: &mut Writer<'_>, xs: &[W])
+    requires { HasRoom (numbers_bytes W.format (map W.float xs.now)) w.old }
+    ensures { Wrote (numbers_bytes W.format (map W.float xs.now)) w.old w.new }
+{
+    for &x in xs {
+        number(w, x);
+    }
+}
+
+// ---- blocks: a tag, sizes, numbers
+
+fn vector<W: Real>(w: &mut Writer<'_>, n: usize, xs: &[W])
+    requires { HasRoom (vector_bytes W.format n (map W.float xs.now)) w.old }
+    ensures { Wrote (vector_bytes W.format n (map W.float xs.now)) w.old w.new }
+{
+    w.bytes(&[W::MARK, b'V', b' ']);
+    size(w, n);
+    numbers(w, xs);
+}
+
+fn matrix<W: Real>(w: &mut Writer<'_>, rows: usize, cols: usize, xs: &[W])
+    requires { HasRoom (matrix_bytes W.format rows cols (map W.float xs.now)) w.old }
+    ensures { Wrote (matrix_bytes W.format rows cols (map W.float xs.now)) w.old w.new }
+{
+    w.bytes(&[W::MARK, b'M', b' ']);
+    size(w, rows);
+    size(w, cols);
+    numbers(w, xs);
+}
+
+// The lower triangle of a symmetric matrix of n rows.
+fn packed<W: Real>(w: &mut Writer<'_>, n: usize, xs: &[W])
+    requires { HasRoom (packed_bytes W.format n (map W.float xs.now)) w.old }
+    ensures { Wrote (packed_bytes W.format n (map W.float xs.now)) w.old w.new }
+{
+    w.bytes(&[W::MARK, b'P', b' ']);
+    size(w, n);
+    numbers(w, xs);
+}
+
+// `<M>` and `<SigmaInv>`, a block for each Gaussian, in these two functions. How many is given beside the numbers: it is known, and from their length it
+// would take a division, which is no plainer.
+fn matrices<W: Real>(w: &mut Writer<'_>, count: usize, rows: usize, cols: usize, xs: &[W])
+    requires rows { rows ≤ 64 }
+    requires cols { cols ≤ 128 }
+    requires long { length xs.now ≡ count * (rows * cols) }
+    requires room { HasRoom (m_blocks W.format count rows cols (map W.float xs.now)) w.old }
+    ensures { Wrote (m_blocks W.format count rows cols (map W.float xs.now)) w.old w.new }
+{
+    let n = rows * cols;
+    // By index: over `chunks_exact`, which was tried, the invariant has no number of a block, and the proof of a turn does not close.
+    for i in 0..count {
+        matrix(w, rows, cols, &xs[i * n..i * n + n]);
+    }
+}
+
+// By index and with its count, as `matrices`.
+fn packeds<W: Real>(w: &mut Writer<'_>, count: usize, rows: usize, xs: &[W])
+    requires rows { rows ≤ 64 }
+    requires long { length xs.now ≡ count * triangle rows }
+    requires room { HasRoom (sigma_blocks W.format count rows (map W.float xs.now)) w.old }
+    ensures { Wrote (sigma_blocks W.format count rows (map W.float xs.now)) w.old w.new }
+{
+    let n = rows * (rows + 1) / 2;
+    // By index, as in `matrices`.
+    for i in 0..count {
+        packed(w, rows, &xs[i * n..i * n + n]);
+    }
+}
+
+// ---- the files
+
+#[tactic(auto, unfolding(crate::specs::Written::gmm_bytes))]
+fn gmm<W: Real>(w: &mut Writer<'_>, p: &LentParams<'_, W>)
+    requires { HasRoom (gmm_bytes W.format (params_in W.float p.now)) w.old }
+    ensures { Wrote (gmm_bytes W.format (params_in W.float p.now)) w.old w.new }
+{
+    let z = p.sizes;
+    w.bytes(b"\0B<DiagGMM> <GCONSTS> ");
+    vector::<W>(w, 0, &[]);
+    w.bytes(b"<WEIGHTS> ");
+    vector(w, z.num_gauss, p.weights);
+    w.bytes(b"<MEANS_INVVARS> ");
+    matrix(w, z.num_gauss, z.feat_dim, p.means_invvars);
+    w.bytes(b"<INV_VARS> ");
+    matrix(w, z.num_gauss, z.feat_dim, p.inv_vars);
+    w.bytes(b"</DiagGMM> ");
+}
+
+// Of what the checks have seen it asks what it needs; a type of parameters that were judged is no plainer for the one call.
+#[tactic(auto, unfolding(crate::specs::Written::extractor_bytes))]
+fn extractor<W: Real>(w: &mut Writer<'_>, p: &LentParams<'_, W>)
+    requires feat { p.now.sizes.feat_dim ≤ 64 }
+    requires ivector { p.now.sizes.ivector_dim ≤ 128 }
+    requires m { length p.now.m.now ≡ p.now.sizes.ext_gauss * (p.now.sizes.feat_dim * p.now.sizes.ivector_dim) }
+    requires sigma_inv { length p.now.sigma_inv.now ≡ p.now.sizes.ext_gauss * triangle p.now.sizes.feat_dim }
+    requires room { HasRoom (extractor_bytes W.format (params_in W.float p.now)) w.old }
+    ensures { Wrote (extractor_bytes W.format (params_in W.float p.now)) w.old w.new }
+{
+    let z = p.sizes;
+    w.bytes(b"\0B<IvectorExtractor> <w> ");
+    matrix::<W>(w, 0, 0, &[]);
+    w.bytes(b"<w_vec> ");
+    vector::<W>(w, 0, &[]);
+    w.bytes(b"<M> ");
+    size(w, z.ext_gauss);
+    matrices(w, z.ext_gauss, z.feat_dim, z.ivector_dim, p.m);
+    w.bytes(b"<SigmaInv> ");
+    packeds(w, z.ext_gauss, z.feat_dim, p.sigma_inv);
+    w.bytes(b"<IvectorOffset> ");
+    w.bytes(&[W::BYTES as u8]);
+    number(w, p.prior_offset);
+    w.bytes(b"</IvectorExtractor> ");
+}
+
+#[tactic(auto, unfolding(crate::specs::Written::lda_bytes))]
+fn lda<W: Real>(w: &mut Writer<'_>, p: &LentParams<'_, W>)
+    requires { HasRoom (lda_bytes W.format (params_in W.float p.now)) w.old }
+    ensures { Wrote (lda_bytes W.format (params_in W.float p.now)) w.old w.new }
+{
+    w.bytes(b"\0B");
+    matrix(w, p.sizes.feat_dim, p.sizes.lda_cols, p.lda);
+}
+
+/// The GMM's, the extractor's and the LDA's file, one after the other, at the front of `out`; the answer has their lengths. A refusal writes nothing.
+pub fn write<W: KeepAs<f32>>(
+    opts: IvectorOptions,
+    cmvn: &[u8],
+    params: &LentParams<'_, W>,
+    out: &mut [u8],
+) -> Result<FileLengths, Refusal>
+    ensures answer { written_of result ≡ written W.format opts cmvn.now (params_in W.float params.now) (length out.old) }
+    ensures bytes { out.new ≡ written_out W.format opts cmvn.now (params_in W.float params.now) out.old }
+{
+    model_checks::check(opts, cmvn, params, out.len())?;
+    let mut files = Writer { out, at: 0 };
+    gmm(&mut files, params);
+    let gmm_end = files.at;
+    extractor(&mut files, params);
+    let extractor_end = files.at;
+    lda(&mut files, params);
+    Ok(FileLengths {
+        gmm: gmm_end,
+        extractor: extractor_end - gmm_end,
+        lda: files.at - extractor_end,
+    })
+}
