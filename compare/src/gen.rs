@@ -635,15 +635,15 @@ pub fn call_list(seed: u64, what: What) -> CallList {
         What::Forged => calls(&mut r, &mut s, false, true),
         What::Silence => silence(&mut r, &mut s),
         What::Long => long(&mut r, &mut s),
-        What::Nan => crate::requests_nan::nan(&mut r, &mut s),
+        What::Nan => crate::kinds::nan::nan(&mut r, &mut s),
         What::Big => big(&mut r, &mut s),
         What::Cuts => cuts(&mut r, &mut s),
-        What::Limit => crate::requests::limit(&mut r, &mut s),
-        What::Exact => crate::requests::exact(&mut r, &mut s),
+        What::Limit => crate::kinds::limit(&mut r, &mut s),
+        What::Exact => crate::kinds::exact(&mut r, &mut s),
         What::Registers => crate::registers::registers(&mut r, &mut s),
-        What::Floor => crate::requests_floor::floor(&mut r, &mut s),
-        What::Widths => crate::requests_widths::widths(&mut r, &mut s),
-        What::Window => crate::requests_window::window(&mut r, &mut s),
+        What::Floor => crate::kinds::floor::floor(&mut r, &mut s),
+        What::Widths => crate::kinds::widths::widths(&mut r, &mut s),
+        What::Window => crate::kinds::window::window(&mut r, &mut s),
         What::Trigger => crate::trigger::trigger(&mut r, &mut s),
     }
     s.cmds.push(Cmd::End);
@@ -1176,7 +1176,7 @@ pub fn damage_of(r: &mut Rng, out: &mut CallList, sp: Spec, percent: u64) {
                 }
                 let mut other = build(r, sp.opts, g, ge, d, s, base, false);
                 if percent > 0 {
-                    other = crate::requests_widths::mixed(r, &other, percent);
+                    other = crate::kinds::widths::mixed(r, &other, percent);
                 }
                 let touched = match k {
                     0 => d != sp.d || g != sp.g,

@@ -1,12 +1,8 @@
 //! The library against the machine and the original Rust. See README.md.
 pub mod gen;
+pub mod kinds;
 pub mod machine;
 pub mod registers;
-pub mod requests;
-pub mod requests_floor;
-pub mod requests_nan;
-pub mod requests_widths;
-pub mod requests_window;
 pub mod script;
 pub mod trigger;
 pub mod voice;

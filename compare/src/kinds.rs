@@ -1,7 +1,12 @@
-//! Call lists for the change requests: the edges that each of them moves.
+//! Kinds of call lists about one feature each. Here a list as it grows, and the kinds `limit` and `exact`.
 use crate::gen::{build, frame, give, rand_opts, CallList, Kind, Rng, Spec};
 use crate::machine::Stream;
 use crate::script::{Cmd, Runner};
+
+pub mod floor;
+pub mod nan;
+pub mod widths;
+pub mod window;
 
 /// A list as it grows, run along on the machine.
 pub(crate) struct Going<'a> {

@@ -1,6 +1,6 @@
 //! Call lists for request 8: changes and forgets around the floor.
 use crate::gen::{build, forge, frame, rand_opts, weight, CallList, Rng};
-use crate::requests::Going;
+use crate::kinds::Going;
 use crate::script::Cmd;
 
 pub fn floor(r: &mut Rng, out: &mut CallList) {
