@@ -3,8 +3,14 @@ use crate::gen::{build, frame, give, rand_opts, CallList, Kind, Rng, Spec};
 use crate::machine::Stream;
 use crate::script::{Cmd, Runner};
 
+pub mod big;
+pub mod calls;
+pub mod damage;
+pub mod edges;
 pub mod floor;
+pub mod long;
 pub mod nan;
+pub mod silence;
 pub mod widths;
 pub mod window;
 

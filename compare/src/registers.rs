@@ -1,5 +1,6 @@
 //! Request 11, a board with registers: one step over a block of sixteen bytes, on the machine, and lists of steps.
-use crate::gen::{build, forge, frame, give, spec, weight, CallList, Rng};
+use crate::gen::{build, frame, give, spec, weight, CallList, Rng};
+use crate::kinds::calls::forge;
 use crate::machine::{ev, Alter, Answer, Stream};
 use crate::script::{Cmd, Runner};
 

@@ -1,5 +1,6 @@
 //! Call lists for request 8: changes and forgets around the floor.
-use crate::gen::{build, forge, frame, rand_opts, weight, CallList, Rng};
+use crate::gen::{build, frame, rand_opts, weight, CallList, Rng};
+use crate::kinds::calls::forge;
 use crate::kinds::Going;
 use crate::script::Cmd;
 

@@ -1,5 +1,6 @@
 //! Call lists for request 5: models whose blocks have either width, damaged or cut, and a stream over them.
-use crate::gen::{build, cuts_of, damage_of, frame, give, spec, CallList, File, Kind, Rng, Spec};
+use crate::gen::{build, frame, give, spec, CallList, File, Kind, Rng, Spec};
+use crate::kinds::damage::{cuts_of, damage_of};
 use crate::machine::{Options, DEFAULT};
 use crate::script::Cmd;
 

@@ -1,7 +1,8 @@
 //! Call lists for request 12: new windows around forgets.
-use crate::gen::{build, forge, frame, rand_opts, weight, CallList, Rng};
-use crate::machine::Stream;
+use crate::gen::{build, frame, rand_opts, weight, CallList, Rng};
+use crate::kinds::calls::forge;
 use crate::kinds::Going;
+use crate::machine::Stream;
 use crate::script::Cmd;
 
 /// A window to ask for, with the edges of 31 and 32.
