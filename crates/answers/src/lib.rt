@@ -1,5 +1,5 @@
-// The answers of the exported calls as the records that C gets, each of these with what stands beside a refusal: what an inner call answers by a `Result`,
-// with the refusal's number and a record beside it. In a crate of their own, so that a check of them stays short.
+//! The records that C gets for a call's `Result`: beside a refusal's number stands a record that no
+//! call takes.
 #![tactic(auto)]
 
 ghost use Rattle.std.specs.Prelude.{◌≡◌};
@@ -10,7 +10,7 @@ use definition::{
     IvectorInfo, IvectorOptions, IvectorStream, Refusal, SilenceWeighting, StreamAnswer, StreamCall,
 };
 
-// The answer of a load: the record where the refusal is 0, else one that no fresh stream takes.
+/// The answer of a load: the model's record, or beside a refusal one that no fresh stream takes.
 #[repr(C)]
 #[derive(Clone, Copy, Debug, PartialEq)]
 pub struct LoadAnswer {
@@ -18,7 +18,8 @@ pub struct LoadAnswer {
     pub info: IvectorInfo,
 }
 
-// The answer where a silence table is made: the record where the refusal is 0, else one that every call refuses with 10.
+/// The answer of a new silence table: its record, or beside a refusal one that every call refuses
+/// with 10.
 #[repr(C)]
 #[derive(Clone, Copy, Debug, PartialEq)]
 pub struct NewTableAnswer {
@@ -28,7 +29,7 @@ pub struct NewTableAnswer {
 
 // ---- load
 
-// The record beside a refusal: it has no dimension.
+// The model's record beside a refusal: it has no dimension.
 fn no_info(opts: IvectorOptions) -> IvectorInfo
     ensures { result ≡ no_info opts }
 {
@@ -38,6 +39,7 @@ fn no_info(opts: IvectorOptions) -> IvectorInfo
     }
 }
 
+/// The record of a load with the options `opts`. A refusal is given by its number.
 #[tactic(auto, unfolding(crate::specs::Answers::load_answer))]
 pub fn load_answer(opts: IvectorOptions, a: Result<IvectorInfo, usize>) -> LoadAnswer
     ensures { result ≡ load_answer opts a }
@@ -53,7 +55,7 @@ pub fn load_answer(opts: IvectorOptions, a: Result<IvectorInfo, usize>) -> LoadA
 
 // ---- the maker's settings
 
-// The options beside a refusal: a load refuses them with 1.
+/// The options beside a refusal: a load refuses them with 1.
 pub fn no_options() -> IvectorOptions
     ensures { result ≡ no_options }
 {
@@ -62,7 +64,7 @@ pub fn no_options() -> IvectorOptions
 
 // ---- a fresh stream
 
-// The record beside a refusal: no room fits it.
+// The stream's record beside a refusal: no room fits it.
 #[tactic(auto, unfolding(program::specs::Calls::fresh_stream))]
 fn no_stream(info: IvectorInfo) -> IvectorStream
     ensures { result ≡ no_stream info }
@@ -75,6 +77,7 @@ fn no_stream(info: IvectorInfo) -> IvectorStream
     }
 }
 
+/// The record of a fresh stream on the model `info`. A refusal is given by its number.
 #[tactic(auto, unfolding(crate::specs::Answers::new_stream_answer))]
 pub fn stream_answer(info: IvectorInfo, a: Result<StreamCall, usize>) -> StreamCall
     ensures { result ≡ new_stream_answer info a }
@@ -93,7 +96,8 @@ pub fn stream_answer(info: IvectorInfo, a: Result<StreamCall, usize>) -> StreamC
 
 // ---- the silence table
 
-// Beside a refusal a record with no subsampling.
+/// The record of a new silence table. A refusal is given by its number; beside it stands a record
+/// with no subsampling.
 #[tactic(auto, unfolding(crate::specs::Answers::new_table_answer))]
 pub fn table_answer(a: Result<SilenceWeighting, usize>) -> NewTableAnswer
     ensures { result ≡ new_table_answer a }

@@ -1,5 +1,5 @@
--- Request 11, a board with registers: sixteen bytes between a host and a stream.
---   0 command   1 flags   2 mask   3 interrupt   4 to 7 frame number   8 to 11 frames held   12 refusal number   13 to 15 zero
+-- A board with registers: sixteen bytes between a host and a stream.
+--     0 command   1 flags   2 mask   3 interrupt   4 to 7 frame number   8 to 11 frames held   12 refusal number   13 to 15 zero
 use Rattle.std.specs.Prelude.{◌≡◌, ◌↔◌, ℕ, zero, suc, ◌+◌, ◌*◌, ◌/◌, ◌%◌, Bool, true, not, ◌&&◌, ◌||◌, List, [], ◌∷◌, ◌++◌, length, get_or, drop, replicate, eqb, Float, if◌then◌else◌, Ok}
 use Rattle.std.specs.Float.Ieee.Scale.{finite}
 use Rattle.loops.specs.Lists.{all_of, over}

@@ -1,4 +1,4 @@
--- What contracts of inner functions say; no reader needs it.
+-- Words of inner contracts.
 pub mod Inner
 -- register_bytes: a board with registers: its block, one step, and lists of steps. To be believed.
 pub mod Board

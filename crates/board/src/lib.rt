@@ -1,4 +1,4 @@
-// A stream behind a block of registers: one step a command.
+//! A stream behind a block of registers: one step for each command.
 #![tactic(auto)]
 
 pub mod register_bytes;

@@ -1,6 +1,5 @@
-//! The block of a board with registers, sixteen bytes: read, rewritten, and what it tells of a stream. In a crate of its own, below the step, so that
-//! a check of it stays short. What each byte is: specs/Board.antt. A block goes as a slice, as C lends it, and each function asks that it has sixteen
-//! bytes; a bit of it is a `bool`, as the definition has it: an enum of two would be translated back in each clause.
+//! The block of registers, sixteen bytes: what it asks for, what it says of the stream, and how a
+//! step rewrites it. specs/Board.antt says what each byte is.
 
 ghost use Rattle.std.specs.Prelude.{◌≡◌, ◌&&◌, ◌||◌, ◌/◌, ◌<◌, nat_eq, length};
 ghost use Rattle.program.specs.Lent.{rings_in};
@@ -12,8 +11,7 @@ use stream::ivector_stream;
 
 // ---- what a block asks for
 
-/// What byte 0 of a block asks for. A byte that is no command's asks for nothing. (With a value of its own for that: by an `Option` the match of a step
-/// is no plainer, since it has as many arms, each but one in a `Some`.)
+/// What byte 0 of a block asks for. A byte that is no command's asks for nothing.
 #[derive(Clone, Copy, Debug, PartialEq, Eq)]
 pub enum Command {
     Push,
@@ -38,7 +36,7 @@ impl From<u8> for Command {
     }
 }
 
-/// The frame number of a block.
+/// The frame number of a block: bytes 4 to 7, the lowest first.
 #[tactic(auto, unfolding(definition::specs::Reader::little_endian))]
 pub fn frame_number(block: &[u8]) -> usize
     requires { length block.now ≡ 16 }
@@ -49,14 +47,14 @@ pub fn frame_number(block: &[u8]) -> usize
 
 // ---- what a block tells
 
-// Whether bit 0 is 1 in both bytes: no comparison of the two, and plainer with a name than three times over.
+// Whether bit 0 is 1 in both bytes.
 fn both_odd(a: u8, b: u8) -> bool
     ensures { result ≡ (odd a && odd b) }
 {
     a % 2 == 1 && b % 2 == 1
 }
 
-// Byte 3.
+// Byte 3: 1 where a flag and its mask bit are both 1.
 #[tactic(auto, unfolding(crate::specs::Board::interrupt_of))]
 fn interrupt(flags: u8, mask: u8) -> u8
     ensures { result ≡ interrupt_of flags mask }
@@ -66,7 +64,7 @@ fn interrupt(flags: u8, mask: u8) -> u8
     )
 }
 
-// Bits 0 and 1 after a command: whether it was a fetch, and its refusal number, as the definition has them.
+// Bits 0 and 1 after a command: a fetch that was taken; refused.
 #[tactic(auto, unfolding(crate::specs::Board::call_flags))]
 fn call_flags(fetch: bool, refusal: usize) -> u8
     ensures flags { result ≡ call_flags fetch refusal }
@@ -75,7 +73,7 @@ fn call_flags(fetch: bool, refusal: usize) -> u8
     if refusal == 0 { u8::from(fetch) } else { 2 }
 }
 
-// The bytes that a step rewrites. `room` is a bit of them, as the definition has it.
+// Rewrites the block. `low` is bits 0 and 1 of the flags, `room` bit 2, `number` byte 12.
 #[tactic(auto, unfolding(crate::specs::Board::rewritten, crate::specs::Board::bytes_of))]
 fn rewrite(block: &mut [u8], low: u8, number: u8, held: usize, room: bool)
     requires long { length block.old ≡ 16 }
@@ -95,7 +93,7 @@ fn rewrite(block: &mut [u8], low: u8, number: u8, held: usize, room: bool)
 
 // ---- what a stream tells
 
-// Whether no push is taken for want of numbers or room, a being what a finish answers.
+// Whether every push is refused for want of numbers or room; `a` is the answer of a finish.
 fn is_full(s: &IvectorStream, a: StreamAnswer) -> bool
     requires some_base { 0 < s.now.info.dims.base_dim }
     ensures { (
@@ -108,14 +106,13 @@ fn is_full(s: &IvectorStream, a: StreamAnswer) -> bool
     s.accepted == 1000000000 || a.frames_held == own.frames / dim || a.rows_held == own.rows / dim
 }
 
-// How many frames are held, and whether there is room for a push. A finish judges the record and counts what is held. It is given a copy of the
-// record, so nothing is finished.
+// How many frames are held, and whether there is room for a push. A finish on a copy of the record
+// tells both; nothing is finished.
 fn push_room(s: &IvectorStream, frames: LentFrames<'_>, waiting: LentWaiting<'_>) -> (usize, bool)
     ensures held { result.0 ≡ held_count s.now (rings_in frames.entry waiting.entry) }
     ensures room { result.1 ≡ room_for_push s.now (rings_in frames.entry waiting.entry) }
 {
     let a = ivector_stream::set_input_finished(*s, frames, waiting).answer;
-    // by number, as the answer has it for C
     if a.refusal != 0 {
         return (0, false);
     }
@@ -124,7 +121,8 @@ fn push_room(s: &IvectorStream, frames: LentFrames<'_>, waiting: LentWaiting<'_>
 
 // ---- the block after a step
 
-/// Rewrites the block of a stream as it stands, with bits 0 and 1 and byte 12.
+/// Rewrites the block by the stream as it stands. `low` is bits 0 and 1 of the flags, `number` byte
+/// 12.
 pub fn settle(
     s: &IvectorStream,
     low: u8,
@@ -143,8 +141,8 @@ pub fn settle(
     rewrite(block, low, number, held, room);
 }
 
-/// Rewrites the block after a command, s being the record that its call left and the number its refusal's: as C gets it, and byte 12 tells it. `fetch` is
-/// bit 0 of a command that is taken.
+/// Rewrites the block after a command that left the record `s` and was answered `refusal`. `fetch`
+/// is bit 0 of a command that is taken.
 pub fn told(
     fetch: bool,
     refusal: usize,

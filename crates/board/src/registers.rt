@@ -1,7 +1,6 @@
-//! A board with registers: one step over a block of sixteen bytes, beside the stream's record and rooms. The command in byte 0 is done as its
-//! plain call, then the block is rewritten. What each byte is: crates/board/specs/Board.antt. A block goes as a slice, as C lends it;
-//! that it has sixteen bytes, and that the lent slices stay the same ones, are clauses of each function here: the one is a test of the step, of the other
-//! the head of definition's `lent` says why.
+//! One step of a board with registers, over a block of sixteen bytes beside the stream's record and
+//! rooms. The command in byte 0 is done as its plain call; then the block is rewritten.
+//! specs/Board.antt says what each byte is.
 
 ghost use Rattle.std.specs.Prelude.{◌≡◌, ℕ, length};
 ghost use Rattle.definition.specs.Number.{refused_by};
@@ -57,9 +56,13 @@ fn ring_step(
     }
 }
 
-/// One step. The block, the frame to push and the buffer for the vector's bits are lent beside the stream's record, the model's tables and the
-/// rooms, each as C lends it or as a fetch takes it. A refused command is told in the block. The step itself is refused, `ForeignRecord`, where the block
-/// has not sixteen bytes: then nothing is written, and no command performed.
+/// One step: the command of `block` on the stream, then the block rewritten. `frame` is what a push
+/// takes, `out` where a fetch writes the bits of its vector. A command that is refused is told in
+/// the block, and the step is taken.
+///
+/// # Errors
+///
+/// `ForeignRecord` for a block that has not sixteen bytes: nothing is written, and no command done.
 pub fn step(
     s: &mut IvectorStream,
     block: &mut [u8],

@@ -1,4 +1,4 @@
--- The exported answers whose records the exported calls make themselves; the others are in the crate `answers`.
+-- The records of the settings and of calls on a silence table, which the exported calls make themselves; the others are in `answers`.
 use Rattle.definition.specs.declared.IvectorOptions.{IvectorOptions}
 use Rattle.definition.specs.declared.SilenceAnswer.{SilenceAnswer}
 use Rattle.definition.specs.declared.SilenceWeighting.{SilenceWeighting}

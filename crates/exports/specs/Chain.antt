@@ -89,7 +89,7 @@ ChainFromBytes =
 abbrev pub ChainExists : Type 0
 ChainExists = (t : Tables) (n : ℕ) (s : IvectorStream) (z : Rooms) (cs : List Call) → (as' : List Answer) × Run t n s z cs as'
 
--- request 8: whatever the record and the rings are, what a change by the exported call answers is not 18
+-- whatever the record and the rings are, what a change by the exported call answers is not 18
 abbrev pub ChangeNever18 : Type 0
 ChangeNever18 =
     (s s' : IvectorStream) (z r : Rings) (fs : List ℕ) (ws : List Float) (a : StreamAnswer)

@@ -1,9 +1,10 @@
-// The library that Rust and C link: each call of the product under a plain name, every slice as a pointer and a length. A call's contract
-// is the plain call's. A record stays where the host keeps it: a call on it takes it behind a reference and stores the numbers that can
-// change, and its contract says the whole record at exit. Enums stay inside: an answer is a record with the refusal's number. C lends each slice on its own:
-// so they are arguments of each of these calls, however many, with counts beside them where C gives one, and its clause puts them together as the plain call's
-// struct does. C knows no type parameters: a call for f32 and one for f64 are two.
-// The C side is include/shofrakin.h.
+//! The C interface: each call of the product under a plain name. include/shofrakin.h is its C side.
+//!
+//! A slice is a pointer and a length in C, so each one is an argument. A record stays with the
+//! host: a call takes it behind a reference and stores the numbers that change. An answer is a
+//! record with the refusal's number, 0 where the call was taken; a refused call changes nothing,
+//! but a round keeps the steps before the refused one. Letters for lengths: g and e Gaussians of
+//! the GMM and of the extractor, d features, s the i-vector dimension, b the base dimension.
 #![tactic(auto)]
 
 ghost use Rattle.std.specs.Prelude.{◌≡◌, false, [], ℕ, length};
@@ -43,7 +44,7 @@ use stream::{ivector_fetch, ivector_stream};
 use writer::model_bytes::{LentParams, ModelSizes, WrittenAnswer};
 use writer::model_writer;
 
-// The answer of a call on a silence table: the refusal, and how many changes it gives.
+/// The answer of a call on a silence table: the refusal, and how many changes it gives.
 #[repr(C)]
 #[derive(Clone, Copy)]
 pub struct SilenceCounts {
@@ -51,7 +52,7 @@ pub struct SilenceCounts {
     pub changes: usize,
 }
 
-// The answer of a step over registers: 0, or 10 for a block that has not sixteen bytes.
+/// The answer of a step over registers: 0, or 10 for a block that has not sixteen bytes.
 #[repr(C)]
 #[derive(Clone, Copy)]
 pub struct StepAnswer {
@@ -60,7 +61,9 @@ pub struct StepAnswer {
 
 // ---- load
 
-// `ivector_info::load`.
+/// Loads a model from the bytes of its four files into eight tables. With k = b (left + 1 + right)
+/// the tables keep g, d g, d g, e d s, e s (s + 1) / 2, k d, d and b + 1 numbers, and scratch d (d
+/// + 1) / 2 + d s; longer ones are taken. Refuses with 1 to 8. See [`ivector_info::load`].
 #[unsafe(no_mangle)]
 pub extern "C" fn shofrakin_load(
     opts: IvectorOptions,
@@ -108,7 +111,7 @@ pub extern "C" fn shofrakin_load(
 
 // ---- the maker's settings
 
-// The answer of the settings: the options where the refusal is 0, else ones that a load refuses with 1.
+/// The answer of the settings: the options, or beside a refusal ones that a load refuses with 1.
 #[repr(C)]
 #[derive(Clone, Copy)]
 pub struct SettingsAnswer {
@@ -116,7 +119,9 @@ pub struct SettingsAnswer {
     pub opts: IvectorOptions,
 }
 
-// `settings::read_settings`.
+/// The options from the texts of splice.conf and online_cmvn.conf. An option outside its range is
+/// given as it is read. Refuses with 25: a text above 65,536 bytes, or a byte above 127. See
+/// [`settings::read_settings`].
 #[unsafe(no_mangle)]
 #[tactic(auto, unfolding(crate::specs::Answers::settings_answer))]
 pub extern "C" fn shofrakin_settings(splice: &[u8], online_cmvn: &[u8]) -> SettingsAnswer
@@ -131,7 +136,8 @@ pub extern "C" fn shofrakin_settings(splice: &[u8], online_cmvn: &[u8]) -> Setti
     }
 }
 
-// The options from the two settings texts, then `ivector_info::load` with them.
+/// The options from the two settings texts, then a load with them. Refuses with 25, then with 1 to
+/// 8.
 #[unsafe(no_mangle)]
 pub extern "C" fn shofrakin_load_with_settings(
     splice: &[u8],
@@ -161,7 +167,7 @@ pub extern "C" fn shofrakin_load_with_settings(
         u.new lda_t.new lda_offset.new global_mean_stats.new ≡ loaded_tables got t)
         × scratch_kept got scratch.old scratch.new) }
 {
-    // by number, as C gets it: this call is the two exported ones, one after the other
+    // the two exported calls, one after the other
     let a = shofrakin_settings(splice, online_cmvn);
     let opts = a.opts;
     if a.refusal != 0 {
@@ -187,7 +193,8 @@ pub extern "C" fn shofrakin_load_with_settings(
 
 // ---- how much memory
 
-// `memory::model_dimensions`.
+/// The dimensions of the model in four files, as a load judges them. Nothing is written. Refuses
+/// with 1 to 7. See [`memory::model_dimensions`].
 #[unsafe(no_mangle)]
 pub extern "C" fn shofrakin_model_dimensions(
     opts: IvectorOptions,
@@ -201,7 +208,8 @@ pub extern "C" fn shofrakin_model_dimensions(
     memory::model_dimensions(opts, gmm, extractor, lda, cmvn)
 }
 
-// `memory::tables_needed`.
+/// How many numbers each table of a model keeps, and a load's scratch: no shorter one is taken.
+/// Refuses with 1, 4 and 5. See [`memory::tables_needed`].
 #[unsafe(no_mangle)]
 pub extern "C" fn shofrakin_tables_needed(opts: IvectorOptions, dims: Dimensions) -> TablesAnswer
     ensures { result ≡ tables_needed opts dims }
@@ -209,7 +217,8 @@ pub extern "C" fn shofrakin_tables_needed(opts: IvectorOptions, dims: Dimensions
     memory::tables_needed(opts, dims)
 }
 
-// `memory::rooms_needed`.
+/// How many numbers each room of a stream has that holds so many frames, prefix rows and waiting
+/// changes. Refuses with 4 and 8. See [`memory::rooms_needed`].
 #[unsafe(no_mangle)]
 pub extern "C" fn shofrakin_rooms_needed(
     dims: Dimensions,
@@ -224,7 +233,10 @@ pub extern "C" fn shofrakin_rooms_needed(
 
 // ---- a fresh stream
 
-// `ivector_stream::new`.
+/// A fresh stream on a loaded model. Its rooms: F frames of b numbers, R prefix rows of b numbers
+/// (R above 1), two lists for the waiting changes, then b + 1, s, s (s + 1) / 2 and s numbers;
+/// scratch is the larger of g d and s s. Longer ones are taken. Refuses with 10 and 8. See
+/// [`ivector_stream::new`].
 #[unsafe(no_mangle)]
 pub extern "C" fn shofrakin_new_stream(
     info: IvectorInfo,
@@ -282,7 +294,7 @@ pub extern "C" fn shofrakin_new_stream(
 
 // ---- calls on a stream
 
-// `ivector_stream::push_frame`.
+/// Appends a frame of b finite numbers. Refuses with 10 to 15. See [`ivector_stream::push_frame`].
 #[unsafe(no_mangle)]
 pub extern "C" fn shofrakin_push_frame(
     s: &mut IvectorStream,
@@ -308,7 +320,8 @@ pub extern "C" fn shofrakin_push_frame(
     c.answer
 }
 
-// `ivector_stream::set_input_finished`.
+/// Ends the input: every accepted frame is ready. Refuses with 10. See
+/// [`ivector_stream::set_input_finished`].
 #[unsafe(no_mangle)]
 pub extern "C" fn shofrakin_set_input_finished(
     s: &mut IvectorStream,
@@ -333,7 +346,8 @@ pub extern "C" fn shofrakin_set_input_finished(
     c.answer
 }
 
-// `ivector_stream::update_frame_weights`.
+/// Changes the weights of frames, at most 384 in one call. From the first such call on, fetches are
+/// weighted. Refuses with 10, 16, 17, 30 and 19. See [`ivector_stream::update_frame_weights`].
 #[unsafe(no_mangle)]
 pub extern "C" fn shofrakin_update_frame_weights(
     s: &mut IvectorStream,
@@ -368,7 +382,8 @@ pub extern "C" fn shofrakin_update_frame_weights(
     c.answer
 }
 
-// `ivector_stream::forget_before`: an utterance begins at `frame`, and no weight change may name a frame before it from now on.
+/// Begins an utterance at `frame`: no change may name a frame before it from now on. Refuses with
+/// 10. See [`ivector_stream::forget_before`].
 #[unsafe(no_mangle)]
 pub extern "C" fn shofrakin_forget_before(
     s: &mut IvectorStream,
@@ -396,7 +411,8 @@ pub extern "C" fn shofrakin_forget_before(
     c.answer
 }
 
-// `ivector_stream::set_cmn_window`: the window of the fetches to come.
+/// Sets the CMVN window of the fetches to come, 1 to 1,000 frames. Refuses with 10, 31 and 32. See
+/// [`ivector_stream::set_cmn_window`].
 #[unsafe(no_mangle)]
 pub extern "C" fn shofrakin_set_cmn_window(
     s: &mut IvectorStream,
@@ -423,7 +439,8 @@ pub extern "C" fn shofrakin_set_cmn_window(
     c.answer
 }
 
-// `ivector_fetch::get_frame`.
+/// The vector at `frame` into `out`: the bits of s f32 numbers, a NaN as 7FC00000. Refuses with 10,
+/// 20, 21 and 22. See [`ivector_fetch::get_frame`].
 #[unsafe(no_mangle)]
 pub extern "C" fn shofrakin_get_frame(
     s: &mut IvectorStream,
@@ -498,7 +515,7 @@ pub extern "C" fn shofrakin_get_frame(
 
 // ---- questions
 
-// Frames that can be fetched.
+/// How many frames can be fetched.
 #[unsafe(no_mangle)]
 pub extern "C" fn shofrakin_num_frames_ready(s: &IvectorStream) -> usize
     ensures { result ≡ frames_ready s.now.info.opts s.now.input_finished s.now.accepted }
@@ -506,7 +523,7 @@ pub extern "C" fn shofrakin_num_frames_ready(s: &IvectorStream) -> usize
     ivector_stream::num_frames_ready(*s)
 }
 
-// The length of a fetch's output.
+/// The length of a fetch's output.
 #[unsafe(no_mangle)]
 pub extern "C" fn shofrakin_ivector_dim(s: &IvectorStream) -> usize
     ensures { result ≡ s.now.info.dims.ivector_dim }
@@ -514,7 +531,7 @@ pub extern "C" fn shofrakin_ivector_dim(s: &IvectorStream) -> usize
     ivector_stream::ivector_dim(*s)
 }
 
-// The first frame that is not in the statistics.
+/// The first frame that is not in the statistics.
 #[unsafe(no_mangle)]
 pub extern "C" fn shofrakin_num_frames_stats(s: &IvectorStream) -> usize
     ensures { result ≡ s.now.num_frames_stats }
@@ -524,7 +541,8 @@ pub extern "C" fn shofrakin_num_frames_stats(s: &IvectorStream) -> usize
 
 // ---- the silence table
 
-// `silence_weighting::new`: a table of no frames yet, for rooms of `table` places each.
+/// A silence table without frames, for three slices of `table` places each. Refuses with 9. See
+/// [`silence_weighting::new`].
 #[unsafe(no_mangle)]
 pub extern "C" fn shofrakin_new_silence_weighting(
     silence_phones: &[i32],
@@ -538,7 +556,7 @@ pub extern "C" fn shofrakin_new_silence_weighting(
     NewTableAnswer::from(a)
 }
 
-// Whether the weighting changes anything.
+/// Whether the weighting changes anything: there are phones, and the weight is not 1.
 #[unsafe(no_mangle)]
 pub extern "C" fn shofrakin_silence_active(s: &SilenceWeighting) -> bool
     ensures { result ≡ active s.now }
@@ -546,7 +564,8 @@ pub extern "C" fn shofrakin_silence_active(s: &SilenceWeighting) -> bool
     silence_weighting::active(*s)
 }
 
-// `silence_weighting::compute_current_traceback`.
+/// Records which of the decoded frames are silence, from the best path's segments. Refuses with 10,
+/// 23 and 24. See [`silence_weighting::compute_current_traceback`].
 #[unsafe(no_mangle)]
 pub extern "C" fn shofrakin_compute_current_traceback(
     s: &mut SilenceWeighting,
@@ -589,7 +608,9 @@ pub extern "C" fn shofrakin_compute_current_traceback(
     }
 }
 
-// `silence_weighting::get_delta_weights`.
+/// The changes of weight up to `num_frames_ready`, by input frame, in the first places of the two
+/// lists. They are not given again. Refuses with 10, 23 and 24. See
+/// [`silence_weighting::get_delta_weights`].
 #[unsafe(no_mangle)]
 pub extern "C" fn shofrakin_get_delta_weights(
     s: &mut SilenceWeighting,
@@ -630,7 +651,8 @@ pub extern "C" fn shofrakin_get_delta_weights(
 
 // ---- whose voice it is
 
-// `nearest_voice::nearest_voice`, its answer as a record.
+/// The nearest of `count` enrolled vectors, where its squared distance is at most `limit`. Refuses
+/// with 27 to 29. See [`nearest_voice::nearest_voice`].
 #[unsafe(no_mangle)]
 pub extern "C" fn shofrakin_nearest_voice(
     dim: usize,
@@ -646,7 +668,8 @@ pub extern "C" fn shofrakin_nearest_voice(
 
 // ---- a board with registers
 
-// `registers::step`.
+/// One step over a block of sixteen bytes. A command that is refused is told in the block alone.
+/// Refuses with 10 a block of another length. See [`registers::step`].
 #[unsafe(no_mangle)]
 pub extern "C" fn shofrakin_registers_step(
     s: &mut IvectorStream,
@@ -723,7 +746,9 @@ pub extern "C" fn shofrakin_registers_step(
 
 // ---- the trigger
 
-// `trigger::round`. The records are given and returned by value.
+/// The round of an utterance: forget, push, note, weigh, change, fetch, find. The two records are
+/// given and returned by value: go on with those in the answer, also after a refusal. See
+/// [`trigger::round`].
 #[unsafe(no_mangle)]
 pub extern "C" fn shofrakin_round(
     s: IvectorStream,
@@ -839,7 +864,8 @@ pub extern "C" fn shofrakin_round(
 
 // ---- a model written back
 
-// `model_writer::write` at f32, its answer as a record.
+/// Writes a model's three files to the front of `out`, all numbers as f32. Refuses with 1, 4 to 7,
+/// and 26 where `out` is shorter than the files. See [`model_writer::write`].
 #[unsafe(no_mangle)]
 pub extern "C" fn shofrakin_write_f32(
     opts: IvectorOptions,
@@ -872,7 +898,7 @@ pub extern "C" fn shofrakin_write_f32(
     WrittenAnswer::from(model_writer::write(opts, cmvn, &singles, out))
 }
 
-// `model_writer::write` at f64, its answer as a record.
+/// The same with all numbers as f64.
 #[unsafe(no_mangle)]
 pub extern "C" fn shofrakin_write_f64(
     opts: IvectorOptions,

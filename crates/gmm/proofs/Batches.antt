@@ -12,7 +12,7 @@ use Rattle.definition.specs.Posteriors.{Post, select_posteriors, nan_count, post
 use Rattle.definition.specs.Statistics.{Entry, seen}
 use Rattle.gmm.specs.Inner.Leading.{held}
 use Rattle.gmm.proofs.Rooms.{held_none, held_build}
-use Rattle.gmm.specs.Batch.{entry_of, scaled_entry, Slots, Sums}
+use Rattle.gmm.specs.Batch.{entry_of, scaled_entry, Sums}
 
 -- ---- for callers
 
@@ -20,16 +20,6 @@ use Rattle.gmm.specs.Batch.{entry_of, scaled_entry, Slots, Sums}
 pub sums_none : (d : ℕ) (gs : List ℕ) (tot sum : List Float) → Sums d [] 0 gs tot sum
 unfolding seen
 sums_none d gs tot sum = record { in_order = refl; weight_is = λ k l. absurd (not-suc-le-zero l); features_are = λ a p k l. absurd (not-suc-le-zero l) }
-
-pub slots_none : (n d : ℕ) (gs : List ℕ) (tot sum : List Float) → n ≤ length gs → n ≤ length tot → n * d ≤ length sum → Slots n d 0 gs tot sum
-slots_none n d gs tot sum p q r =
-    record {
-      seen_long = p;
-      tot_long = q;
-      sum_long = r;
-      room = omega arith;
-      fair = record { below = λ k l. absurd (not-suc-le-zero l); once = λ j k s l. absurd (not-suc-le-zero l) };
-    }
 
 -- the same entries, said otherwise
 pub sums_on : {d m : ℕ} {es es' : List Entry} {gs : List ℕ} {tot sum : List Float} → es ≡ es' → Sums d es m gs tot sum → Sums d es' m gs tot sum

@@ -1,8 +1,8 @@
--- What contracts of inner functions say; no reader needs it.
+-- Words of inner contracts.
 pub mod Inner
--- table_sums: what a row of a table is times.
+-- table_sums: what a closure gives of a number, and a row of a table.
 pub mod Factor
--- diag_gmm: what the contracts of this crate need besides the definition.
+-- diag_gmm: the lengths of the tables.
 pub mod Fits
--- batch_sums: what the contracts of this crate need besides the definition.
+-- batch_sums: the sums of a batch in their slots.
 pub mod Batch

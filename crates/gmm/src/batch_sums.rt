@@ -1,6 +1,5 @@
-// The running sums of a batch: each frame's posteriors, once weighed, go to the slots of their Gaussians. The slots lie in lent rooms. That these are the same
-// ones afterwards is the clause `SameSums` of each function that writes them: in the struct's type it would be no plainer, since a ghost field beside a `&mut` is
-// not covered. How many numbers d a Gaussian's features have goes beside each slice: as a field of the sums it would be no plainer, since each clause had to keep it.
+//! The running sums of a batch: each frame's posteriors, once weighed, are added to the slots of
+//! their Gaussians. The slots lie in lent slices.
 
 ghost use Rattle.std.specs.Prelude.{◌≡◌, ℕ, ◌+◌, ◌*◌, ◌<◌, ◌≤◌, List, [], ◌∷◌, ◌++◌, map, length, replicate, ◌≢◌, slice_index, slice_set, Float};
 ghost use Rattle.loops.specs.Lists.{build};
@@ -20,23 +19,28 @@ use crate::leading::Chosen;
 use crate::posteriors;
 use definition::FrameWeight;
 
-/// The running sums of a batch: the Gaussians in the order first seen, `count` of them so far, and the weight and the weighted features of each.
+/// The running sums of a batch. The first `count` slots are in use, one for each Gaussian in the
+/// order first seen.
 #[derive(Drop)]
 pub struct RunningSums<'a> {
     pub count: usize,
+    /// The Gaussian of each slot.
     pub seen: &'a mut [usize],
+    /// The weight of each slot.
     pub tot: &'a mut [f64],
+    /// The weighted features of each slot, one row of `d` numbers after the other.
     pub sum: &'a mut [f64],
 }
 
-/// A frame's features: its posteriors are by the normalised ones, its part of the sums is by the raw ones.
+/// A frame's features, `d` numbers each: posteriors are computed from the normalised ones, sums
+/// from the raw ones.
 #[derive(Clone, Copy)]
 pub struct LentFeatures<'a> {
     pub normalized: &'a [f32],
     pub raw: &'a [f32],
 }
 
-// The slot of Gaussian g among those taken; how many are taken where it has none.
+// The slot of Gaussian g, or `count` where it has none.
 fn slot(g: usize, sums: &RunningSums<'_>) -> usize
     requires { sums.now.count ≤ length sums.now.seen.now }
     ensures most { result ≤ sums.now.count }
@@ -47,7 +51,7 @@ fn slot(g: usize, sums: &RunningSums<'_>) -> usize
     sums.seen[..m].iter().position(|s| *s == g).unwrap_or(m)
 }
 
-// The features x times w, added to a row. By index: of what a loop over `iter_mut().zip` writes, an invariant names no element (tried).
+// Adds w times the features x to a row. By index (limit: zip).
 #[tactic(auto, using(loops::proofs::Loop::loops))]
 fn add_features(w: f64, x: &[f32], row: &mut [f64])
     requires { length row.old ≤ length x.now }
@@ -58,7 +62,7 @@ fn add_features(w: f64, x: &[f32], row: &mut [f64])
     }
 }
 
-// The next slot, for the Gaussian g, with nothing in it yet.
+// Opens the next slot, for Gaussian g, with no weight yet.
 fn begin(g: usize, d: usize, sums: &mut RunningSums<'_>)
     requires { (sums.old.count < length sums.old.seen.now) × (sums.old.count < length sums.old.tot.now) × (sums.old.count * d + d ≤ length sums.old.sum.now) }
     ensures count { sums.new.count ≡ sums.old.count + 1 }
@@ -76,7 +80,7 @@ fn begin(g: usize, d: usize, sums: &mut RunningSums<'_>)
     sums.count = k + 1;
 }
 
-// The weight w and the features x times w go to slot k.
+// Adds the weight w, and w times the features x, to slot k.
 fn give(k: usize, w: f64, x: &[f32], d: usize, sums: &mut RunningSums<'_>)
     requires { (k < length sums.old.tot.now) × (d ≤ length x.now) × (k * d + d ≤ length sums.old.sum.now) }
     ensures count { sums.new.count ≡ sums.old.count }
@@ -91,7 +95,8 @@ fn give(k: usize, w: f64, x: &[f32], d: usize, sums: &mut RunningSums<'_>)
     add_features(w, x, &mut sums.sum[start..end]);
 }
 
-// A posterior w of Gaussian g at a frame of raw features x goes to the Gaussian's slot: a new one where it was not seen.
+// Adds a posterior w of Gaussian g, at a frame of raw features x, to the Gaussian's slot. A
+// Gaussian not seen before gets the next slot.
 fn enter(g: usize, w: f64, x: &[f32], d: usize, num_gauss: usize, sums: &mut RunningSums<'_>)
     requires below { g < num_gauss }
     requires x_long { d ≤ length x.now }
@@ -109,8 +114,8 @@ fn enter(g: usize, w: f64, x: &[f32], d: usize, num_gauss: usize, sums: &mut Run
     give(m, w, x, d, sums);
 }
 
-// The first n chosen posteriors of a frame, each times scale, go to their Gaussians' slots, with the frame's raw features. n goes beside the rooms of the
-// chosen, which have more places than are in use.
+// Adds the first n chosen posteriors of a frame, each times `scale`, to their Gaussians' slots.
+// `chosen` has more places than are in use.
 fn acc_posteriors(
     n: usize,
     scale: f32,
@@ -127,15 +132,16 @@ fn acc_posteriors(
     ensures grown { Grown num_gauss d (map (scaled_entry scale raw.now) (held n chosen.now.gauss.now chosen.now.posts.now)) sums.old sums.new }
     ensures loans { SameSums sums.old sums.new }
 {
-    // By index: a posterior stands in two lists.
+    // by index: a posterior stands in two lists
     for i in 0..n {
         let w = std::num::f32_to_f64_with_nan(chosen.posts[i] * scale);
         enter(chosen.gauss[i], w, raw, d, num_gauss, sums);
     }
 }
 
-// A frame of the batch goes into the running sums. A skipped one adds nothing, and its likelihoods are not asked for; ln: the logarithm of its floor.
-// The rooms are scratch, a number for each Gaussian: they are lent, so that a batch clears them once. The answer: how many of its likelihoods were NaN.
+/// Adds a frame of the batch to the running sums, and returns how many of its likelihoods were NaN.
+/// A skipped frame adds nothing and asks for no likelihood. `ln` is the logarithm of the weight's
+/// prune floor. `rooms` is scratch, one number for each Gaussian.
 pub fn acc_frame(
     gmm: DiagGmm<'_>,
     num_gselect: usize,

@@ -1,4 +1,5 @@
-// The Gaussians of a model: likelihoods of a frame, the leading posteriors, and the sums of a batch over them.
+//! The Gaussians of a model: likelihoods of a frame, the leading posteriors, and the sums of a
+//! batch over them.
 #![tactic(auto)]
 
 pub mod batch_sums;

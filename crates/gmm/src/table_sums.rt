@@ -1,16 +1,13 @@
-// Sums over the rows of a table, each row times a number. Each column's sum goes in the order of the rows. A pass over the sums takes as
-// many rows as are left, at most four, so that the sums are read and written a quarter as often: of a large fetch that took 75,608,238 instructions down
-// to 65,881,709. There is a function for each number of rows, since the check does not cover an array of K rows with K a const parameter; and each goes
-// by index, since through `iter_mut().zip(..)` a proof knows no element of the sums. That each row is as long as the sums stands in each of their contracts:
-// they are plain slices, and a word for it would be no shorter. A row and its number are two arguments: a struct of the two would be made at each row for these
-// functions alone.
+//! Sums over the rows of a table, each row times a number, in the order of the rows. A pass takes
+//! up to four rows, so that the sums are read and written a quarter as often. There is a function
+//! for each number of rows (limit: const array). Each goes by index (limit: zip).
 
 ghost use Rattle.std.specs.Prelude.{◌≡◌, ◌+◌, ◌*◌, ◌<◌, ◌≤◌, length, Float};
 ghost use Rattle.loops.specs.Inner.{fill, from};
 ghost use Rattle.floats.specs.Operators.{◌+₃₂◌, ◌*₃₂◌, at, sum₃₂};
 ghost use Rattle.gmm.specs.Factor.{Gives, row};
 
-// A row times v.
+// Adds a row times v.
 #[tactic(auto, using(loops::proofs::Fill::fills))]
 fn add_one(row: &[f32], v: f32, sum: &mut [f32])
     requires { length row.now ≡ length sum.old }
@@ -21,7 +18,7 @@ fn add_one(row: &[f32], v: f32, sum: &mut [f32])
     }
 }
 
-// Two rows, each times its number, one after the other.
+// Adds two rows, each times its number, one after the other.
 #[tactic(auto, using(loops::proofs::Fill::fills))]
 fn add_two(r0: &[f32], r1: &[f32], v0: f32, v1: f32, sum: &mut [f32])
     requires { (length r0.now ≡ length sum.old) × (length r1.now ≡ length sum.old) }
@@ -32,7 +29,7 @@ fn add_two(r0: &[f32], r1: &[f32], v0: f32, v1: f32, sum: &mut [f32])
     }
 }
 
-// Three.
+// Adds three.
 #[tactic(auto, using(loops::proofs::Fill::fills))]
 fn add_three(r0: &[f32], r1: &[f32], r2: &[f32], v0: f32, v1: f32, v2: f32, sum: &mut [f32])
     requires { (length r0.now ≡ length sum.old) × (length r1.now ≡ length sum.old) × (length r2.now ≡ length sum.old) }
@@ -43,7 +40,7 @@ fn add_three(r0: &[f32], r1: &[f32], r2: &[f32], v0: f32, v1: f32, v2: f32, sum:
     }
 }
 
-// Four.
+// Adds four.
 #[tactic(auto, using(loops::proofs::Fill::fills))]
 fn add_four(
     r0: &[f32],
@@ -64,7 +61,8 @@ fn add_four(
     }
 }
 
-// Row k of a table of rows of n numbers. Cut out by hand: `chunks_exact` refuses rows of no numbers.
+// Row k of a table whose rows have n numbers. Cut by hand: n may be 0, which `chunks_exact`
+// refuses.
 fn row_at(table: &[f32], n: usize, k: usize) -> &[f32]
     requires { k * n + n ≤ length table.now }
     ensures { (result.now ≡ row n table.now k) × (length result.now ≡ n) }
@@ -74,7 +72,8 @@ fn row_at(table: &[f32], n: usize, k: usize) -> &[f32]
     &table[start..end]
 }
 
-// The next rows from row k on, each times what `times` makes of its number: as many as are left, at most four; and where it stops.
+// Adds the next rows from row k on, at most four, each times what `times` makes of its number. It
+// returns the row where it stops.
 fn add_next<F: Fn(f32) -> f32>(
     table: &[f32],
     x: &[f32],
@@ -118,7 +117,8 @@ fn add_next<F: Fn(f32) -> f32>(
     k + 4
 }
 
-// The first d rows, row k times what `times` makes of x[k].
+/// Adds the first `d` rows of `table` to `sum`: row `k` times what `times` makes of `x[k]`. Each
+/// row is as long as `sum`.
 pub fn add_rows<F: Fn(f32) -> f32>(table: &[f32], x: &[f32], times: F, d: usize, sum: &mut [f32])
     requires callable { F.IsAlwaysCallable times }
     requires in_table { d * length sum.old ≤ length table.now }
@@ -126,7 +126,7 @@ pub fn add_rows<F: Fn(f32) -> f32>(table: &[f32], x: &[f32], times: F, d: usize,
     ensures { (f : Float → Float) → Gives (F.post times) f
         → sum.new ≡ fill (length sum.old) (λ m. sum₃₂ (at sum.old m) d (λ k. at table.now (k * length sum.old + m) *₃₂ f (at x.now k))) sum.old }
 {
-    // no `for`: a pass takes as many rows as are left, at most four
+    // no for: a pass takes up to four rows
     let mut k = 0;
     while k < d {
         k = add_next(table, x, &times, k, d, sum);

@@ -1,4 +1,4 @@
--- What the functions leave in their rooms. Not for readers.
+-- Words of inner contracts: the two terms after some slots.
 use Rattle.std.specs.Prelude.{ℕ, ◌+◌, ◌*◌, List, get_or, Float}
 use Rattle.loops.specs.Lists.{build}
 use Rattle.floats.specs.Operators.{◌*₆₄◌, zero₆₄, at, sum₆₄}

@@ -1,3 +1,3 @@
--- What the contracts of this crate need besides the definition.
+-- Words of contracts: the terms after some slots, and the statistics in their slices.
 pub mod Inner
 pub mod Rooms

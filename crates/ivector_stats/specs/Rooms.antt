@@ -1,4 +1,4 @@
--- The statistics in their rooms.
+-- The statistics in their slices.
 use Rattle.std.specs.Prelude.{◌≡◌, ℕ, length}
 use Rattle.definition.specs.Kaldi.{triangle}
 use Rattle.definition.specs.Statistics.{Stats}

@@ -1,5 +1,6 @@
-// `OnlineIvectorStats`: the statistics of an i-vector, and its solve. The numbers lie in lent rooms. That these are the same ones afterwards is the clause
-// `SameStats` of each function that writes them: in the struct's type it would be no plainer, since a ghost field beside a `&mut` is not covered.
+//! The statistics of a speaker's i-vector: the linear and the quadratic term that frames add to,
+//! and the solve for the vector. The quadratic term is a packed symmetric matrix. All numbers lie
+//! in lent slices.
 #![tactic(auto)]
 
 ghost use Rattle.std.specs.Prelude.{◌≡◌, List, ◌+◌, ◌*◌, ◌<◌, ◌≤◌, length, set, if◌then◌else◌};
@@ -20,15 +21,18 @@ use algebra::packed_matrix::{self, Symmetric, weighted_rows};
 use definition::IvectorInfo;
 use gmm::batch_sums::RunningSums;
 
-/// The statistics of a speaker: how many frames went in, and their two terms.
+/// The statistics of a speaker, to be written into. `s` is the i-vector dimension.
 #[derive(Drop)]
 pub struct Statistics<'a> {
+    /// The total weight of the frames added.
     pub num_frames: f64,
+    /// `s` numbers.
     pub linear: &'a mut [f64],
+    /// `s * (s + 1) / 2` numbers: the rows of the lower triangle, one after the other.
     pub quadratic: &'a mut [f64],
 }
 
-/// The same, to be read.
+/// [`Statistics`], to be read.
 #[derive(Clone, Copy)]
 pub struct LentStatistics<'a> {
     pub num_frames: f64,
@@ -37,7 +41,7 @@ pub struct LentStatistics<'a> {
 }
 
 impl Statistics<'_> {
-    /// The statistics, to be read.
+    /// The same numbers, to be read.
     pub fn lent(&self) -> LentStatistics<'_>
         ensures num_frames { result.num_frames ≡ self.now.num_frames }
         ensures linear { result.linear.now ≡ self.now.linear.now }
@@ -51,17 +55,21 @@ impl Statistics<'_> {
     }
 }
 
-/// A batch's running sums, to be read: how many Gaussians were seen, and the slots.
+/// The running sums of a batch, to be read. Slot `k` belongs to Gaussian `seen[k]`.
 #[derive(Clone, Copy)]
 pub struct LentSums<'a> {
+    /// The Gaussians seen so far: the slots in use.
     pub count: usize,
+    /// The Gaussian of each slot, in the order first seen.
     pub seen: &'a [usize],
+    /// The weight of each slot.
     pub tot: &'a [f64],
+    /// The weighted features of each slot, one row of `feat_dim` numbers after the other.
     pub sum: &'a [f64],
 }
 
 impl<'a> LentSums<'a> {
-    /// Those of these rooms.
+    /// Those of `sums`.
     pub fn of(sums: &'a RunningSums<'_>) -> LentSums<'a>
         ensures count { result.count ≡ sums.now.count }
         ensures seen { result.seen.now ≡ sums.now.seen.now }
@@ -77,7 +85,7 @@ impl<'a> LentSums<'a> {
     }
 }
 
-// v added to the diagonal of a packed matrix, s wide. By index: the places of the diagonal are reckoned.
+// Adds v to the diagonal of a packed matrix of s rows.
 #[tactic(auto, using(loops::proofs::Loop::loops), unfolding(definition::specs::Statistics::add_diagonal))]
 fn add_diagonal(s: usize, v: f64, quadratic: &mut [f64])
     requires { (s ≤ 128) × (length quadratic.old ≡ triangle s) }
@@ -89,8 +97,8 @@ fn add_diagonal(s: usize, v: f64, quadratic: &mut [f64])
     }
 }
 
-// The statistics before any frame: those of the prior. Their frame count is 0. Two slices and their
-// width: before this there are no statistics, and a struct made for the call would be no plainer.
+/// The statistics before any frame, which are the prior's: `linear` has `dim` numbers, `quadratic`
+/// `dim * (dim + 1) / 2`. Their frame count is 0.
 pub fn new(dim: usize, prior_offset: f64, linear: &mut [f64], quadratic: &mut [f64])
     requires { (0 < dim) × (dim ≤ 128) × (length linear.old ≡ dim) × (length quadratic.old ≡ triangle dim) }
     ensures { (linear.new ≡ (new_stats dim prior_offset).linear) × (quadratic.new ≡ (new_stats dim prior_offset).quadratic) }
@@ -101,7 +109,7 @@ pub fn new(dim: usize, prior_offset: f64, linear: &mut [f64], quadratic: &mut [f
     add_diagonal(dim, 1.0, quadratic);
 }
 
-// The prior as a vector. That it is dim long is a clause; without dim it would be no plainer, since the definition has it.
+/// The prior as a vector of `dim` numbers: `prior_offset`, then zeros.
 pub fn prior_vector(dim: usize, prior_offset: f64, ivector: &mut [f64])
     requires { (0 < dim) × (length ivector.old ≡ dim) }
     ensures { ivector.new ≡ prior_vector dim prior_offset }
@@ -110,7 +118,7 @@ pub fn prior_vector(dim: usize, prior_offset: f64, ivector: &mut [f64])
     ivector[0] = prior_offset;
 }
 
-// A row added to another. By index: of what a loop over `iter_mut().zip` writes, an invariant names no element (tried).
+// Adds a row to another. By index (limit: zip).
 #[tactic(auto, using(loops::proofs::Loop::loops))]
 fn add(row: &[f64], out: &mut [f64])
     requires { length row.now ≡ length out.old }
@@ -121,8 +129,8 @@ fn add(row: &[f64], out: &mut [f64])
     }
 }
 
-// What Gaussian g adds to the statistics by its weight w and its weighted features x. row is scratch. The Gaussian's parts of the tables are cut out: of
-// `chunks_exact(..).nth(g)` a part that is there would still be asked for, and it is no plainer.
+// What Gaussian g adds to the statistics, from its weight w and its weighted features x. `row` is
+// scratch, one number for each element of the i-vector.
 fn acc_gauss(
     g: usize,
     w: f64,
@@ -152,8 +160,8 @@ fn acc_gauss(
     add_scaled(w, &u[from..to], stats.quadratic);
 }
 
-// What the Gaussians seen add to the statistics' terms, in the order first seen; the answer is their weight. row is scratch. A slot's d features are a part of
-// the sums, by index: a slot stands in three lists.
+// What the Gaussians seen add to the two terms, in the order first seen. It returns their total
+// weight. `row` is scratch. By index: a slot stands in three lists.
 fn acc_batch(
     d: usize,
     sigma_inv_m: &[f64],
@@ -192,14 +200,14 @@ fn acc_batch(
     tot_weight
 }
 
-// What the prior is scaled by at a frame count: more than 1 past `max_count` frames.
+// The prior's scale at a frame count: above 1 once more than `max_count` frames are in.
 fn prior_scale(num_frames: f64, max_count: f64) -> f64
     ensures { result ≡ larger num_frames max_count /₆₄ max_count }
 {
     floats::max(num_frames, max_count) / max_count
 }
 
-// tot_weight more frames are counted, and the prior is scaled as the new count asks.
+// Counts `tot_weight` more frames, and scales the prior as the new count asks.
 fn rescale(
     dim: usize,
     prior_offset: f64,
@@ -226,7 +234,8 @@ fn rescale(
     }
 }
 
-// A batch's sums go into the statistics, per Gaussian over the batch.
+/// Adds a batch's sums to the statistics, one Gaussian after the other, and rescales the prior by
+/// the new frame count. `sigma_inv_m` and `u` are the model's tables.
 pub fn acc(
     info: IvectorInfo,
     sigma_inv_m: &[f64],
@@ -244,7 +253,7 @@ pub fn acc(
     ensures loans { SameStats stats.old stats.new }
 {
     let dim = info.dims.ivector_dim;
-    // as long as the largest vector, with no heap
+    // for the longest vector: there is no heap
     let mut row = [0.0f64; 128];
     let tot_weight = acc_batch(
         info.dims.feat_dim,
@@ -264,7 +273,7 @@ pub fn acc(
     );
 }
 
-// Element 0 raised to the prior where it is 0.
+// Element 0 becomes the prior where it is 0.
 fn raise(prior: f64, ivector: &mut [f64])
     requires { 0 < length ivector.old }
     ensures { ivector.new ≡ (if eq (at ivector.old 0) zero₆₄ then set ivector.old 0 prior else ivector.old) }
@@ -274,7 +283,9 @@ fn raise(prior: f64, ivector: &mut [f64])
     }
 }
 
-// The i-vector, from the current one: the prior where the frame count is not above 0.
+/// Solves for the i-vector in place: by conjugate gradient from the vector that `ivector` holds, or
+/// by Cholesky's factor where that fails. Where the frame count is not above 0 it is the prior.
+/// `scratch` has `s * s` numbers or more.
 pub fn get_ivector(
     info: IvectorInfo,
     stats: LentStatistics<'_>,

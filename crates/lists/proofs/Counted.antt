@@ -1,13 +1,12 @@
 -- One more at a place of the counts: what a step of a tally leaves, and that no count is above the number of steps.
 use mathlib.Core.Path.{◌≡◌, sym, ap, ◌∙◌}
 use mathlib.Core.List.{List}
-use Prim.Native.Nat.{ℕ, ◌+◌, ◌≤◌, max}
+use Prim.Native.Nat.{ℕ, ◌+◌, ◌≤◌}
 use native.Mathlib.Omega.{arith}
 use native.Mathlib.Decide.{dec_le, ℕ_discrete}
 use lib.ListN.{length, get_or, set, length-set}
 use lib.Seq.{get_or-set_same, get_or-set_other, set_out}
-use Rattle.definition.specs.declared.StreamAnswer.{StreamAnswer}
-use Rattle.lists.specs.Inner.TryNotes.{counted, tally, noted}
+use Rattle.lists.specs.Inner.TryNotes.{counted}
 
 pub counted-set : (l : List ℕ) (k : ℕ) {n : ℕ} → n ≡ get_or l k 0 + 1 → set l k n ≡ counted l k
 unfolding counted
@@ -37,7 +36,3 @@ counted-few l k i h j = go (ℕ_discrete j k)
     go : Dec (j ≡ k) → get_or (set l k (get_or l k 0 + 1)) j 0 ≤ i + 1
     go (yes e) = here e
     go (no n) = rw (get_or-set_other l k j (get_or l k 0 + 1) 0 n) (omega (arith, h j))
-
-pub noted_is : (c r : List ℕ) (m : ℕ) (a : StreamAnswer) {c' r' : List ℕ} {m' j k : ℕ} → c' ≡ counted c j → j ≡ k → r' ≡ counted r a.refusal → m' ≡ max m a.frames_held
-    → tally c' r' m' ≡ noted (tally c r m) k a
-noted_is c r m a e f g h = rw (e, f, g, h)

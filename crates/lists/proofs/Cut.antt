@@ -7,7 +7,7 @@ use native.Mathlib.Nat.{add-zero}
 use native.Mathlib.Omega.{arith}
 use native.Mathlib.Decide.{dec_le}
 use lib.ListN.{length, take, drop, length-append, length-drop, drop_of_length-le, take-append-drop}
-use lib.Seq.{length_front, take_all, drop-drop, drop-append-le}
+use lib.Seq.{take_all, drop-drop, drop-append-le}
 use Rattle.loops.specs.Lists.{over}
 use Rattle.loops.specs.Ring.{put}
 use Rattle.lists.specs.Listed.{part}
@@ -65,10 +65,3 @@ lent_back a k v outs {out} l e =
     (sym (drop-append-le (length v) lent (drop k (drop a outs)) few)
     ∙ ap (drop (length v)) (take-append-drop k (drop a outs))
     ∙ drop-drop (length v) a outs))
-
-pub lent-long : (a k : ℕ) (outs out : List ℕ) → length out ≡ length (take k (drop a outs)) → length (take a outs ++ (out ++ drop k (drop a outs))) ≡ length outs
-lent-long a k outs out l =
-    length-append (take a outs) (out ++ drop k (drop a outs))
-    ∙ ap (λ (n : ℕ). length (take a outs) + n) (length_front (drop a outs) out k l)
-    ∙ sym (length-append (take a outs) (drop a outs))
-    ∙ ap length (take-append-drop a outs)

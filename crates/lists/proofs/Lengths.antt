@@ -1,4 +1,4 @@
--- How long the two files are.
+-- How long the CMVN text is.
 use mathlib.Core.Path.{◌≡◌, refl}
 use mathlib.Core.List.{List, [], ◌∷◌, ◌++◌}
 use Prim.Native.Nat.{ℕ, ◌+◌, ◌*◌}
@@ -6,15 +6,11 @@ use native.Mathlib.Omega.{arith}
 use lib.ListN.{length, length-append}
 use Rattle.loops.specs.Lists.{flat}
 use Rattle.loops.proofs.Flat.{length_flat}
-use Rattle.lists.specs.Files.{lda_file, cmvn_file}
+use Rattle.lists.specs.Files.{cmvn_file}
 
 -- the same bytes n times
 pub long : (n : ℕ) (w : List ℕ) → length (flat n (λ i. w)) ≡ n * length w
 long n w = length_flat (length w) n (λ i. w) (λ k h. refl)
-
-pub length-lda_file : (dim : ℕ) → length (lda_file dim) ≡ 15 + dim * 4
-unfolding lda_file
-length-lda_file dim = omega (arith, long dim (0 ∷ 0 ∷ 128 ∷ 63 ∷ []))
 
 pub length-cmvn_file : (dim : ℕ) → length (cmvn_file dim) ≡ 11 + dim * 3 + dim * 3
 unfolding cmvn_file

@@ -21,7 +21,7 @@ pub mod Going
 pub mod Played
 pub mod Numbers
 pub mod Decoded
--- try_model: how long the files are; the CMVN text, read; that the model loads.
+-- try_model: how long the CMVN text is; the text, read; that the model loads.
 pub mod Lengths
 pub mod Sums
 pub mod Loads

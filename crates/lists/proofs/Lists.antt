@@ -167,9 +167,6 @@ module _ (kinds numbers lists : List ℕ) (samples : List Float) (t : Tables) (n
     pub same : rest t n numbers i p (drop i cs) o ≡ rest t n numbers 0 p₀ cs o₀
     pub there : program_after t n p (drop i cs) ≡ program_after t n p₀ cs
 
-  pub left_first : Left 0 p₀ o₀
-  left_first = record { same = refl; there = refl }
-
   module _ (i : ℕ) (p : Program) (o : Written) {k : CodedCall} {r : StreamCall} {y : Rooms} {outs' answers' : List ℕ} where
     -- a turn, over scratch and outputs that are as long as they were
     pub left_again : {m : ℕ} → Left i p o → i < length kinds → m ≡ n → length o.outs ≡ length o₀.outs → k ≡ coded_at kinds numbers i

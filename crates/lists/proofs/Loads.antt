@@ -1,5 +1,5 @@
--- P9's model loads with each base dimension: GMM and extractor are the same bytes for all, and compute; the LDA is read by the laws of written blocks, the CMVN text
--- by those of Sums.antt; the tables are as long as the base dimension says.
+-- The model of example P9 loads with each base dimension: GMM and extractor are the same bytes for all, and compute; the LDA is read by the laws of
+-- written blocks, the CMVN text by those of Sums.antt; the tables are as long as the base dimension says.
 use Rattle.std.specs.Prelude.{if◌then◌else◌}
 use mathlib.Core.Path.{◌≡◌, refl, sym, ap, ap₂, ◌∙◌, subst}
 use mathlib.Core.Bool.{Bool, true, false, not, ◌&&◌}

@@ -3,12 +3,12 @@
 use Rattle.std.specs.Prelude.{ℕ, Result, Ok, Err}
 use mathlib.Core.Path.{◌≡◌, sym, ap, ap₂, ◌∙◌}
 use mathlib.Core.List.{List}
-use Prim.Native.Nat.{ℕ, zero, suc, ◌*◌, ◌/◌, ◌≤◌, ◌<◌}
+use Prim.Native.Nat.{ℕ, zero, suc, ◌*◌, ◌/◌, ◌≤◌}
 use native.Mathlib.Nat.{div-mul-le_self, le_trans, mul-le-mul_right}
 use native.Mathlib.Omega.{arith}
-use borrow.Author.Tests.{lt-ltb, le-ltb, ltb-false}
+use borrow.Author.Tests.{ltb-false}
 use Rattle.loops.specs.Refusal.{taken}
-use Rattle.loops.proofs.Refusal.{taken_new, taken_old, first_is, first-none, none_first}
+use Rattle.loops.proofs.Refusal.{taken_new, taken_old, none_first}
 use Rattle.definition.specs.declared.IvectorInfo.{IvectorInfo}
 use Rattle.definition.specs.declared.StreamCall.{StreamCall}
 use Rattle.definition.specs.Model.{Tables, table_lengths_of, model_in}
@@ -28,18 +28,6 @@ rows_within : (k n l : ℕ) → n ≤ l / k → n * k ≤ l
 rows_within k n l h = le_trans (mul-le-mul_right k h) (div-mul-le_self l k)
 
 module _ (n a b : ℕ) where
-  pub list_1 : a / 4 < n → 99 ≡ list_refusal n a b
-  unfolding list_refusal
-  list_1 h = first_is 0 (list_tests n a b) (lt-ltb (a / 4) n h)
-
-  pub list_2 : n ≤ a / 4 → b / 5 < n → 99 ≡ list_refusal n a b
-  unfolding list_refusal
-  list_2 g h = first_is 1 (list_tests n a b) (le-ltb (a / 4) n g, lt-ltb (b / 5) n h)
-
-  pub list_0 : n ≤ a / 4 → n ≤ b / 5 → 0 ≡ list_refusal n a b
-  unfolding list_refusal
-  list_0 g h = first-none (list_tests n a b) (le-ltb (a / 4) n g, (le-ltb (b / 5) n h, tt))
-
   pub list_taken : list_refusal n a b ≡ 0 → (n * 4 ≤ a) × (n * 5 ≤ b)
   unfolding list_refusal
   list_taken e =

@@ -1,6 +1,6 @@
 -- Counts by tally: one more at a place at each step is, at the end, how many there are of each (`tally_is`).
 use Rattle.std.specs.Prelude.{if◌then◌else◌}
-use mathlib.Core.Path.{◌≡◌, refl, ap, ap₂, ◌∙◌}
+use mathlib.Core.Path.{◌≡◌, refl, ap, ◌∙◌}
 use mathlib.Core.Bool.{Bool, true, false}
 use mathlib.Core.List.{List, [], ◌∷◌, map, foldl}
 use Prim.Native.Nat.{ℕ, suc, ◌+◌, ◌<◌}
@@ -58,8 +58,3 @@ unfolding tallied totals
 totals_are cs rs e =
     ap (λ (s : Tally). totals_from 0 s.calls s.refusals s.most) e
     ∙ rw (tally_is 5 (map kind_of cs), tally_is 34 (map refusal_of rs))
-
--- the tally at first, as zeros
-pub from_zeros : (cs : List Call) (rs : List Answer) {c r : List ℕ} {s : Tally} → c ≡ replicate 5 0 → r ≡ replicate 34 0 → s ≡ tallied (tally c r 0) cs rs
-    → s ≡ tallied (tally (replicate 5 0) (replicate 34 0) 0) cs rs
-from_zeros cs rs e f g = g ∙ ap₂ (λ (c r : List ℕ). tallied (tally c r 0) cs rs) e f

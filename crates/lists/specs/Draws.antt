@@ -1,4 +1,4 @@
--- Request 14, a load to try it with: the generator, the calls that it draws, and the lists that it fills.
+-- A load to try a stream with: the generator, the calls that it draws, and the lists that it fills.
 use Rattle.std.specs.Prelude.{ℕ, ◌+◌, ◌*◌, ◌/◌, ◌%◌, ◌^◌, Bool, List, [], ◌∷◌, eqb, ltb, pos, Float, if◌then◌else◌}
 use Rattle.std.specs.Int.Bits.{bit_xor}
 use Rattle.std.specs.Float.{binary32}

@@ -1,4 +1,4 @@
--- Request 14: each step of the frame-number rule is exact in f32.
+-- Each step of the rule that makes a frame's number is exact in f32.
 use Rattle.std.specs.Prelude.{◌≡◌, ℕ, ◌+◌, ◌-◌, ◌%◌, ltb, Float}
 use Rattle.std.specs.Float.Ieee.Exact.{HasValue}
 use Rattle.floats.specs.Operators.{◌-₃₂◌, ◌/₃₂◌, as_f32}

@@ -1,4 +1,4 @@
--- Request 14: P9's options with a window of 20, and the files of its model for a base dimension, which changes two of them.
+-- The options of example P9 with a window of 20, and the files of its model for a base dimension, which changes two of them.
 use Rattle.std.specs.Prelude.{ℕ, List, [], ◌∷◌, ◌++◌}
 use Rattle.loops.specs.Lists.{flat}
 use Rattle.floats.specs.Operators.{f32, f64}

@@ -1,4 +1,4 @@
--- Request 14: the program's input, three runs of decimal digits parted by blanks, at most 100 bytes in all.
+-- The program's input: three runs of decimal digits parted by blanks, at most 100 bytes in all.
 use Rattle.std.specs.Prelude.{ℕ, ◌+◌, List, length, drop, eqb, leb, ltb, if◌then◌else◌}
 use Rattle.definition.specs.Reader.{Got, read, refused, Parser, ◌>>=◌, ◌>>◌, give, need, run}
 use Rattle.definition.specs.Text.{digits, digits_value, space, skip}

@@ -1,4 +1,4 @@
--- Request 14: P9's model loads with each base dimension, and is as stated.
+-- The model of example P9 loads with each base dimension, and is as stated.
 use Rattle.std.specs.Prelude.{◌≡◌, ℕ, ◌≤◌, ◌&&◌, [], ◌∷◌, ◌++◌, leb, replicate, if◌then◌else◌}
 use Rattle.floats.specs.Operators.{f32, as_f64, one₃₂, zero₃₂}
 use Rattle.definition.specs.declared.Dimensions.{Dimensions}

@@ -1,4 +1,4 @@
--- Request 14: what is claimed of the totals. The counts leave no answer out, and they are those of the lists that `fill` writes.
+-- What is claimed of the totals. The counts leave no answer out, and they are those of the lists that `fill` writes.
 use Rattle.std.specs.Prelude.{◌≡◌, ℕ, ◌+◌, ◌*◌, true, List, get_or, take, ltb}
 use Rattle.loops.specs.Lists.{build, all_of}
 use Rattle.definition.specs.declared.RingLengths.{RingLengths}

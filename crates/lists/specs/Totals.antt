@@ -1,4 +1,4 @@
--- Request 14: the totals over a list of calls and the answers to it; and what is refused.
+-- The totals over a list of calls and the answers to it; and what is refused.
 use Rattle.std.specs.Prelude.{ℕ, max, length, replicate, eqb}
 use mathlib.Core.List.{List, map, foldl}
 use Rattle.loops.specs.Lists.{build, those}

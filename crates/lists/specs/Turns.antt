@@ -1,4 +1,4 @@
--- What the inner functions leave. Not for readers.
+-- run_calls: words of inner contracts, a call of a list and what it leaves.
 use Rattle.std.specs.Prelude.{◌≡◌, List, ℕ, ◌≤◌, ◌+◌, ◌-◌, ◌*◌, min, length, get_or, Float}
 use Rattle.loops.specs.Ring.{put}
 use Rattle.definition.specs.declared.IvectorStream.{IvectorStream}

@@ -1,4 +1,5 @@
-// Lists of calls given as slices, and a load to try a stream with: drawn calls, their totals, and a model to play them on.
+//! Lists of calls given as slices, and a load to try a stream with: calls drawn from a seed, their
+//! totals, and a model to play them on.
 #![tactic(auto)]
 
 pub mod run_calls;

@@ -1,8 +1,5 @@
-// A list of calls on a stream, given as slices and played on lent rooms from the first to the last: its answers are the keeping machine's.
-//
-// Each of these two functions says of the structs of rooms that it writes that their slices stay the ones that were lent: a caller knows it by that
-// clause alone, and in the struct's type it would be no plainer, since a ghost field beside a `&mut` is not covered.
-// A `let` in a clause is a name, and states nothing.
+//! A list of calls, given as slices and played on a stream from the first to the last. Its answers
+//! are the keeping machine's.
 
 ghost use Rattle.std.specs.Prelude.{◌≡◌, List, ℕ, IfErr, ◌+◌, ◌*◌, ◌≤◌, ◌<◌, length};
 ghost use Rattle.loops.specs.Refusal.{taken};
@@ -35,7 +32,7 @@ pub enum Kind {
     Window,
 }
 
-/// A kind is told by a number; every number that tells no other is a fetch.
+/// The kind of a number; every number that is no other kind's is a fetch.
 impl From<u8> for Kind {
     ghost from_gives = { Means };
 
@@ -51,7 +48,8 @@ impl From<u8> for Kind {
     }
 }
 
-/// A call of a list: the number of its kind, and its four numbers.
+/// A call of a list: the number of its kind, and four numbers. What they mean: `call_at` of
+/// specs/Listed.antt.
 #[derive(Clone, Copy, Debug, Default, PartialEq, Eq)]
 pub struct CodedCall {
     pub kind: u8,
@@ -61,17 +59,21 @@ pub struct CodedCall {
     pub d: usize,
 }
 
-/// A list of calls: the number of each one's kind, four numbers of each, and what these are places in.
+/// A list of calls.
 #[derive(Clone, Copy)]
 pub struct CallList<'a> {
+    /// The number of each call's kind.
     pub kinds: &'a [u8],
+    /// Four numbers of each call, one call after the other.
     pub numbers: &'a [usize],
+    /// The frames that changes name.
     pub lists: &'a [usize],
+    /// The numbers of frames to push, and the weights of changes.
     pub samples: &'a [f32],
 }
 
-// What stands from index a to index b: nothing where a is past the end, cut where b is. Both are any numbers, and the two cuts are the definition's
-// `take` and `drop`.
+// The items from index a to before index b, which may be any numbers: none where a is past the end,
+// cut where b is.
 fn part<T>(items: &[T], a: usize, b: usize) -> &[T]
     ensures { result.now ≡ part a b items.now }
 {
@@ -107,8 +109,8 @@ fn numbers_of(a: StreamAnswer) -> [usize; 5]
     ]
 }
 
-/// A call of a list, played. The vector of a fetch goes to the part of `outs` that its numbers name. What is lent is parted by what a call reads and writes of
-/// it, and a struct around these parameters, which would be taken apart here again, would be no plainer.
+/// Plays one call of a list on a stream. The vector of a fetch goes to places `b` to before `c` of
+/// `outs`, cut at their end.
 pub fn turn(
     k: CodedCall,
     s: IvectorStream,
@@ -150,7 +152,7 @@ pub fn turn(
         Kind::Forget => ivector_stream::forget_before(s, k.a, held.lent(), waiting.lent()),
         Kind::Window => ivector_stream::set_cmn_window(s, k.a, held.lent(), waiting.lent()),
         Kind::Fetch => {
-            // any numbers are taken: the ends are cut to what `outs` has, where `get_mut` would give nothing, so it is no plainer
+            // any numbers are taken: the ends are cut to what `outs` has
             let from = k.b.min(outs.len());
             let count = k.c.saturating_sub(k.b).min(outs.len() - from);
             let out = &mut outs[from..from + count];
@@ -159,7 +161,7 @@ pub fn turn(
     }
 }
 
-// 99 where the numbers of n calls, or the room for their answers, are too short.
+// `ListTooShort`: the numbers of n calls, or the room for their answers, are too short.
 #[tactic(auto, unfolding(crate::specs::Listed::list_refusal, loops::specs::Refusal::first_of))]
 fn check_list(n: usize, numbers: usize, answers: usize) -> Result<(), Refusal>
     ensures value { refused_by result ≡ list_refusal n numbers answers }
@@ -169,9 +171,13 @@ fn check_list(n: usize, numbers: usize, answers: usize) -> Result<(), Refusal>
     need(n <= answers / 5, Refusal::ListTooShort)
 }
 
-/// A fresh stream, and a list of calls on it. Call i has the kind kinds[i] and four numbers of `numbers`, from index 4 i on; its answer is
-/// written to `answers` from index 5 i on, and the vector of a fetch to the part of `outs` that its numbers name. Where it is refused nothing is
-/// played. The rings are lent one by one, as to `ivector_stream::new`, and the other parameters as to `turn`: a struct around them would be no plainer.
+/// Makes a fresh stream and plays `list` on it. The answer of call i goes to `answers` from index 5
+/// i on, the vector of a fetch to the part of `outs` that its numbers name.
+///
+/// # Errors
+///
+/// `ListTooShort` where the list's numbers or `answers` are too short, else what a fresh stream
+/// refuses with. Then nothing is played.
 pub fn run(
     info: IvectorInfo,
     tables: LentTables<'_>,
@@ -213,8 +219,7 @@ pub fn run(
     )?;
     let mut s = made.stream;
     let mut held = FrameRooms { frames, rows };
-    // By index: a call's numbers and its answer stand at places of their own, and of what a loop over a zip of them writes an invariant names no
-    // element.
+    // by index (limit: zip)
     for i in 0..list.kinds.len() {
         let k = call_at(list, i);
         let call = turn(

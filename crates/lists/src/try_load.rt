@@ -1,7 +1,5 @@
-// A load to try it with: a generator, the calls that it draws into lent lists, and the program's input.
-//
-// A count of calls and a base dimension are what is asked for, and no list's length: the lists may be longer, so each function here that has both needs
-// both. A limit that more than one has, as `count ≤ 10000`, is one of the definition's, and a type for it no plainer.
+//! A load to try a stream with: a generator of 32 bits, the calls that it draws into lent lists,
+//! and the program's input.
 
 ghost use Rattle.std.specs.Prelude.{◌≡◌, ℕ, IfErr, ◌+◌, ◌-◌, ◌*◌, ◌%◌, ◌^◌, ◌<◌, ◌≤◌, length, eqb, if◌then◌else◌};
 ghost use Rattle.loops.specs.Lists.{build};
@@ -16,7 +14,7 @@ ghost use Rattle.lists.specs.Inner.TryLoad.{capped, asked_by};
 use definition::{Refusal, need};
 use kaldi::kaldi_text::{TextReader, value_of};
 
-// The generator's next result, which is its state.
+/// The generator's next result, which is its new state.
 pub fn draw(s: u32) -> u32
     ensures { result ≡ draw_of s }
 {
@@ -25,16 +23,17 @@ pub fn draw(s: u32) -> u32
     b ^ (b << 5)
 }
 
-// A number of a frame, or a weight.
+/// A number of a frame, or a weight: -125 to 125 in steps of an eighth.
 pub fn number(r: u32) -> f32
     ensures { result ≡ number_of r }
 {
     ((r % 2001) as f32 - 1000.0) / 8.0
 }
 
-// ---- a call by its kind. In these functions a kind is any number, as the definitions have it: an enum of the five would ask more of callers
+// ---- a call by the number of its kind
 
-// The frame of a call of a kind.
+/// The frame that a call of a kind names, 0 where it names none. `pushes` were drawn before. A kind
+/// is a number: 0 push, 1 finish, 2 change, 3 forget, 4 fetch.
 #[tactic(auto, unfolding(crate::specs::Draws::frame_of))]
 pub fn frame_of(kind: u32, s: u32, pushes: usize) -> usize
     requires { pushes ≤ 10000 }
@@ -47,7 +46,7 @@ pub fn frame_of(kind: u32, s: u32, pushes: usize) -> usize
     }
 }
 
-// The weight of a call of a kind.
+/// The weight of a change; 0 for another kind.
 #[tactic(auto, unfolding(crate::specs::Draws::weight_of, crate::specs::Draws::draws, loops::specs::Loop::iter))]
 pub fn weight_of(kind: u32, s: u32) -> f32
     ensures { result ≡ weight_of kind s }
@@ -69,8 +68,7 @@ fn put_frame(s: u32, numbers: &mut [f32])
     }
 }
 
-// The numbers of a call of a kind, from place `at` on: that they fit there is asked only where there are some, so `at` stays, and a slice in place of it
-// is no plainer.
+/// Writes the numbers of a push from place `at` on; for another kind, nothing.
 pub fn put_numbers(dim: usize, kind: u32, state: u32, frames: &mut [f32], at: usize)
     requires { at + length (numbers_of dim kind state) ≤ length frames.old }
     ensures { frames.new ≡ put at (numbers_of dim kind state) frames.old }
@@ -85,14 +83,13 @@ fn skip(n: usize, s: u32) -> u32
     ensures { result ≡ draws n s }
 {
     let mut t = s;
-    // a range: a fold over numbers that are not used is no plainer
     for i in 0..n {
         t = draw(t);
     }
     t
 }
 
-// n, and one more after a push.
+// n, plus one after a push.
 fn pushes_after(n: usize, kind: u32) -> usize
     requires { n < 10000 }
     ensures { (result ≡ n + (if eqb kind 0 then 1 else 0)) × (result ≤ n + 1) }
@@ -116,14 +113,14 @@ fn after(dim: usize, kind: u32, s: u32) -> u32
     }
 }
 
-// Between two calls: the generator's state, and how many pushes were drawn.
+/// What stands between two calls: the generator's state, and how many pushes were drawn.
 #[derive(Clone, Copy)]
 pub struct Place {
     pub state: u32,
     pub pushes: usize,
 }
 
-// The place after one call more.
+/// The place after one call more.
 pub fn next_place(dim: usize, p: Place) -> Place
     requires { p.pushes < 10000 }
     ensures { (result.state ≡ state_after dim (draw_of p.state % 5) (draw_of p.state))
@@ -145,7 +142,6 @@ fn pushes_of(seed: u32, dim: usize, count: usize) -> usize
         state: seed,
         pushes: 0,
     };
-    // a range: a fold over numbers that are not used is no plainer
     for i in 0..count {
         p = next_place(dim, p);
     }
@@ -154,7 +150,8 @@ fn pushes_of(seed: u32, dim: usize, count: usize) -> usize
 
 // ---- the lists
 
-/// 33 where a size is outside its limits.
+/// `TrySizes` for a seed of 0 or above 32 bits, a base dimension outside 1 to 64, and a count of
+/// calls outside 1 to 10,000.
 #[tactic(auto, unfolding(crate::specs::Draws::size_refusal, loops::specs::Refusal::first_of))]
 pub fn size_refusal(seed: usize, dim: usize, count: usize) -> Result<(), Refusal>
     ensures value { refused_by result ≡ size_refusal seed dim count }
@@ -165,7 +162,7 @@ pub fn size_refusal(seed: usize, dim: usize, count: usize) -> Result<(), Refusal
     need(0 < count && count <= 10_000, Refusal::TrySizes)
 }
 
-// 33 where a lent list is too short for what is drawn.
+// `TrySizes` where a lent list is too short for what is drawn.
 #[tactic(auto, unfolding(crate::specs::Draws::list_refusal, loops::specs::Refusal::first_of))]
 fn list_refusal(
     seed: u32,
@@ -188,7 +185,7 @@ fn list_refusal(
     need(count <= weights, Refusal::TrySizes)
 }
 
-// All calls, into lists that are long enough.
+// Draws all calls into lists that are long enough.
 fn fill_lists(
     seed: u32,
     dim: usize,
@@ -207,7 +204,7 @@ fn fill_lists(
         state: seed,
         pushes: 0,
     };
-    // a range: three lists are written at one index, so an iterator over one is no plainer
+    // by index: three lists are written at one index
     for i in 0..count {
         let s = draw(p.state);
         let kind = s % 5;
@@ -219,9 +216,14 @@ fn fill_lists(
     }
 }
 
+/// Draws `count` calls from a seed. `frames` gets the numbers of the pushes, one frame after the
+/// other. Of each call `kinds` gets its kind (0 push, 1 finish, 2 change, 3 forget, 4 fetch),
+/// `named` its frame and `weights` its weight.
+///
+/// # Errors
+///
+/// `TrySizes` for a size outside its limits, or a list that is too short. Then nothing is written.
 #[tactic(auto, unfolding(crate::specs::Draws::fill_refusal))]
-/// From a seed, a base dimension and a count of calls: the frames of the pushes, and of each call its kind (0 push, 1 finish, 2 change, 3
-/// forget, 4 fetch), its frame and its weight. Where it is refused, with 33, nothing is written.
 pub fn fill(
     seed: usize,
     dim: usize,
@@ -253,8 +255,7 @@ pub fn fill(
 
 // ---- the input
 
-// Blanks, and digits after them: 2^32 stands for every higher number. That the reader's bytes stay the same ones is a clause, as of `TextReader`'s own methods:
-// a fact of its fields speaks of one state, and not of the one before, so no type is plainer.
+// Blanks, and digits after them; 2^32 stands for every higher number.
 #[tactic(auto, unfolding(crate::specs::Input::a_number, loops::specs::Refusal::first_of))]
 fn read_number(r: &mut TextReader<'_>) -> Result<usize, Refusal>
     ensures value { given result r.new.at ≡ capped (a_number r.old.src.now r.old.at) }
@@ -274,7 +275,8 @@ pub struct LoadSizes {
     pub count: usize,
 }
 
-/// Three numbers within their limits; 33 where the text is anything else.
+/// The seed, the base dimension and the count of calls in a text of at most 100 bytes. Any other
+/// text is refused with `TrySizes`.
 pub fn read_input(text: &[u8]) -> Result<LoadSizes, Refusal>
     ensures { asked_by result ≡ asked_of text.now }
 {

@@ -1,4 +1,5 @@
-// P9's model for a base dimension: its options, and its files as bytes, of which a base dimension changes two.
+//! A small model for a base dimension, that of example P9: its options, and its files as bytes. The
+//! base dimension changes the LDA's file and the CMVN text.
 
 ghost use Rattle.std.specs.Prelude.{◌≡◌, ◌≤◌, length};
 ghost use Rattle.loops.specs.Lists.{over};
@@ -7,7 +8,7 @@ ghost use Rattle.lists.specs.Files.{options as options_of_it, gmm_file, extracto
 use definition::IvectorOptions;
 use writer::byte_writer::Writer;
 
-// P9's options, with a window of 20.
+/// The options of example P9, with a window of 20.
 pub fn options() -> IvectorOptions
     ensures { result ≡ options_of_it }
 {
@@ -25,7 +26,7 @@ pub fn options() -> IvectorOptions
     }
 }
 
-// The GMM: one Gaussian of one dimension.
+/// The GMM's file: one Gaussian over one feature.
 #[tactic(auto, unfolding(crate::specs::Files::gmm_file))]
 pub fn gmm() -> &'static [u8]
     ensures { result.now ≡ gmm_file }
@@ -33,7 +34,7 @@ pub fn gmm() -> &'static [u8]
     b"\x00B<DiagGMM> <WEIGHTS> FV \x04\x01\x00\x00\x00\x00\x00\x80?<MEANS_INVVARS> FM \x04\x01\x00\x00\x00\x04\x01\x00\x00\x00\x00\x00\x80?<INV_VARS> FM \x04\x01\x00\x00\x00\x04\x01\x00\x00\x00\x00\x00\x80?</DiagGMM> "
 }
 
-// The extractor: one Gaussian, of one dimension both ways.
+/// The extractor's file: one Gaussian, one feature, one i-vector dimension.
 #[tactic(auto, unfolding(crate::specs::Files::extractor_file))]
 pub fn extractor() -> &'static [u8]
     ensures { result.now ≡ extractor_file }
@@ -41,7 +42,7 @@ pub fn extractor() -> &'static [u8]
     b"\x00B<IvectorExtractor> <w> DM \x04\x00\x00\x00\x00\x04\x00\x00\x00\x00<w_vec> DV \x04\x00\x00\x00\x00<M> \x04\x01\x00\x00\x00DM \x04\x01\x00\x00\x00\x04\x01\x00\x00\x00\x00\x00\x00\x00\x00\x00\x00@<SigmaInv> DP \x04\x01\x00\x00\x00\x00\x00\x00\x00\x00\x00\xf0?<IvectorOffset> \x08\x00\x00\x00\x00\x00\x00\xf0?</IvectorExtractor> "
 }
 
-// The LDA. Its length.
+/// Writes the LDA's file, and returns its length in bytes.
 pub fn put_lda(dim: usize, out: &mut [u8; 271]) -> usize
     requires { dim ≤ 64 }
     ensures length { result ≡ length (lda_file dim) }
@@ -53,7 +54,7 @@ pub fn put_lda(dim: usize, out: &mut [u8; 271]) -> usize
     file.at
 }
 
-// The CMVN text. Its length.
+/// Writes the CMVN text, and returns its length in bytes.
 pub fn put_cmvn(dim: usize, out: &mut [u8; 395]) -> usize
     requires { dim ≤ 64 }
     ensures length { result ≡ length (cmvn_file dim) }

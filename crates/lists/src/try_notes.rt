@@ -1,5 +1,5 @@
-// A load to try it with: the call that is drawn, coded, and what is noted of a call and its answer. `try_play` plays them; in a crate of their own, so
-// that a check of them stays short.
+//! The calls of a load one by one: the next drawn call, as a call of a list, and the tally of calls
+//! and answers.
 
 ghost use Rattle.std.specs.Prelude.{◌≡◌, ◌%◌, ◌≤◌, ◌<◌, length, get_or};
 ghost use Rattle.lists.specs.Turns.{decoded};
@@ -10,8 +10,8 @@ use crate::run_calls::{CodedCall, Kind};
 use crate::try_load;
 use definition::StreamAnswer;
 
-// The next call, in lists of one frame number and of the numbers of a frame at least: `samples` may be longer than `dim`, so a cut of it in its place would
-// be no plainer.
+/// Draws the next call. `lists` has room for one frame number, `samples` for the `dim` numbers of a
+/// frame.
 pub fn draw_call(
     dim: usize,
     state: u32,
@@ -65,7 +65,7 @@ pub fn draw_call(
     }
 }
 
-// One more at place k, where there is one.
+// Adds one at place k, where there is one.
 fn count(counts: &mut [usize], k: usize)
     requires { get_or counts.old k 0 < 10000 }
     ensures { counts.new ≡ counted counts.old k }
@@ -75,7 +75,8 @@ fn count(counts: &mut [usize], k: usize)
     }
 }
 
-// A call of a kind and its answer. The greatest frames held so far.
+/// Counts a call by its kind and its answer by its refusal, and returns the greatest number of
+/// frames held so far.
 #[tactic(auto, unfolding(crate::specs::Inner::TryNotes::noted))]
 pub fn note(
     calls: &mut [usize],

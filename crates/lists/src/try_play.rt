@@ -1,9 +1,5 @@
-// A load to try it with, played: each call is drawn and then played on a stream, and the totals are those over the calls and the keeping
-// machine's answers.
-//
-// Each of these two functions says of the structs of rooms that it writes that their slices stay the ones that were lent: a caller knows it by that
-// clause alone, and in the struct's type it would be no plainer, since a ghost field beside a `&mut` is not covered.
-// A `let` in a clause is a name, and states nothing.
+//! A load, played: each call is drawn and then played on a stream. The totals are those over the
+//! calls and the keeping machine's answers.
 
 ghost use Rattle.std.specs.Prelude.{◌≡◌, List, ℕ, ◌≤◌, ◌<◌, length, replicate};
 ghost use Rattle.loops.specs.Refusal.{taken};
@@ -27,17 +23,18 @@ use definition::{
 };
 use stream::ivector_stream;
 
-/// The totals: how many calls were drawn of each kind, how many answers had each refusal number (the first is for those that were taken), and the
-/// greatest frames held.
+/// The totals of a load.
 #[derive(Clone, Copy, Debug, PartialEq, Eq)]
 pub struct Totals {
+    /// How many calls were drawn of each kind.
     pub calls: [usize; 5],
+    /// How many answers had each refusal number; the first place is for those that were taken.
     pub refusals: [usize; 34],
+    /// The greatest number of frames held.
     pub greatest: usize,
 }
 
-// All calls, on a stream: what is lent goes on to `run_calls::turn`, and a struct around it, which would be taken apart again at each call, would be no
-// plainer. `dim` and `times` are what is asked for, and no slice's length.
+// Draws and plays all calls on a stream.
 fn play_calls(
     dim: usize,
     seed: u32,
@@ -72,7 +69,6 @@ fn play_calls(
     let mut calls = [0usize; 5];
     let mut refusals = [0usize; 34];
     let mut greatest = 0;
-    // a range: a fold over numbers that are not used is no plainer
     for i in 0..times {
         let k = try_notes::draw_call(dim, p.state, p.pushes, &mut lists, &mut samples);
         let r = run_calls::turn(
@@ -89,8 +85,12 @@ fn play_calls(
     }
 }
 
-/// A fresh stream, and `times` calls on it, each drawn as it is played. Where it is refused nothing is played.
-/// The rings are lent one by one, as to `ivector_stream::new`: a struct around the parameters would be no plainer.
+/// Makes a fresh stream and plays `times` calls on it, each drawn from the seed just before.
+///
+/// # Errors
+///
+/// `TrySizes` for a size outside its limits, else what a fresh stream refuses with. Then nothing is
+/// played.
 pub fn play(
     info: IvectorInfo,
     tables: LentTables<'_>,

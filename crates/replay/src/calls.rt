@@ -1,4 +1,4 @@
-// The calls of the library: each is lent the fronts of the program's rooms that the script wants.
+//! The calls of the library. Each is lent the fronts of the program's rooms that the script wants.
 use super::rooms::{Lengths, Rooms, Tables};
 use board::registers;
 use definition::{

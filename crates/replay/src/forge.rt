@@ -1,5 +1,5 @@
-// The lines that forge what the next call is told: a length, a field of the record, the waiting frames. Each of these writes one field of what stands, by the
-// name that a script has for it: another record in its place is no plainer.
+//! The lines that forge what the next call is told: a length, a field of the record, the waiting
+//! frames.
 use super::session::Session;
 use definition::{IvectorInfo, IvectorStream};
 use script::{Held, Words};
@@ -69,7 +69,7 @@ impl<'a> Session<'a> {
     /// The next call is lent another room of waiting frames.
     fn forge_waiting(&mut self, words: &mut Words<'_>) {
         let n = words.number(10);
-        // by index: what is past the end of the room is read too, so no chain over the room says it
+        // by index: words past the end of the room are read too
         for i in 0..n {
             let frame = words.number(10);
             words.word();

@@ -1,4 +1,4 @@
-// A model's files, as the text has them, and the dimensions of their model.
+//! A model's files, as the text has them, and the dimensions of their model.
 use definition::{Dimensions, Refusal};
 use kaldi::kaldi_files::checks::{check_extractor, check_gmm, check_lda};
 use kaldi::kaldi_io::reader::KaldiReader;
@@ -24,7 +24,7 @@ fn size(text: &[u8]) -> usize {
     words.number(10)
 }
 
-// Sums of numbers up to 2^40, and 0 where one is larger.
+// The sum of numbers up to 2^40; 0 where one is larger.
 fn plus(a: usize, b: usize) -> usize {
     if 0x100_0000_0000 < a.max(b) { 0 } else { a + b }
 }

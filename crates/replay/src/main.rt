@@ -1,5 +1,6 @@
-// Replays a script of load and stream calls from standard input, and prints an answer line for each. README.md says what a line may be, and
-// which sizes fit in this program's rooms: for others it prints "does not fit".
+//! Replays a script of load and stream calls from standard input, and prints an answer line for
+//! each. README.md says what a line may be, and which sizes fit in this program's rooms; for others
+//! it prints `does not fit`.
 #![tactic(auto)]
 
 mod calls;

@@ -1,14 +1,16 @@
-// The rooms that calls are lent, and how much of each.
+//! The rooms that calls are lent, and how much of each.
 use definition::{Dimensions, IvectorOptions, LentFrames, LentTables, LentWaiting};
 use script::{Signed, Words, front};
 use std::alloc::{AllocError, Global};
 use std::mem;
 
-/// How long each room is that a call is lent: rooms 0 to 7 are a model's tables, 8 to 16 a stream's rooms, in the order of FORMAT.md.
+/// The length of each room that a call is lent: rooms 0 to 7 are a model's tables, 8 to 16 a
+/// stream's rooms, in the order of FORMAT.md.
 #[derive(Clone, Copy)]
 pub(crate) struct Lengths(pub(crate) [usize; 17]);
 
-/// What fits. Each room has `SPARE` places more, for a length that a script forges.
+/// The longest rooms that fit. Each room has `SPARE` places more, for a length that a script
+/// forges.
 const MOST: [usize; 17] = [
     1024, 2048, 2048, 4096, 16512, 4352, 64, 65, 4080, 8176, 4080, 4080, 112, 144, 8384, 144, 16384,
 ];
@@ -18,7 +20,8 @@ const SPARE: usize = 16;
 impl Lengths {
     pub(crate) const NONE: Lengths = Lengths([0; 17]);
 
-    /// The numbers that a model keeps in its tables, and a fetch in its rooms; of the rings a script gives the lengths themselves.
+    /// The lengths that a model needs of tables and rooms. Those of the rings a script gives
+    /// itself.
     pub(crate) fn needs(opts: IvectorOptions, dims: Dimensions) -> Lengths {
         let Dimensions {
             num_gauss,
@@ -62,23 +65,23 @@ impl Lengths {
         ])
     }
 
-    /// One of the lengths, moved.
+    /// Moves the length of one room.
     pub(crate) fn move_by(&mut self, room: usize, by: Signed) {
         if room < self.0.len() {
             self.0[room] = script::moved(self.0[room], by);
         }
     }
 
-    /// The lengths of some rooms, moved by a number each.
+    /// Moves the lengths of rooms `from` to before `to`, each by the script's next number.
     pub(crate) fn read(&mut self, words: &mut Words<'_>, from: usize, to: usize) {
-        // by index: `move_by` takes a room by its number, as a script names it, and a chain over the lengths would move them a second way
+        // by index: a script names a room by its number
         for room in from..to {
             let by = words.signed();
             self.move_by(room, by);
         }
     }
 
-    /// Whether rooms `from` to `to` fit.
+    /// Whether rooms `from` to before `to` fit.
     pub(crate) fn fit(&self, from: usize, to: usize) -> bool {
         self.0
             .iter()
@@ -130,7 +133,7 @@ impl Tables {
     }
 }
 
-/// A stream's rooms, and another room of waiting frames, which a script may have lent in place of the stream's.
+/// A stream's rooms.
 #[derive(Drop)]
 pub(crate) struct Rooms {
     pub(crate) frames: Vec<f32>,
@@ -142,6 +145,7 @@ pub(crate) struct Rooms {
     pub(crate) quadratic: Vec<f64>,
     pub(crate) current: Vec<f64>,
     pub(crate) scratch: Vec<f64>,
+    /// Waiting frames that a script may have lent in place of the stream's.
     pub(crate) forged_frames: Vec<usize>,
 }
 
@@ -175,7 +179,7 @@ impl Rooms {
         }
     }
 
-    /// Puts the other room of waiting frames in place of the stream's, or back.
+    /// Puts the forged waiting frames in place of the stream's, or back.
     pub(crate) fn swap_waiting(&mut self) {
         mem::swap(&mut self.waiting_frames, &mut self.forged_frames);
     }

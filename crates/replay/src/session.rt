@@ -1,5 +1,5 @@
-// What stands between two lines of a script, and what a line does. A line is known by its letter: an enum of the letters, matched once more in each of these
-// functions, is no plainer.
+//! What stands between two lines of a script, and what a line does. The letter of a line says
+//! which.
 use super::load::{FILE_BYTES, dimensions, file, file_bytes};
 use super::rooms::{Lengths, Rooms, Tables};
 use board::register_bytes::Command;
@@ -10,22 +10,28 @@ use script::{
 use std::alloc::{AllocError, Global};
 use std::io::{self, Write};
 
-/// What is open, and the lengths of its rooms.
+/// A model or a stream that is open, and the lengths of its rooms.
 #[derive(Clone, Copy)]
 pub(crate) struct Open {
     pub(crate) held: Held,
     pub(crate) lengths: Lengths,
 }
 
-/// The options and files so far; what is open; the same as the next call is told it, whether this is forged, and whether the waiting frames are.
+/// What stands between two lines.
 #[derive(Drop)]
 pub(crate) struct Session<'a> {
     alloc: Global,
+    /// The options so far.
     opts: IvectorOptions,
+    /// The files so far.
     files: Files<'a>,
+    /// What is open.
     open: Open,
+    /// What the next call is told is open.
     pub(crate) told: Open,
+    /// Whether a script forged it.
     pub(crate) forged: bool,
+    /// Whether a script forged the waiting frames.
     pub(crate) waiting_forged: bool,
     tables: Tables,
     pub(crate) rooms: Rooms,
@@ -55,14 +61,14 @@ impl<'a> Session<'a> {
         })
     }
 
-    /// Another session begins, over the same rooms.
+    /// Begins another session, over the same rooms.
     fn restart(&mut self) {
         self.opts = IvectorOptions::default();
         self.files = NO_FILES;
         self.hold(CLOSED);
     }
 
-    /// This is open, and nothing forged. The rooms stay, so another session in place of this one would be no plainer.
+    /// Opens `open`, with nothing forged. The rooms stay.
     fn hold(&mut self, open: Open) {
         self.open = open;
         self.told = open;
@@ -70,13 +76,13 @@ impl<'a> Session<'a> {
         self.waiting_forged = false;
     }
 
-    /// Something else is open, with the lengths as they were.
+    /// Opens something else, with the lengths as they were.
     fn hold_in_place(&mut self, held: Held) {
         let lengths = self.open.lengths;
         self.hold(Open { held, lengths });
     }
 
-    /// Only the model of what is open stays so.
+    /// Closes the stream; its model stays open.
     fn close_stream(&mut self) {
         self.hold_in_place(match self.open.held.model() {
             Some(info) => Held::Model(info),
@@ -84,7 +90,7 @@ impl<'a> Session<'a> {
         });
     }
 
-    /// What a call leaves: a forged one, the stream as it was.
+    /// After a call the stream is the one it left; after a forged one, what it was.
     fn after(&mut self, stream: IvectorStream) {
         self.hold_in_place(if self.forged {
             self.open.held
@@ -160,7 +166,7 @@ impl<'a> Session<'a> {
         Ok(())
     }
 
-    /// `k`. The tables are printed by their bits, which no `Display` has: one around them would be no plainer.
+    /// `k`: the tables, by their bits.
     fn print_tables(&self, writer: &mut impl Write) -> io::Result<()> {
         let Some(info) = self.open.held.model() else {
             return not_here(writer);
@@ -218,8 +224,8 @@ impl<'a> Session<'a> {
         Ok(())
     }
 
-    /// The lengths that a fresh stream is lent: of the tables, what the script wants by now; of the rest, what the line says, against the needs of
-    /// the model as it was loaded.
+    /// The lengths that a fresh stream is lent. Those of the tables are what the script wants by
+    /// now; the others are what the model needs, moved as the line says.
     fn stream_lengths(&self, words: &mut Words<'_>) -> Lengths {
         let tables = self.told.lengths;
         let Some(info) = self.open.held.model() else {
@@ -261,8 +267,8 @@ impl<'a> Session<'a> {
         Ok(())
     }
 
-    /// `p n x1 .. xn`, `w nf f1 .. fnf nw w1 .. wnw`, `f`, `n V`, and `d F`. A list that is longer than its room here is longer than any frame, or
-    /// than a change may be.
+    /// `p n x1 .. xn`, `w nf f1 .. fnf nw w1 .. wnw`, `f`, `n V`, and `d F`. A list that is longer
+    /// than its room here is longer than any frame or any change.
     fn ring_call(&mut self, letter: u8, s: IvectorStream, words: &mut Words<'_>) -> StreamCall {
         let z = self.told.lengths;
         match letter {
@@ -309,8 +315,8 @@ impl<'a> Session<'a> {
         Ok(call.stream)
     }
 
-    /// `r M n x1 .. xn N HEX`. A block that is longer than its room here is longer than a block may be. The answer has the block, and the vector where
-    /// the command was a fetch and was taken.
+    /// `r M n x1 .. xn N HEX`. A block that is longer than its room here is longer than any block.
+    /// The answer has the block, and the vector of a fetch that was taken.
     fn step(
         &mut self,
         writer: &mut impl Write,

@@ -1,4 +1,4 @@
-// The calls of the library: each is lent the program's rooms.
+//! The calls of the library. Each is lent the program's rooms.
 use super::rooms::{Rooms, Tables};
 use super::round::Asked;
 use super::session::Session;
@@ -97,7 +97,8 @@ impl Rooms {
 }
 
 impl<'a> Session<'a> {
-    /// A round on this stream and this silence table. The silence phones are those of the table as it is, not as the round is told it.
+    /// A round on this stream and this silence table. The silence phones are those of the table
+    /// that is open, not of the one that the round is told.
     pub(crate) fn call_round(
         &mut self,
         s: IvectorStream,

@@ -1,5 +1,5 @@
-// Replays a script of rounds from standard input, and prints an answer line for each. README.md says what a line may be, and which sizes
-// fit in this program's rooms.
+//! Replays a script of rounds from standard input, and prints an answer line for each. README.md
+//! says what a line may be, and which sizes fit in this program's rooms.
 #![tactic(auto)]
 
 mod calls;

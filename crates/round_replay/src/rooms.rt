@@ -1,4 +1,5 @@
-// The rooms that calls are lent. A length that a room has no places for is cut to the room; the answer then shows it.
+//! The rooms that calls are lent. A length that a room has no places for is cut to the room; the
+//! answer then shows it.
 use definition::{LentFrames, LentTables, LentWaiting, RingLengths};
 use script::front;
 use std::alloc::{AllocError, Global};

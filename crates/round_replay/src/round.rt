@@ -1,4 +1,4 @@
-// The line of a round. What these functions print is words and numbers on one line, of lists beside the result: a `Display` would be no plainer.
+//! The line of a round: what it asks for, and how its answer is printed.
 use super::session::{Session, print_changes};
 use rounds::silence_weighting::LentPath;
 use rounds::trigger::{LentUtterance, LentVoices};
@@ -6,7 +6,7 @@ use rounds::trigger_steps::{Halt, RoundEnd};
 use script::{Held, Item, Words, front, lend, not_here, print, print_list};
 use std::io::{self, Write};
 
-/// What a line asks of a round: an utterance, the rooms for changes and a vector, the voices that are known, and how far one may be.
+/// What a line asks of a round.
 #[derive(Drop)]
 pub(crate) struct Asked<'a> {
     pub(crate) utterance: LentUtterance<'a>,
@@ -16,7 +16,7 @@ pub(crate) struct Asked<'a> {
     pub(crate) voices: LentVoices<'a>,
 }
 
-/// How a round ended; the changes that were given, where the fourth step was done; the vector, where the sixth was.
+/// Prints how a round ended; the changes, where step 4 was done; the vector, where step 6 was.
 fn print_round(
     writer: &mut impl Write,
     end: Result<RoundEnd, Halt>,

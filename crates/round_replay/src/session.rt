@@ -1,6 +1,4 @@
-// What stands between two lines of a script, and what a line does. What these functions print is words and numbers on one line, some of them of rooms beside
-// the record: a `Display` of it would not reach them, and is no plainer. `hold` and `forge` change some fields of what stays, where a struct's update
-// would move the rooms.
+//! What stands between two lines of a script, and what a line does.
 use super::calls::estimate_lengths;
 use super::rooms::{Rooms, TableRooms, Tables};
 use definition::{
@@ -13,23 +11,31 @@ use script::{
 use std::alloc::{AllocError, Global};
 use std::io::{self, Write};
 
-/// The options and files so far; what is open, a silence table too; the same as the next round is told it, and which of the two records are forged.
+/// What stands between two lines.
 #[derive(Drop)]
 pub(crate) struct Session<'a> {
+    /// The options so far.
     opts: IvectorOptions,
+    /// The files so far.
     files: Files<'a>,
+    /// The model or the stream that is open.
     held: Held,
+    /// The silence table that is open.
     pub(crate) table: Option<SilenceWeighting>,
+    /// What the next round is told in place of `held`.
     pub(crate) told: Held,
+    /// What the next round is told in place of `table`.
     pub(crate) told_table: Option<SilenceWeighting>,
+    /// Whether a script forged `told`.
     forged: bool,
+    /// Whether a script forged `told_table`.
     table_forged: bool,
     pub(crate) tables: Tables,
     pub(crate) rooms: Rooms,
     pub(crate) silence: TableRooms,
 }
 
-/// How many changes there are, then each frame with its weight.
+/// Prints how many changes there are, then each frame with its weight.
 pub(crate) fn print_changes(
     writer: &mut impl Write,
     n: usize,
@@ -81,14 +87,14 @@ impl<'a> Session<'a> {
         })
     }
 
-    /// Another session begins, over the same rooms.
+    /// Begins another session, over the same rooms.
     fn restart(&mut self) {
         self.opts = IvectorOptions::default();
         self.files = NO_FILES;
         self.hold(Held::Nothing, None);
     }
 
-    /// These are open, and nothing forged.
+    /// Opens these, with nothing forged.
     fn hold(&mut self, held: Held, table: Option<SilenceWeighting>) {
         self.held = held;
         self.table = table;
@@ -98,7 +104,7 @@ impl<'a> Session<'a> {
         self.table_forged = false;
     }
 
-    /// After a round: a forged record stays as it was.
+    /// After a round the records are those it left; a forged one is what it was.
     pub(crate) fn after_round(&mut self, stream: IvectorStream, silence: SilenceWeighting) {
         let held = if self.forged {
             self.held
@@ -155,7 +161,8 @@ impl<'a> Session<'a> {
         Ok(())
     }
 
-    /// `s FL RL WF WW ..`, over a model that has no stream yet: what the line says of the lengths of the rooms besides the rings is not read.
+    /// `s FL RL WF WW ..`, over a model that has no stream yet. Lengths behind the rings' are not
+    /// read.
     fn open_stream(&mut self, writer: &mut impl Write, words: &mut Words<'_>) -> io::Result<()> {
         let Held::Model(info) = self.held else {
             return not_here(writer);

@@ -59,12 +59,6 @@ stopped_ok k (suc r) u e =
     let z : ◌≡◌ {A = ℕ} 0 1 = cc in
     absurd (omega arith)
 
-pub stopped_halt : (k r : ℕ) (h : Halt) → Err h ≡ stopped k r → 0 < h.refusal
-stopped_halt k r h e = let q = stopped_err k r h e in let n : h.refusal ≡ r = ap (λ (h : Halt). h.refusal) q.0 in rw n (omega (arith, q.1))
-
-pub stopped_step : (k r : ℕ) (h : Halt) → Err h ≡ stopped k r → h.step ≡ k
-stopped_step k r h e = ap (λ (h : Halt). h.step) (stopped_err k r h e).0
-
 -- ---- 1 and 2
 
 -- the pushes' halts are of step 2
@@ -111,11 +105,6 @@ module _ (s : IvectorStream) (z : Rings) (start : ℕ) (xs : List Float) (r : St
       forgotten ∙ goes_on 1 r.answer.refusal (with_rings b r.stream z) (λ c. after 2 (pushes xs c) next) (stopped_ok 1 r.answer.refusal u o)
       ∙ ap (λ d. after 2 d next) (pushes_are r.stream z (refusal_in p) t y xs b e)
       ∙ ends_at 2 p halts (with_rings b t y) next
-
--- of the halts of both, that each has a number
-pub pushes_halt : (p : Result Unit Halt) → IfErr p (λ h. (0 < h.refusal) × (h.step ≡ 2)) → IfErr p (λ h. 0 < h.refusal)
-pushes_halt (Ok u) h = tt
-pushes_halt (Err d) h = h.0
 
 -- a frame of an utterance pushed: l is what is left of the numbers, x the frame, l' what is left behind it
 module _ (n : ℕ) (some : 0 < n) (l x l' : List Float) (l-is : l ≡ x ++ l') (long : length x ≡ min n (length l)) (more : 0 < length l)

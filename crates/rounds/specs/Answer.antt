@@ -1,4 +1,4 @@
--- Request 13: what a round returns, with its end as the record of its numbers.
+-- What a round returns, with its end as the record of its numbers.
 use Rattle.std.specs.Prelude.{ℕ}
 use Rattle.definition.specs.declared.IvectorStream.{IvectorStream}
 use Rattle.definition.specs.declared.SilenceWeighting.{SilenceWeighting}

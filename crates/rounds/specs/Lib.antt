@@ -1,4 +1,4 @@
--- What contracts of inner functions say; no reader needs it.
+-- Words of inner contracts.
 pub mod Inner
 -- silence_weighting: lists of calls on a table.
 pub mod Chain

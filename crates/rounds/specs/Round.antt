@@ -1,5 +1,5 @@
--- Request 13, "The trigger as a product above": a round over an utterance. Each step is a call of the stream, of the silence table or of the nearest
--- voice on what the steps before it left; the first refusal ends the round with its number and step, and what was done remains done.
+-- The trigger: a round over an utterance. Each step is a call of the stream, of the silence table or of the nearest voice on what the steps before it
+-- left. The first refusal ends the round with its number and step, and what was done remains done.
 use Rattle.std.specs.Prelude.{Result, Ok, Err, Some, None, Bool, true, false, ℕ, ◌+◌, ◌-◌, ◌*◌, ◌/◌, max, length, take, drop, eqb, ℤ, Float, if◌then◌else◌}
 use mathlib.Core.List.{List, [], ◌∷◌, foldl}
 use Rattle.loops.specs.Lists.{build}

@@ -1,5 +1,5 @@
--- Request 7, "Whose voice is it": of up to 32 enrolled vectors the nearest to a given one. All are lists of f32 bits, as a fetch gives a vector out;
--- the enrolled vectors stand one after the other in one list, n numbers each.
+-- Whose voice it is: of 1 to 32 enrolled vectors the nearest to a given one. All are lists of f32 bits, as a fetch gives a vector out; the enrolled
+-- vectors stand one after the other in one list, n numbers each.
 use Rattle.std.specs.Prelude.{◌≡◌, Result, Ok, Err, Option, Some, None, ℕ, zero, suc, ◌+◌, ◌-◌, ◌*◌, ◌≤◌, ◌<◌, Bool, true, false, not, ◌||◌, List, [], ◌∷◌, length, get_or, eqb, Float, if◌then◌else◌}
 use Rattle.std.specs.Float.Ieee.{lt, le}
 use Rattle.std.specs.Float.Ieee.Scale.{finite}

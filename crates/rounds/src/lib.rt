@@ -1,4 +1,5 @@
-// The silence weights of a decoder's path, the nearest voice, and the round of an utterance, which makes them and the stream's calls in turn.
+//! What stands above a stream: the silence weights of a decoder's path, the nearest voice, and the
+//! round of an utterance, which makes these and the stream's calls in turn.
 #![tactic(auto)]
 
 pub mod nearest_voice;

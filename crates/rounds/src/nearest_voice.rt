@@ -1,4 +1,5 @@
-// Whose voice it is: of the vectors that are enrolled the nearest to a given one, where it is near enough.
+//! Whose voice it is: the nearest of 1 to 32 enrolled vectors to a given one, where it is near
+//! enough. Distances are squared Euclidean, and ties go to the lowest index.
 
 ghost use Rattle.std.specs.Prelude.{◌≡◌, ◌+◌, ◌*◌, ◌≤◌, ◌||◌, eqb, false, length, not};
 ghost use Rattle.std.specs.Float.Ieee.{lt};
@@ -9,25 +10,29 @@ ghost use Rattle.rounds.specs.Voice.{distance as distance_of, any_not_finite, vo
 
 use definition::{Refusal, need};
 
-/// The nearest voice: its index, from 0, and its distance.
+/// The nearest voice.
 #[derive(Clone, Copy, Debug, PartialEq)]
 pub struct Voice {
+    /// Which enrolled vector, from 0.
     pub index: usize,
+    /// The sum of the squared differences.
     pub distance: f32,
 }
 
-/// The answer as the record that C gets: the refusal's number, 0 where the call was taken; whether somebody is near enough, and who.
+/// The answer as the record that C gets.
 #[repr(C)]
 #[derive(Clone, Copy, Debug, Default, PartialEq)]
 pub struct VoiceAnswer {
+    /// The refusal's number, 0 where the call was taken.
     pub refusal: usize,
+    /// Whether a voice is near enough; without one the index and the distance are 0.
     pub found: bool,
     pub index: usize,
     pub distance: f32,
 }
 
-// The squared differences of the vector and enrolled vector i, added in order. By index: that a pattern is no NaN's, which `from_bits` wants, is known of
-// the numbers at each place. `dim` goes beside the lists, as the definition has it: without it each clause would name the vector's length for it.
+// The squared differences of the vector and enrolled vector i, added in order. By index:
+// `from_bits` wants a pattern that is no NaN's, which is known place by place.
 fn distance(dim: usize, vector: &[u32], enrolled: &[u32], i: usize) -> f32
     requires { (dim ≤ length vector.now) × (i * dim + dim ≤ length enrolled.now) × (any_not_finite vector.now ≡ false) × (any_not_finite enrolled.now ≡ false) }
     ensures { result ≡ distance_of dim vector.now enrolled.now i }
@@ -41,7 +46,8 @@ fn distance(dim: usize, vector: &[u32], enrolled: &[u32], i: usize) -> f32
     sum
 }
 
-// Whether a pattern is of no finite number. Its exponent's bits are looked at, so that no pattern of a NaN becomes a float.
+// Whether a pattern is of no finite number, by the bits of its exponent: no pattern of a NaN
+// becomes a float.
 #[tactic(auto, using(crate::proofs::Patterns::fault_is))]
 fn not_finite(b: u32) -> bool
     ensures { result ≡ not (finite (f32 b)) }
@@ -66,14 +72,14 @@ fn are_rows(len: usize, count: usize, dim: usize) -> bool
     }
 }
 
-// Whether the vector's length is `dim`, and that of the enrolled ones `count` times it: C lends slices and numbers that need not agree.
+// Whether the vector has `dim` numbers, and the enrolled ones `count` times as many.
 fn are_sized(dim: usize, vector: &[u32], count: usize, enrolled: &[u32]) -> bool
     ensures { not result ≡ (not (eqb (length vector.now) dim) || not (eqb (length enrolled.now) (count * dim))) }
 {
     vector.len() == dim && are_rows(enrolled.len(), count, dim)
 }
 
-// Whether each number of the vectors and the limit are finite, and the limit is not below 0.
+// Whether all numbers and the limit are finite, and the limit is not below 0.
 fn are_numbers(vector: &[u32], enrolled: &[u32], limit: f32) -> bool
     ensures { not result ≡ (any_not_finite vector.now || any_not_finite enrolled.now || not (finite limit) || lt limit zero₃₂) }
 {
@@ -83,6 +89,7 @@ fn are_numbers(vector: &[u32], enrolled: &[u32], limit: f32) -> bool
         && !(limit < 0.0)
 }
 
+// What `nearest_voice` refuses.
 #[tactic(auto, unfolding(crate::specs::Voice::voice_refusal, loops::specs::Refusal::first_of))]
 fn check(
     dim: usize,
@@ -101,8 +108,17 @@ fn check(
     need(are_numbers(vector, enrolled, limit), Refusal::VectorNumber)
 }
 
-/// The vector and the enrolled ones, `count` of them one after the other, are lists of f32 bits as a fetch gives them out, `dim` numbers each. The lowest
-/// index whose distance is least, where that is at most the limit; `None` where nobody is near enough. It refuses with 27 to 29.
+/// The enrolled vector whose distance to `vector` is least, where that is at most `limit`; `None`
+/// where nobody is near enough. Of equally near ones the lowest index.
+///
+/// Vectors have `dim` numbers each, as f32 bits, which a fetch gives out. `enrolled` holds `count`
+/// of them, one after the other.
+///
+/// # Errors
+///
+/// - `VoiceCount`: not 1 to 32 enrolled vectors.
+/// - `VectorLength`: a length that is not `dim`, or `count * dim`.
+/// - `VectorNumber`: a number that is not finite, or a limit below 0.
 pub fn nearest_voice(
     dim: usize,
     vector: &[u32],
@@ -115,7 +131,7 @@ pub fn nearest_voice(
     check(dim, vector, count, enrolled, limit)?;
     let mut index = 0;
     let mut shortest = distance(dim, vector, enrolled, 0);
-    // By index: where `dim` is 0 there are `count` rows without a number, which no chunks of a list are.
+    // by index: where `dim` is 0 there are `count` rows without a number
     for i in 1..count {
         let d = distance(dim, vector, enrolled, i);
         if d < shortest {
@@ -132,7 +148,7 @@ pub fn nearest_voice(
     Ok(None)
 }
 
-/// The record that C gets; a refusal is by its number, whichever it is.
+/// The record that C gets. A refusal is given by its number.
 #[tactic(auto, unfolding(crate::specs::Voice::voice_answer))]
 pub fn voice_answer(a: Result<Option<Voice>, usize>) -> VoiceAnswer
     ensures { result ≡ voice_answer a }

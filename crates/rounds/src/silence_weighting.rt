@@ -1,7 +1,6 @@
-// `SilenceWeighting`: frames that the decoder's best path calls silence enter the statistics at a small weight, and the
-// changes of weight are given by input frame. The table lies in three lent rooms with a place for each decoder frame
-// (`SilenceRooms`). Its record keeps how many of the places are in use. Each function that writes into the rooms says that they stay those that were
-// lent: of a struct behind `&mut` a caller knows what a clause says, and no more (tried without).
+//! Silence weighting: frames that the decoder's best path calls silence enter the statistics at a
+//! small weight, and the changes of weight are given by input frame. A table of three lent slices
+//! has a place for each decoder frame; its record says how many are in use.
 
 mod rooms;
 
@@ -22,10 +21,11 @@ pub use rooms::{LentPath, SilenceRooms};
 /// The highest number of an input frame.
 const MAX_INPUT: usize = 1000000000;
 
-/// The most decoder frames that a table takes, whatever its rooms.
+/// The most decoder frames of a table, whatever its slices hold.
 const MAX_FRAMES: usize = 1000000;
 
-// Refusal 9: the number of phones, the weight, the subsampling.
+// `SilenceSettings`: more than 64 phones, a subsampling outside 1 to 16, a weight that is not
+// finite.
 #[tactic(auto, unfolding(loops::specs::Refusal::first_of, definition::specs::Silence::settings_refusal))]
 fn check_settings(phones: usize, silence_weight: f32, subsampling: usize) -> Result<(), Refusal>
     ensures { refused_by result ≡ settings_refusal phones silence_weight subsampling }
@@ -38,7 +38,12 @@ fn check_settings(phones: usize, silence_weight: f32, subsampling: usize) -> Res
     need(floats::is_finite(silence_weight), Refusal::SilenceSettings)
 }
 
-/// A table of no frames yet, for rooms of `table` places each.
+/// A table without frames, for slices of `table` places each.
+///
+/// # Errors
+///
+/// `SilenceSettings`: more than 64 phones, a subsampling outside 1 to 16, or a weight that is not
+/// finite.
 #[tactic(auto, unfolding(definition::specs::Silence::new_table))]
 pub fn new(
     silence_phones: &[i32],
@@ -58,7 +63,7 @@ pub fn new(
     })
 }
 
-/// Whether the weighting changes anything.
+/// Whether the weighting changes anything: there are silence phones, and their weight is not 1.
 #[tactic(auto, unfolding(definition::specs::Silence::active))]
 pub fn active(s: SilenceWeighting) -> bool
     ensures { result ≡ active s }
@@ -66,14 +71,14 @@ pub fn active(s: SilenceWeighting) -> bool
     s.phones != 0 && s.silence_weight != 1.0
 }
 
-// The places of a table.
+// The most decoder frames that a table takes.
 fn places(s: SilenceWeighting) -> usize
     ensures { result ≡ places s }
 {
     s.table.min(MAX_FRAMES)
 }
 
-/// The answer, for C: what a call returned, and the record as it left it.
+/// The record that C gets: what a call returned, and the table's record as it left it.
 pub fn answered(taken: Result<usize, Refusal>, s: SilenceWeighting) -> SilenceAnswer
     ensures { result ≡ answer_of taken s }
 {
@@ -91,7 +96,7 @@ pub fn answered(taken: Result<usize, Refusal>, s: SilenceWeighting) -> SilenceAn
     }
 }
 
-// Whether a call made the record, for rooms of these lengths: else refusal 10.
+// Whether a call made the record, for slices of these lengths: else `ForeignRecord`.
 #[tactic(auto, unfolding(definition::specs::Silence::table_broken))]
 fn is_whole(s: SilenceWeighting, rooms: &SilenceRooms<'_>) -> bool
     ensures { table_broken s (length rooms.now.known.now) (length rooms.now.is_silence.now) (length rooms.now.current_weight.now) ≡ not result }
@@ -103,9 +108,8 @@ fn is_whole(s: SilenceWeighting, rooms: &SilenceRooms<'_>) -> bool
         && s.length.0 <= places(s)
 }
 
-// n places of a room from place a on, set to v. By place and number, as the definition marks them: a part that the caller cuts is no plainer, since what is
-// promised is of the whole room. A loop, which is compiled to one fill of memory: the library's `fill` writes its last element on its own, and a round of silence
-// calls took 2,973,370 instructions with it, and 2,710,750 so (counted).
+// Sets n places of a slice from place a on to v. A loop, which is compiled to one fill of memory:
+// `slice::fill` writes its last element on its own.
 fn fill<T: Copy>(room: &mut [T], a: usize, n: usize, v: T)
     requires { a + n ≤ length room.old }
     ensures { room.new ≡ put a (build n (λ i. v)) room.old }
@@ -115,7 +119,7 @@ fn fill<T: Copy>(room: &mut [T], a: usize, n: usize, v: T)
     }
 }
 
-// The places from `from` up to n more as those of frames that no path has named: unknown, of weight 0.
+// Opens n places from `from` on, for frames that no path has named: unknown, of weight 0.
 fn grow(rooms: &mut SilenceRooms<'_>, from: DecoderFrame, n: usize)
     requires { Holds (from.0 + n) (rooms_in rooms.old) }
     ensures known { rooms.new.known.now ≡ put from.0 (build n (λ i. false)) rooms.old.known.now }
@@ -130,6 +134,7 @@ fn grow(rooms: &mut SilenceRooms<'_>, from: DecoderFrame, n: usize)
 
 // ---- the traceback
 
+// What a traceback refuses.
 #[tactic(auto, unfolding(loops::specs::Refusal::first_of, definition::specs::Silence::traceback_tests))]
 fn check_traceback(
     s: SilenceWeighting,
@@ -151,8 +156,7 @@ fn check_traceback(
     )
 }
 
-// The segments' flags, one segment after the other, in a table of at least `decoded` frames. The two rooms that it writes, and not all three: what the loop
-// would have to say of the third and of the struct is no plainer.
+// Marks the frames of each segment as known, and as silence or not. Later segments win.
 fn mark_segments(
     silence_phones: &[i32],
     known: &mut [bool],
@@ -170,7 +174,7 @@ fn mark_segments(
         (known.new ≡ over (map (λ f. f.known) t) known.old)
         × (is_silence.new ≡ over (map (λ f. f.is_silence) t) is_silence.old) }
 {
-    // By index: three lists in step, of which two zips would say no more.
+    // by index: three lists in step
     for i in 0..path.phones.len() {
         let stop = path.ends[i].min(decoded.0);
         let start = path.starts[i].min(stop);
@@ -180,7 +184,14 @@ fn mark_segments(
     }
 }
 
-/// Records the silence status of every decoded frame from the best path's phone segments.
+/// Records from the best path's segments which decoded frames are silence. `num_frames_decoded`
+/// counts the frames decoded so far; a segment is cut there.
+///
+/// # Errors
+///
+/// - `ForeignRecord`: no call made the record, or the slices or the phones have other lengths.
+/// - `DecoderFrames`: more frames than the table has.
+/// - `SilenceLists`: the lists of segments differ in length.
 #[inline(always)]
 pub fn compute_current_traceback(
     s: &mut SilenceWeighting,
@@ -211,7 +222,8 @@ pub fn compute_current_traceback(
 
 // ---- the weights
 
-// How decoder frames lie among input frames: decoder frame 0 begins at `first`, and each is `subsampling` of them.
+// How decoder frames lie among input frames: decoder frame 0 begins at `first`, and each spans
+// `subsampling` of them.
 #[derive(Clone, Copy)]
 struct Clock {
     subsampling: usize,
@@ -222,7 +234,7 @@ struct Clock {
 }
 
 impl Clock {
-    // The decoder frames that the input frames from `first` up to `ready` reach into.
+    // How many decoder frames the input frames from `first` up to `ready` reach into.
     #[tactic(auto, unfolding(definition::specs::Silence::decoder_frames))]
     fn decoder_frames(self, ready: InputFrame) -> DecoderFrame
         requires { ready.0 ≤ 1000000000 }
@@ -243,7 +255,7 @@ impl Clock {
     }
 }
 
-// Where the walk begins.
+// Where the walk begins: the last 100 frames of the table are weighed anew.
 fn walk_begin(s: SilenceWeighting) -> DecoderFrame
     ensures { result.0 ≡ s.length.0 - 100 }
 {
@@ -262,8 +274,8 @@ fn before_weight(s: SilenceWeighting, rooms: &SilenceRooms<'_>) -> f32
     rooms.weight(s.length, DecoderFrame(begin.0 - 1))
 }
 
-// The new weight of a frame of this status, p being that of the frame before it. `blind` is the definition's: whether the walk began at an unknown frame.
-// An enum of two for it would be translated back in the clause.
+// The new weight of a frame of this status, p being the weight before it. `blind`: the walk began
+// at an unknown frame, so the weight carries over.
 #[tactic(auto, unfolding(definition::specs::Silence::carried))]
 fn next_weight(silence_weight: f32, blind: bool, status: Option<bool>, p: f32) -> f32
     ensures { (f : FrameInfo) → status ≡ status_of f → result ≡ carried silence_weight blind f p }
@@ -275,8 +287,8 @@ fn next_weight(silence_weight: f32, blind: bool, status: Option<bool>, p: f32) -
     }
 }
 
-// How many changes a frame gives, `last` being the definition's test of the table's last frame: an enum of two would be translated back in each clause, here
-// and in `give`.
+// How many changes a decoder frame gives: one for each of its input frames, where its weight
+// changed or it is the last.
 #[tactic(auto, unfolding(crate::specs::Inner::SilenceWeighting::number))]
 fn number_of(subsampling: usize, diff: f32, last: bool) -> usize
     ensures { result ≡ number subsampling diff last }
@@ -284,7 +296,7 @@ fn number_of(subsampling: usize, diff: f32, last: bool) -> usize
     if diff != 0.0 || last { subsampling } else { 0 }
 }
 
-// The number of changes to a table that is to have n frames.
+// How many changes the walk gives, to a table that is to have n frames.
 fn count_changes(s: SilenceWeighting, rooms: &SilenceRooms<'_>, n: DecoderFrame) -> usize
     requires rooms { Holds s.length.0 (rooms_in rooms.now) }
     requires longer { s.length.0 ≤ n.0 }
@@ -297,7 +309,7 @@ fn count_changes(s: SilenceWeighting, rooms: &SilenceRooms<'_>, n: DecoderFrame)
     let mut weight = before_weight(s, rooms);
     let mut count = 0;
     let frames_out = n.0 - begin.0;
-    // By index: a step is of frame `begin + offset`, and looks at places of three rooms.
+    // by index: a step looks at places of three slices
     for offset in 0..frames_out {
         let frame = DecoderFrame(begin.0 + offset);
         let w = next_weight(
@@ -313,7 +325,8 @@ fn count_changes(s: SilenceWeighting, rooms: &SilenceRooms<'_>, n: DecoderFrame)
     count
 }
 
-// The changes of decoder frame k, from place `at` of the answer on. Returns the place after them. `last` is the definition's, as in `number_of`.
+// Writes the changes of decoder frame k from place `at` of the lists on. It returns the place after
+// them.
 fn give(
     frames: &mut [usize],
     weights: &mut [f32],
@@ -331,7 +344,7 @@ fn give(
     ensures weights { weights.new ≡ put at (map (λ x. x.1) (given clock.subsampling clock.first k diff last)) weights.old }
 {
     let n = number_of(clock.subsampling, diff, last);
-    // By index: input frame j of a decoder frame is reckoned from j.
+    // by index: the input frame is computed from j
     for j in 0..n {
         frames[at + j] = clock.input_frame(k, j).0;
     }
@@ -339,8 +352,8 @@ fn give(
     at + n
 }
 
-// The walk to a table that is to have n frames: the new weights, and the changes. Returns how many. n is of the table, as the definition has it, and no
-// length of a slice.
+// The walk, to a table that is to have n frames: it writes the new weights and the changes, and
+// returns how many changes these are.
 fn give_changes(
     s: SilenceWeighting,
     rooms: &mut SilenceRooms<'_>,
@@ -367,7 +380,7 @@ fn give_changes(
     let mut weight = before_weight(s, rooms);
     let mut at = 0;
     let frames_out = n.0 - begin.0;
-    // By index, as in `count_changes`.
+    // by index: a step looks at places of three slices
     for offset in 0..frames_out {
         let frame = DecoderFrame(begin.0 + offset);
         let w = next_weight(
@@ -385,6 +398,7 @@ fn give_changes(
     at
 }
 
+// What a weighing refuses. `room` is the length of the shorter list.
 #[tactic(auto, unfolding(loops::specs::Refusal::first_of, definition::specs::Silence::delta_tests, definition::specs::Silence::get_delta_weights))]
 fn check_deltas(
     s: SilenceWeighting,
@@ -408,7 +422,7 @@ fn check_deltas(
         return Ok(());
     }
     let n = DecoderFrame(s.length.0.max(wanted.0));
-    // where a change of each input frame would find room, the changes need not be counted
+    // with room for a change of each input frame, the changes need not be counted
     let frames_out = n.0 - walk_begin(s).0;
     if frames_out * s.subsampling <= room {
         return Ok(());
@@ -416,7 +430,14 @@ fn check_deltas(
     need(count_changes(s, rooms, n) <= room, Refusal::SilenceLists)
 }
 
-/// The weight changes by input frame, Kaldi's `GetDeltaWeights`, and how many they are. Decoder frame 0 begins at input frame `first_decoder_frame`.
+/// The changes of weight by input frame, Kaldi's `GetDeltaWeights`, in the first places of the two
+/// lists. It returns how many. Decoder frame 0 begins at input frame `first_decoder_frame`.
+///
+/// # Errors
+///
+/// - `ForeignRecord`: no call made the record, or the slices have other lengths.
+/// - `DecoderFrames`: more frames than the table has, or a frame number above 10^9.
+/// - `SilenceLists`: the lists are too short for the changes.
 #[inline(always)]
 pub fn get_delta_weights(
     s: &mut SilenceWeighting,

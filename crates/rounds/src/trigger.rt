@@ -1,7 +1,5 @@
-// The round of an utterance: the calls that follow one, in their order. What the table does in it, and how it ends, is `trigger_steps`.
-// Each of these functions is lent the rooms that its calls write, no others: one struct of all would be lent to a push too, and is no plainer. Each says of
-// each struct that its slices stay the same ones: why a clause does, the head of definition's `lent` says. The lists for the changes are two slices, as C
-// lends them to a weighing alone.
+//! The round of an utterance, which is seven calls in their order: forget, push, note, weigh,
+//! change, fetch, find. Each function here is lent the slices that its calls write, and no others.
 
 ghost use Rattle.std.specs.Prelude.{◌≡◌, ◌<◌, false, length, IfErr};
 ghost use Rattle.definition.specs.Lent.{tables_in, SameRings, SameWaiting, SameEstimate};
@@ -21,23 +19,29 @@ use definition::{
 };
 use stream::{ivector_fetch, ivector_stream};
 
-/// What was said: its start frame, the numbers of its frames, one frame after the other, and the path of its segments.
+/// What was said.
 #[derive(Clone, Copy)]
 pub struct LentUtterance<'a> {
+    /// Its first input frame.
     pub start: usize,
+    /// Its frames, one after the other, `base_dim` numbers each.
     pub numbers: &'a [f32],
+    /// The segments of the decoder's best path.
     pub path: LentPath<'a>,
 }
 
-/// The enrolled voices: `count` vectors one after the other, and how near is near enough.
+/// The enrolled voices, as [`nearest_voice::nearest_voice`] takes them.
 #[derive(Clone, Copy)]
 pub struct LentVoices<'a> {
     pub count: usize,
+    /// `count` vectors as f32 bits, one after the other.
     pub enrolled: &'a [u32],
+    /// The largest distance that is near enough.
     pub limit: f32,
 }
 
-/// What a round returns: how it ended, how many changes weighing gave, and the records for the next call.
+/// What a round returns: how it ended, how many changes the weighing gave, and the records for the
+/// next call.
 #[derive(Clone, Copy, Debug, PartialEq)]
 pub struct TriggerRound {
     pub result: Result<RoundEnd, Halt>,
@@ -46,7 +50,7 @@ pub struct TriggerRound {
     pub silence: SilenceWeighting,
 }
 
-/// The same as the record that C gets.
+/// [`TriggerRound`] as the record that C gets.
 #[repr(C)]
 #[derive(Clone, Copy, Debug, PartialEq)]
 pub struct RoundAnswer {
@@ -56,7 +60,8 @@ pub struct RoundAnswer {
     pub silence: SilenceWeighting,
 }
 
-// The frames of an utterance, pushed one after the other, up to the first that is refused.
+// Pushes the frames of an utterance, up to the first that is refused. A last frame that is cut
+// short is pushed as it stands.
 fn push_all(
     s: &mut IvectorStream,
     numbers: &[f32],
@@ -67,6 +72,7 @@ fn push_all(
     ensures halt { IfErr result (λ h. (0 < h.refusal) × (h.step ≡ 2)) }
     ensures loans { SameRings held.old held.new }
 {
+    // at least 1, as `chunks` asks; a push refuses a record of dimension 0
     let n = s.info.dims.base_dim.max(1);
     for frame in numbers.chunks(n) {
         let call = ivector_stream::push_frame(*s, frame, held, waiting);
@@ -96,7 +102,8 @@ fn hear(
     push_all(s, numbers, held, waiting)
 }
 
-// Steps 6 and 7: fetch the last ready frame, find the nearest voice. With no ready frame the round ends before them.
+// Steps 6 and 7: fetch the last ready frame, find the nearest voice. With no ready frame the round
+// ends before them.
 fn decide(
     s: &mut IvectorStream,
     tables: LentTables<'_>,
@@ -134,7 +141,8 @@ fn decide(
     trigger_steps::result_of(definition::numbered(found))
 }
 
-// The steps, on records that each of them changes in place. A refusal ends them; what was done remains done.
+// The seven steps, on records that each changes in place. A refusal ends them; what was done
+// remains done.
 fn go_through(
     s: &mut IvectorStream,
     silence: &mut SilenceWeighting,
@@ -175,7 +183,7 @@ fn go_through(
         delta_weights,
     )?;
     *changes = given;
-    // the front of each list, by how many were given: the lists that C lends may be longer
+    // the front of each list: lists that C lends may be longer
     let changed = ivector_stream::update_frame_weights(
         *s,
         &delta_frames[..given],
@@ -197,10 +205,16 @@ fn go_through(
     )
 }
 
-/// The round of an utterance: forget at its start, push its frames, note the path of its segments, weigh, change, fetch the last ready frame, find the
-/// nearest voice. A last frame that is cut short is pushed as it stands. The lists for the changes and the output of the vector are lent: the first
-/// `changes` places of the lists hold what weighing gave, the output the vector where the fetch was taken. A refusal ends the round with its number and
-/// step; what was done remains done. Scratch is free once a fetch is taken.
+/// The round of an utterance: forget at its start, push its frames, note the path of its segments,
+/// weigh, change, fetch the last ready frame, find the nearest voice.
+///
+/// A last frame that is cut short is pushed as it stands. The first `changes` places of the two
+/// lists hold what the weighing gave; `out` holds the vector's f32 bits once the fetch was taken.
+/// `scratch` is free once the fetch was taken.
+///
+/// # Errors
+///
+/// The first refusal ends the round: its number and the step's, 1 to 7. What was done remains done.
 pub fn round(
     s: IvectorStream,
     silence: SilenceWeighting,

@@ -1,5 +1,4 @@
-// Steps 3 and 4 of a round, and how it ends: in a crate of their own, so that a check of them stays short. The round is defined here, all its steps
-// (specs/Round.antt), with the laws of each; `trigger` has the rest of it.
+//! Steps 3 and 4 of a round, how a step's refusal ends it, and the records that say so.
 
 ghost use Rattle.std.specs.Prelude.{◌≡◌, List, ◌<◌, ◌≤◌, length, Float, IfOk, IfErr};
 ghost use Rattle.rounds.specs.Inner.SilenceWeightingRooms.{rooms_in, SameLoans};
@@ -10,7 +9,7 @@ use crate::nearest_voice::Voice;
 use crate::silence_weighting::{self, LentPath, SilenceRooms};
 use definition::{DecoderFrame, InputFrame, Refusal, SilenceWeighting, StreamAnswer};
 
-/// How a round ends that was not refused. An enum of its own: of an `Option` in an `Option` nobody could tell which `None` says what, so that would be no plainer.
+/// How a round ends that was not refused.
 #[derive(Clone, Copy, Debug, PartialEq)]
 pub enum RoundEnd {
     /// It went through all its steps: the nearest voice, `None` where nobody is near enough.
@@ -19,16 +18,22 @@ pub enum RoundEnd {
     NoVector,
 }
 
-/// How a round ends as the record that C gets: the refusal's number and its step, 0 where none was refused; whether the round was
-/// full, that is, went through all its steps; whether somebody is near enough, and who. Without a refusal a round that is not full has no vector.
+/// How a round ends, as the record that C gets. Without a refusal, a round that is not full has no
+/// vector.
 #[repr(C)]
 #[derive(Clone, Copy, Debug, Default, PartialEq)]
 pub struct RoundOutcome {
+    /// The refusal's number, 0 where there is none.
     pub refusal: usize,
+    /// The number of the step that was refused, 0 where there is none.
     pub step: usize,
+    /// Whether the round went through all its steps.
     pub full: bool,
+    /// Whether a voice is near enough.
     pub found: bool,
+    /// Whose, from 0.
     pub index: usize,
+    /// Its squared distance.
     pub distance: f32,
 }
 
@@ -45,7 +50,7 @@ pub enum Step {
 }
 
 impl Step {
-    /// The number that the C interface gives. A method, as a refusal's: `usize::from` would not say which number.
+    /// The number that the C interface gives.
     pub fn number(self) -> usize
         ensures { result ≡ number_of self }
     {
@@ -53,14 +58,14 @@ impl Step {
     }
 }
 
-/// Where a refusal ended a round: its number, and that of its step, as C gets them. A stream's calls answer by number too, so a halt can have any.
+/// Where a refusal ended a round, as C gets it: numbers, since a stream's calls answer by number.
 #[derive(Clone, Copy, Debug, PartialEq, Eq)]
 pub struct Halt {
     pub refusal: usize,
     pub step: usize,
 }
 
-/// What a call of this step gave: its refusal ends the round there.
+/// A refusal of this step's call ends the round there.
 pub fn at_step<T>(step: Step, r: Result<T, Refusal>) -> Result<T, Halt>
     ensures { result ≡ halted step r }
 {
@@ -73,7 +78,7 @@ pub fn at_step<T>(step: Step, r: Result<T, Refusal>) -> Result<T, Halt>
     }
 }
 
-/// What a stream's call of this step answered, in the record that C gets: where it has a refusal's number, the round ends there.
+/// The same of a stream's call, whose answer has the refusal's number.
 pub fn answered(step: Step, a: StreamAnswer) -> Result<(), Halt>
     ensures { result ≡ stopped (number_of step) a.refusal }
 {
@@ -86,7 +91,7 @@ pub fn answered(step: Step, a: StreamAnswer) -> Result<(), Halt>
     })
 }
 
-// The frames decoded.
+// How many decoder frames the path reaches: the highest end.
 #[tactic(auto, unfolding(crate::specs::Round::decoded))]
 fn decoded(ends: &[usize]) -> usize
     ensures { result ≡ decoded_of ends.now }
@@ -94,8 +99,8 @@ fn decoded(ends: &[usize]) -> usize
     ends.iter().fold(0, |last, &end| last.max(end))
 }
 
-/// Steps 3 and 4: note the path, weigh, and how many changes that gave. `ready` is the stream's ready count. The lists for the changes are two slices, as C
-/// lends them to a weighing alone. That the table's rooms stay those that were lent is a clause, as in `silence_weighting`, whose head says why.
+/// Steps 3 and 4: note the path and weigh. It returns how many changes that gave. `ready` is the
+/// stream's ready count. The changes stand in the first places of the two lists.
 pub fn weigh_path(
     silence: &mut SilenceWeighting,
     silence_phones: &[i32],
@@ -138,7 +143,7 @@ pub fn weigh_path(
     at_step(Step::Weigh, weighed)
 }
 
-/// The nearest voice as the end of a full round; a refusal, by its number, is one of step 7.
+/// The nearest voice as the end of a full round. A refusal, by its number, is one of step 7.
 #[tactic(auto, unfolding(crate::specs::Round::result_of))]
 pub fn result_of(v: Result<Option<Voice>, usize>) -> Result<RoundEnd, Halt>
     ensures { result ≡ result_of v }

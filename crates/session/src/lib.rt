@@ -1,5 +1,6 @@
-// A session by one call: a model's files are loaded, a fresh stream is made over the tables that they fill, and a list of calls is played on it. Its contract is the
-// claim from bytes: what it answers is what the keeping machine answers over the model that the bytes define.
+//! A session by one call: a model's files are loaded, a fresh stream is made over the tables that
+//! they fill, and a list of calls is played on it. The contract is the claim from bytes: the
+//! answers are those of the keeping machine over the model that the bytes define.
 #![tactic(auto)]
 
 ghost use Rattle.std.specs.Prelude.{◌≡◌, List, ℕ, length};
@@ -26,7 +27,7 @@ pub enum NotPlayed {
     Stream(Refusal),
 }
 
-// A fresh stream's answer: it holds one prefix row, and no frame.
+// A fresh stream's answer: no frame is held, and one prefix row.
 const FRESH: StreamAnswer = StreamAnswer {
     refusal: 0,
     frames_held: 0,
@@ -35,8 +36,13 @@ const FRESH: StreamAnswer = StreamAnswer {
     nan_likelihoods: 0,
 };
 
-/// The answers are written as `run_calls::run` writes them; what is returned is the fresh stream's. The files and the tables are lent one by one, as to a load,
-/// and the rings as to `run`.
+/// Loads the model of four files into the tables, makes a fresh stream in the rooms, and plays
+/// `list` on it. Answers and vectors are written as [`run_calls::run`] writes them. It returns the
+/// fresh stream's answer.
+///
+/// # Errors
+///
+/// `NotPlayed` says whether the load or the stream was refused. Then nothing is played.
 pub fn session(
     opts: IvectorOptions,
     gmm: &[u8],

@@ -1,4 +1,5 @@
-// A list of calls as `run_calls` takes it, gathered line by line; its answers are printed from where they were written.
+//! A list of calls as `run_calls` takes it, gathered line by line. Its answers are printed from
+//! where they were written.
 use definition::StreamAnswer;
 use lists::run_calls::CallList;
 use script::{Words, front, print_answer, print_list};
@@ -59,7 +60,8 @@ impl Calls {
         self.numbers.extend_from_slice(&numbers)
     }
 
-    /// A line of a call; a list that is longer than its room here is longer than a frame, or than a change, may be.
+    /// Adds the call of a line. A list that is longer than its room here is longer than any frame
+    /// or any change.
     pub(crate) fn read(&mut self, letter: u8, words: &mut Words<'_>) -> Result<(), AllocError> {
         match letter {
             b'p' => {

@@ -1,5 +1,6 @@
-// Plays a script of sessions from standard input: of each the model, the stream's rooms and the calls are gathered, and played by one call. An answer line is
-// printed for each line that has one. README.md says what a line may be.
+//! Plays a script of sessions from standard input. The model, the stream's rooms and the calls of
+//! each are gathered, and played by one call. An answer line is printed for each line that has one.
+//! README.md says what a line may be.
 #![tactic(auto)]
 
 mod calls;

@@ -1,4 +1,5 @@
-// What the lines of a script ask for, up to the line that ends a session; then the one call that plays it.
+//! What the lines of a script ask for, up to the line that ends a session; then the one call that
+//! plays it.
 use super::calls::Calls;
 use super::rooms::{Lengths, Rooms, Tables};
 use definition::{IvectorOptions, LentEstimate, StreamAnswer, WaitingRooms};
@@ -8,7 +9,8 @@ use session::NotPlayed;
 use std::alloc::{AllocError, Global};
 use std::io::{self, Write};
 
-/// What is asked for: nothing yet, a load with the lengths of its tables, or a stream over it with those of its rooms.
+/// What is asked for: nothing yet, a load with the lengths of its tables, or a stream over it with
+/// the lengths of its rooms.
 #[derive(Clone, Copy)]
 enum Asked<'a> {
     Nothing,
@@ -16,14 +18,18 @@ enum Asked<'a> {
     Stream(Words<'a>, Words<'a>),
 }
 
-/// The options and files so far, what is asked for, whether the load's answer is printed, and the calls.
+/// What stands between two lines.
 #[derive(Drop)]
 pub(crate) struct Plan<'a> {
     alloc: Global,
+    /// The options so far.
     opts: IvectorOptions,
+    /// The files so far.
     files: Files<'a>,
     asked: Asked<'a>,
+    /// Whether the load's answer is printed.
     load_told: bool,
+    /// The calls so far.
     calls: Calls,
 }
 
@@ -49,7 +55,8 @@ impl<'a> Plan<'a> {
         }
     }
 
-    /// One line, which is the text from its first byte on. A line of a model, another stream over the same one and the end of a list end a session.
+    /// One line, which is the text from its first byte on. A line of a model, another stream over
+    /// the same model, and the end of a list end a session.
     pub(crate) fn read(&mut self, writer: &mut impl Write, line: &'a [u8]) -> io::Result<()> {
         let mut words = Words { rest: line };
         let letter = words.letter();
@@ -95,7 +102,7 @@ impl<'a> Plan<'a> {
         Ok(())
     }
 
-    /// Plays what is asked for, and prints its answers; nothing is asked for then.
+    /// Plays what is asked for, and prints its answers. Nothing is asked for then.
     pub(crate) fn play(&mut self, writer: &mut impl Write) -> io::Result<()> {
         match self.asked {
             Asked::Nothing => {}

@@ -1,4 +1,5 @@
-// What a session is lent: tables, a stream's rooms and scratch, as long as a model needs them, and longer or shorter by what a line says.
+//! What a session is lent: tables, a stream's rooms and scratch, as long as a model needs them, and
+//! longer or shorter by what a line says.
 use definition::{Dimensions, IvectorOptions, RoomLengths, TableLengths};
 use model::memory;
 use script::{Words, moved};

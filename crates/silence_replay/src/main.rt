@@ -1,6 +1,6 @@
-// Replays a script of silence calls from standard input and prints an answer line for each. Of the script's commands it knows
-// t (make a table), b (traceback), a (weights), y (the next call's record or rooms are forged) and z (end of a session). An enum of the letters, matched once
-// more in each of these functions, is no plainer; nor is another record in place of one whose fields are forged.
+//! Replays a script of silence calls from standard input, and prints an answer line for each. Of
+//! the script's commands it knows t (make a table), b (traceback), a (weights), y (the next call's
+//! record or rooms are forged) and z (end of a session).
 #![tactic(auto)]
 
 use definition::{DecoderFrame, InputFrame, SilenceWeighting};
@@ -9,10 +9,11 @@ use script::{Item, Script, Words, front, lend, not_here, print};
 use std::alloc::{AllocError, Global};
 use std::io::{self, Write};
 
-/// A place more than the 1,000,000 decoder frames that a table takes.
+/// One place more than the 1,000,000 decoder frames that a table takes.
 const FRAMES: usize = 1000001;
 
-/// The silence phones, and a table's rooms. A length that a room has no places for is cut to the room; the answer then shows it.
+/// The silence phones, and a table's rooms. A length that a room has no places for is cut to the
+/// room; the answer then shows it.
 #[derive(Drop)]
 struct Rooms {
     phones: Vec<i32>,
@@ -32,12 +33,16 @@ impl Rooms {
     }
 }
 
-/// What stands between two lines: the table that is open; the same and the length of the rooms as the next call is told them, and whether this is forged.
+/// What stands between two lines.
 #[derive(Drop)]
 struct Session {
+    /// The table that is open.
     held: Option<SilenceWeighting>,
+    /// What the next call is told in its place.
     told: Option<SilenceWeighting>,
+    /// The length of the rooms that the next call is lent.
     lent: usize,
+    /// Whether a script forged either.
     forged: bool,
     rooms: Rooms,
 }
@@ -53,7 +58,7 @@ impl Session {
         })
     }
 
-    /// This is open, and nothing forged. The rooms stay, so another session in place of this one would be no plainer.
+    /// This is open, and nothing is forged. The rooms stay.
     fn hold(&mut self, held: Option<SilenceWeighting>) {
         self.held = held;
         self.told = held;
@@ -61,7 +66,7 @@ impl Session {
         self.forged = false;
     }
 
-    /// After a call: a forged one leaves the record as it was.
+    /// After a call the record is the one it left; after a forged one, what it was.
     fn after(&mut self, s: SilenceWeighting) {
         self.hold(if self.forged { self.held } else { Some(s) });
     }

@@ -1,10 +1,10 @@
-// Runs single functions on the vectors of standard input, and prints what each gives. A line is a function's letter and its arguments as
-// hexadecimal numbers, parted by one space each: l ln, n ln_f32, e exp, r narrow, f min_post_for, s select_posteriors, g linear_cgd,
-// c cholesky_solve, t a text number (its bytes), v nearest_voice, o the options of two settings texts.
-//
-// Each number is printed by its bits, which no `Display` has: a type around it, for these lines alone, is no plainer. Each list and matrix stands in a room
-// for the longest, and is cut by hand to the length that its line says, which the functions that are called want: it was compared with the room before, so that an
-// Option by `get` is no plainer.
+//! Runs single functions on the vectors of standard input, and prints what each gives. A line is a
+//! function's letter and its arguments as hexadecimal numbers, parted by one space each: l ln, n
+//! ln_f32, e exp, r narrow, f min_post_for, s select_posteriors, g linear_cgd, c cholesky_solve, t
+//! a text number (its bytes), v nearest_voice, o the options of two settings texts.
+//!
+//! Numbers are printed by their bits. Each list and matrix stands in a room for the longest, and is
+//! cut to the length that its line says.
 #![tactic(auto)]
 
 use algebra::linear;
@@ -17,7 +17,7 @@ use rounds::nearest_voice;
 use script::{Item, Pattern, Script, Words, front, lend, print, print_list};
 use std::io::{self, Write};
 
-/// What a line answers whose lists or matrices have no room here.
+/// The answer to a line whose lists or matrices have no room here.
 fn too_large(writer: &mut impl Write) -> io::Result<()> {
     writeln!(writer, "too large for this program")
 }
@@ -140,7 +140,7 @@ fn cholesky(writer: &mut impl Write, words: &mut Words<'_>) -> io::Result<()> {
     print_row(writer, &x[..n])
 }
 
-/// Bytes at a place of a room, as far as it has places; the place after them.
+/// Writes bytes at a place of a room, as far as it has places. It returns the place after them.
 fn put(room: &mut [u8], at: usize, bytes: &[u8]) -> usize {
     let at = at.min(room.len());
     let n = bytes.len().min(room.len() - at);

@@ -14,7 +14,7 @@ use Rattle.loops.proofs.Choose.{by-test}
 use Rattle.floats.specs.Ln.{ln_narrow}
 use Rattle.definition.specs.declared.IvectorOptions.{IvectorOptions}
 use Rattle.definition.specs.declared.FrameWeight.{FrameWeight}
-use Rattle.definition.specs.declared.FrameWeight.TheVariants.{Skipped, Weighed}
+use Rattle.definition.specs.declared.FrameWeight.TheVariants.{Weighed}
 use Rattle.definition.specs.Model.{Model}
 use Rattle.definition.specs.Views.{Frames}
 use Rattle.definition.specs.Statistics.{Entry}
@@ -28,7 +28,7 @@ use Rattle.gmm.specs.Batch.{Logged}
 use Rattle.gmm.specs.Inner.BatchSumsRooms.{SumsIn}
 use Rattle.gmm.proofs.Batches.{sums_on, sums_none}
 use Rattle.stream.specs.declared.ivector_batch.intake.Intake.{Intake}
-use Rattle.stream.specs.Inner.IvectorBatch.{run, changes_batch, batch_in, places_of, frame_in, batch_from, left_of, Lined, Held, frame_state, frame_entries, frame_nans, Partway}
+use Rattle.stream.specs.Inner.IvectorBatch.{run, changes_batch, batch_in, places_of, batch_from, left_of, frame_state, frame_entries, frame_nans, Partway}
 
 -- ---- what is left of a batch
 
@@ -124,23 +124,7 @@ module _ (o : IvectorOptions) (x : Intake) {k : ℕ} (e : k ≡ places_of x) whe
   pub no_batch : k ≡ 0 → batch_in o x ≡ []
   no_batch h = sym whole_batch ∙ none_left o x.called x.next k x.waiting.frames.now x.waiting.weights.now 0 (omega arith)
 
-  module _ (held : Held o x) where
-    pub lined : Lined k x
-    lined h = let u : k ≡ x.changes = rw h at e in (omega (arith, u, held.frames_wait h), omega (arith, u, held.weights_wait h))
-
-    pub in_reach : (j : ℕ) → j < k → frame_in x j < x.accepted
-    in_reach j p =
-        by-test x.called
-        (λ h. let u : k ≡ x.changes = rw h at e in rw h (held.in_reach h j (omega (arith, u, p))))
-        (λ h. let u : k ≡ x.end - x.next = rw h at e in rw h (omega (arith, u, p, held.there, held.in_order)))
-
 -- ---- the logarithm of a frame's floor, by its kind
-skips : {w : FrameWeight} {floor scale : Float} → w ≡ Skipped → w ≡ Weighed floor scale → ⊥
-skips e f = let z : ◌≡◌ {A = ℕ} 0 1 = cc in omega arith
-
-pub skipped_log : {w : FrameWeight} (ln : Float) → w ≡ Skipped → Logged w ln
-skipped_log ln e floor scale f = absurd (skips e f)
-
 pub weighed_log : {w : FrameWeight} {ln own scale : Float} → w ≡ Weighed own scale → ln ≡ ln_narrow own → Logged w ln
 weighed_log {own = own} e h floor scale f = let same : own ≡ floor = cc in h ∙ ap ln_narrow same
 

@@ -1,6 +1,6 @@
 -- A record and lent rings that meet no refusal 10: what is known of them, and the number of a call whose further tests come after those.
 use mathlib.Core.Path.{◌≡◌, refl, sym, ap, ◌∙◌}
-use mathlib.Core.Bool.{Bool, true, false, not, ◌||◌, or-false}
+use mathlib.Core.Bool.{Bool, true, false, not}
 use mathlib.Core.List.{List, [], ◌∷◌, ◌++◌}
 use Prim.Native.Nat.{ℕ, suc, ◌≤◌}
 use native.Mathlib.Omega.{arith}
@@ -12,12 +12,7 @@ use Rattle.loops.specs.Ring.{rows_in}
 use Rattle.loops.proofs.Choose.{by-test}
 use Rattle.loops.proofs.Refusal.{NoneFirst, FirstAt, number_at, first-here, first_past, first_is, first-none, first_then, first_already, none_first}
 use Rattle.loops.proofs.Tests.{each_pair}
-use lib.Ieee.{Float}
-use lib.Ieee.Scale.{finite}
-use Rattle.std.specs.Prelude.{Result, Ok, fold}
-use Rattle.std.specs.Float.{float_is_finite}
-use Rattle.floats.proofs.Finite.{std_finite}
-use Rattle.loops.specs.Lists.{any_of}
+use Rattle.std.specs.Prelude.{Result, Ok}
 use Rattle.definition.specs.declared.refusal.Refusal.{Refusal}
 use Rattle.definition.specs.Number.{number_of, refused_by}
 use Rattle.definition.specs.declared.IvectorStream.{IvectorStream}
@@ -26,16 +21,6 @@ use Rattle.definition.proofs.Ranges.{DimRanges, dim-ranges, info_sound_lem, fitt
 use Rattle.limits.proofs.Records.{Whole, whole}
 use Rattle.program.specs.Rooms.{Rings, ring_lengths_of}
 use Rattle.program.specs.Calls.{record_tests}
-
--- a number that is not finite, found without an early exit
-fold_from : (b : Bool) (xs : List Float) → fold (λ (a : Bool) (v : Float). a || not (float_is_finite v)) b xs ≡ (b || any_of (λ v. not (finite v)) xs)
-unfolding any_of
-fold_from b [] = sym (or-false b)
-fold_from true (x ∷ xs) = fold_from true xs
-fold_from false (x ∷ xs) = rw std_finite (fold_from (not (finite x)) xs)
-
-pub any_fold : (xs : List Float) → fold (λ (a : Bool) (v : Float). a || not (float_is_finite v)) false xs ≡ any_of (λ v. not (finite v)) xs
-any_fold xs = fold_from false xs
 
 -- a test that `need` let through
 pub needed : {A : Type 0} {a : A} {r : Result A Refusal} (n : ℕ) (t : Bool) → refused_by r ≡ first_of ((not t, suc n) ∷ []) → r ≡ Ok a → t ≡ true

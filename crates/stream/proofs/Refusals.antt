@@ -26,7 +26,7 @@ use Rattle.definition.specs.Stream.{record_sound, same_tables, rooms_fit, new_re
 use Rattle.definition.proofs.Ranges.{DimRanges, dim-ranges, record_sound_lem, Fitting, fitting}
 use Rattle.program.specs.Rooms.{Rings}
 use Rattle.program.specs.Calls.{record_tests, push_frame, update_frame_weights, set_cmn_window}
-use Rattle.stream.proofs.Records.{Passed, tests_passed, few, other_few, already, then_all, then_first, then_none}
+use Rattle.stream.proofs.Records.{Passed, tests_passed, few, other_few, already, then_first, then_none}
 
 -- ---- a fresh stream
 
@@ -91,10 +91,6 @@ module _ (s : IvectorStream) (z : Rings) (x : List Float) where
     pub push-none : r ≡ 0 → NoneFirst push_tests_is → 0 ≡ (push_frame s z x).refusal
     unfolding push_frame
     push-none = then_none s z push_tests_is e
-
-    pub push_then : r ≡ 0 → {n : ℕ} → n ≡ first_of push_tests_is → n ≡ (push_frame s z x).refusal
-    unfolding push_frame
-    push_then = then_all s z push_tests_is e
 
   -- what the tests ask of the record, and the stores of a push that is taken
   pub tests_fit : Passed s z → (0 < base) × (base ≤ 64) × (s.accepted ≤ 1000000000) × (s.mark ≤ 1000000000)

@@ -6,20 +6,16 @@ use mathlib.Core.Logic.{◌⊎◌, ⊎_elim}
 use Prim.Native.Nat.{ℕ, ◌+◌, ◌≤◌, ◌<◌}
 use native.Mathlib.Omega.{arith}
 use lib.Dec.{T}
-use lib.ListN.{length, get_or, set}
+use lib.ListN.{length, set}
 use lib.Ieee.{Float, nan, inf, fin, is_nan}
 use lib.Ieee.Scale.{finite}
 use Rattle.loops.specs.Lists.{build}
 use Rattle.loops.specs.Ring.{rows_in, put, place}
-use Rattle.loops.proofs.Build.{length_build, build_list}
-use Rattle.loops.proofs.Fill.{put_end, put_turn, put_before, put_past}
+use Rattle.loops.proofs.Build.{length_build}
+use Rattle.loops.proofs.Fill.{put_turn, put_before, put_past}
 use Rattle.loops.proofs.Ring.{rows_apart}
 use Rattle.floats.specs.Operators.{◌+₆₄◌, at}
 use Rattle.program.specs.Rooms.{ring_at}
-
--- a frame copied in
-pub copied : {A : Type 0} (d : A) (a i : ℕ) (xs room : List A) {s : List A} → i ≤ length xs → length xs ≤ i → s ≡ put a (build i (λ k. get_or xs k d)) room → s ≡ put a xs room
-copied d a i xs room l m e = put_end a _ i (length xs) room l m e ∙ ap (λ (l : List _). put a l room) (build_list d xs)
 
 -- the sums of a row and a frame: the row lies apart from where they go
 module _ (last next : ℕ) (frame rows : List Float) (fits : next + length frame ≤ length rows) (apart : (last + length frame ≤ next) ⊎ (next + length frame ≤ last)) where

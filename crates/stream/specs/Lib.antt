@@ -1,4 +1,4 @@
--- What contracts of inner functions say; no reader needs it.
+-- Words of inner contracts.
 pub mod Inner
 -- frame_views: the views of a frame.
 pub mod Rows

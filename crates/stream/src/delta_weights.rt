@@ -1,7 +1,6 @@
-// The waiting weight changes of a stream, `delta_weights`, in two rooms: n frames in order, and by how much the weight of each changes. The rooms
-// are longer than what waits, so n goes beside them: cut to n, they could not grow. Changes that are given come as two lists, as the definition takes
-// them. Each function that inserts asks that what waits is in order: a ghost field beside a `&mut` is not covered, and n is no field. Each that writes says
-// that the rooms stay those that were lent: of a struct behind `&mut` a caller knows what a clause says, and no more (tried without).
+//! The weight changes of a stream that wait for their frames: frame numbers in ascending order, and
+//! beside each by how much its weight changes. The first n places of the two slices are in use. A
+//! change waits until a fetch brings in its frame.
 
 ghost use Rattle.std.specs.Prelude.{◌≡◌, true, false, ◌+◌, ◌-◌, ◌<◌, ◌≤◌, max, length, get_or, take, drop, leb};
 ghost use mathlib.Core.List.{◌∷◌, foldl};
@@ -17,7 +16,8 @@ ghost use Rattle.stream.specs.Inner.DeltaWeights.{inserted_to};
 
 use definition::{LentWaiting, WaitingRooms};
 
-// How many of these frames, which are in order, are up to frame f. Sought from the back, where changes mostly go.
+/// How many of `frames`, which ascend, are up to frame `f`. Searched from the back, where changes
+/// mostly go.
 pub fn up_to(frames: &[usize], f: usize) -> usize
     requires { rising 0 frames.now ≡ true }
     ensures { (result ≡ length (those (λ g. leb g f) frames.now)) × (result ≤ length frames.now) }
@@ -28,8 +28,7 @@ pub fn up_to(frames: &[usize], f: usize) -> usize
         .map_or(0, |last| last + 1)
 }
 
-// Places k to n - 1 go up by one. Not compiled into the walk over the changes, which mostly go behind all others: there its loops kept the walk's numbers
-// out of registers, and 300 changes took 557,443 instructions in twenty calls, where it is 427,583 so (counted).
+// Moves places k to n - 1 up by one. Not inlined: its loops would take the walk's registers.
 #[inline(never)]
 fn open_place(waiting: &mut WaitingRooms<'_>, k: usize, n: usize)
     requires place { k ≤ n }
@@ -45,7 +44,8 @@ fn open_place(waiting: &mut WaitingRooms<'_>, k: usize, n: usize)
     waiting.weights.copy_within(k..n, k + 1);
 }
 
-// One change more, behind those of its own frame and of lower ones.
+/// Inserts one change behind those of its own frame and of lower ones. `n` changes wait before the
+/// call, n + 1 after it.
 pub fn insert_change(waiting: &mut WaitingRooms<'_>, n: usize, frame: usize, weight: f32)
     requires frames { n < length waiting.old.frames.now }
     requires weights { n < length waiting.old.weights.now }
@@ -59,7 +59,7 @@ pub fn insert_change(waiting: &mut WaitingRooms<'_>, n: usize, frame: usize, wei
     waiting.weights[k] = weight;
 }
 
-// Changes more, in the order given. Not compiled into the call that tests the record: its numbers took the walk's registers.
+// Inserts changes in the order given. Not inlined: its numbers would take its caller's registers.
 #[inline(never)]
 fn insert_changes(
     waiting: &mut WaitingRooms<'_>,
@@ -75,7 +75,7 @@ fn insert_changes(
     ensures loans { SameWaiting waiting.old waiting.new }
 {
     let m = delta_frames.len();
-    // By index: i is a place of both lists and counts the changes that wait, so `zip` with `enumerate` is no plainer.
+    // by index: i is a place of both lists and counts the changes that wait
     for i in 0..m {
         insert_change(waiting, n + i, delta_frames[i], delta_weights[i]);
     }
@@ -93,7 +93,8 @@ fn past_highest_of(past_highest: usize, delta_frames: &[usize]) -> usize
     past
 }
 
-// A change call. It gives one more than the highest frame ever changed.
+/// Inserts the changes of one call into the `n` that wait. It returns one more than the highest
+/// frame ever changed. `delta_frames` and `delta_weights` are of one length.
 pub fn update_frame_weights(
     waiting: &mut WaitingRooms<'_>,
     n: usize,
@@ -114,7 +115,7 @@ pub fn update_frame_weights(
     past_highest_of(past_highest, delta_frames)
 }
 
-// The first k of them are taken out.
+/// Removes the first `k` of the `n` changes that wait.
 pub fn remove_first(waiting: &mut WaitingRooms<'_>, n: usize, k: usize)
     requires within { k ≤ n }
     requires frames { n ≤ length waiting.old.frames.now }
@@ -126,14 +127,14 @@ pub fn remove_first(waiting: &mut WaitingRooms<'_>, n: usize, k: usize)
     waiting.weights.copy_within(k..n, 0);
 }
 
-// Where the changes of one frame end, and the sum of their weights.
+/// The changes of one frame: the place after the last of them, and the sum of their weights.
 #[derive(Clone, Copy, Debug, PartialEq)]
 pub struct Group {
     pub end: usize,
     pub weight: f32,
 }
 
-// The changes of change j's frame, from change j on, summed in their order from the first.
+/// The changes of one frame from change `j` on, summed in their order. `n` changes wait.
 pub fn sum_group(waiting: LentWaiting<'_>, n: usize, j: usize) -> Group
     requires within { j < n }
     requires frames { n ≤ length waiting.frames.now }
@@ -145,7 +146,7 @@ pub fn sum_group(waiting: LentWaiting<'_>, n: usize, j: usize) -> Group
 {
     let frame = waiting.frames[j];
     let mut weight = waiting.weights[j];
-    // By index: the first place of another frame is the answer, and elements of both lists stand there.
+    // by index: the first place of another frame is the answer
     for end in j + 1..n {
         if waiting.frames[end] != frame {
             return Group { end, weight };

@@ -1,5 +1,4 @@
-// The frames of a fetch's batch: each is fetched, weighed and added to the batch's sums. That the rooms stay those that were lent is a clause of each function that
-// writes them: a ghost field cannot say it of a `&mut`, so that no struct is plainer, and without it a caller knows nothing of its rooms.
+//! The frames that a fetch brings in: each is viewed, weighed and added to the batch's sums.
 
 mod batch;
 mod intake;
@@ -19,8 +18,9 @@ use gmm::diag_gmm::{DiagGmm, LikeRooms};
 pub use intake::{BatchFrame, Intake};
 
 impl FetchBatch<'_> {
-    // A frame of the batch goes into the batch's sums, by way of rooms for its normalised and its raw features and for its likelihoods. A skipped
-    // one is fetched all the same. The answer: how many of its likelihoods were NaN.
+    // Adds a frame of the batch to the batch's sums, and returns how many of its likelihoods were
+    // NaN. A skipped frame is viewed all the same: its view moves the CMVN state on. `normalized`,
+    // `raw` and `rooms` are scratch.
     fn take_frame(
         &self,
         b: BatchFrame,
@@ -71,8 +71,8 @@ impl FetchBatch<'_> {
         batch_sums::acc_frame(gmm, select, b.weight, b.ln, features, rooms, sums)
     }
 
-    /// The frames of the batch go into the sums of a batch that has none yet. The answer: the NaN likelihoods of all of them, added up; of at most
-    /// 10^9 frames, so that the sum is in range.
+    /// Adds the frames of the batch to sums that are still empty. It returns the NaN likelihoods of
+    /// all of them: at most 10^9 frames, so that the count is in range.
     pub fn take_batch(
         &self,
         cmvn: &mut [f64],
@@ -94,16 +94,16 @@ impl FetchBatch<'_> {
         let d = self.info.dims.feat_dim;
         let ln = floats::ln_f32(o.min_post);
         let places = self.intake.places();
-        // A copy: behind the reference each frame loads the record's numbers again (21,000 instructions more of a small fetch, counted).
+        // a copy: behind the reference each frame would load the record's numbers again
         let batch = *self;
         let mut normalized = [0.0f32; 64];
         let mut raw = [0.0f32; 64];
         let mut nans = 0;
         let mut j = 0;
-        // By `while`: a group of changes takes several places, so that where the next one begins is a turn's answer, and an iterator is no plainer.
+        // no for: a group of changes takes several places, so a turn says where the next begins
         while j < places {
             let b = batch.intake.frame_at(o, ln, places, j);
-            // the rooms for features are arrays for the longest, as there is no heap, and are cut to the dimension
+            // arrays for the longest features, cut to their length: there is no heap
             let heard = batch.take_frame(b, cmvn, &mut normalized[..d], &mut raw[..d], rooms, sums);
             nans += heard;
             j = b.end;

@@ -1,7 +1,4 @@
-// `IvectorStream::get_frame`: the fetch, in a crate of its own so that a check of the other calls stays short.
-//
-// Of the structs of lent rooms that it writes, the clause `loans` says that each one's slices stay the ones that were lent: a caller knows it by that clause
-// alone, and in the struct's type it would be no plainer, since a ghost field beside a `&mut` is not covered.
+//! The fetch: the i-vector at a frame.
 
 ghost use Rattle.std.specs.Prelude.{◌≡◌, ◌&&◌, ℕ, ◌+◌, ◌<◌, ◌≤◌, length, take, leb, if◌then◌else◌};
 ghost use Rattle.std.specs.Float.{binary32};
@@ -25,14 +22,15 @@ use definition::{
     RingLengths, RoomLengths, StreamCall, TableLengths, WaitingRooms, need,
 };
 
-// Whether a fetch of f would bring in frames whose weights are not known yet: f is not in the statistics, and no change reached it. `called` is the flag of the
-// stream's record, as the definition has it: an enum in its place would have to be translated back in each clause.
+// Whether, after a change call, weights up to frame f are not known yet: f is not in the
+// statistics, and no change reached it.
 fn unreached(next: usize, called: bool, past_highest: usize, f: usize) -> bool
     ensures { result ≡ (leb next f && called && leb past_highest f) }
 {
     next <= f && called && past_highest <= f
 }
 
+// What a fetch refuses. `n` is the output's length.
 #[tactic(auto, unfolding(loops::specs::Refusal::first_of, program::specs::Calls::fetch_refusal, definition::specs::Machine::fetch_tests, definition::specs::Stream::same_tables, definition::specs::Stream::same_rooms, definition::specs::Stream::same_rings))]
 fn fetch_refusal(
     s: &IvectorStream,
@@ -73,7 +71,7 @@ fn in_force(info: IvectorInfo, window: usize) -> IvectorInfo
     i
 }
 
-// Element i of the vector that a fetch answers, x being that of the current vector: the prior is taken off element 0.
+// Element i of the output, from element i of the current vector. The prior is taken off element 0.
 fn fetched_at(prior_offset: f64, i: usize, x: f64) -> f32
     ensures { result ≡ fetched_at prior_offset i x }
 {
@@ -84,7 +82,7 @@ fn fetched_at(prior_offset: f64, i: usize, x: f64) -> f32
     v
 }
 
-// n, and one more where x is not finite.
+// n, plus one where x is not finite.
 fn count_bad(n: usize, x: f32) -> usize
     requires { n < 1000000000 }
     ensures { (result ≡ (if finite x then n else n + 1)) × (result ≤ n + 1) }
@@ -105,7 +103,7 @@ fn bits(x: f32) -> u32
     f32::to_bits(x)
 }
 
-// The bits of the vector that a fetch answers, from the first elements of the current vector; how many are not finite.
+// Writes the bits of the output, and returns how many of its numbers are not finite.
 fn write_vector(prior_offset: f64, estimate: &LentEstimate<'_>, out: &mut [u32]) -> usize
     requires { (length out.old ≤ length estimate.now.current.now) × (length out.old ≤ 128) }
     ensures { (out.new ≡ over (bits_of (build (length out.old) (λ i. fetched_at prior_offset i (at estimate.now.current.now i)))) out.old)
@@ -113,7 +111,7 @@ fn write_vector(prior_offset: f64, estimate: &LentEstimate<'_>, out: &mut [u32])
 {
     let current: &[f64] = estimate.current;
     let mut bad = 0;
-    // By index: of what a loop over `iter_mut().zip` writes, an invariant names no element (tried).
+    // by index (limit: zip)
     for i in 0..out.len() {
         let v = fetched_at(prior_offset, i, current[i]);
         out[i] = bits(v);
@@ -122,11 +120,23 @@ fn write_vector(prior_offset: f64, estimate: &LentEstimate<'_>, out: &mut [u32])
     bad
 }
 
-// The i-vector for `frame`: where that frame is not in the statistics yet, they are brought up to it by the window in force, the estimate is refreshed and the
-// changes that were used wait no longer; the prior is taken off element 0. `out` takes the bits of its numbers. The answer has the count of
-// those not finite, and of the NaN likelihoods of the frames that were brought in: 0 where there are none. A refusal leaves every room as it
-// was; scratch is free once a fetch is taken. What is lent comes parted by what a fetch reads and what it writes: a struct around these parameters would be
-// taken apart here again, and is no plainer.
+/// The i-vector at `frame`, as the bits of f32 numbers in `out`; a NaN has 7FC00000.
+///
+/// A frame that is not in the statistics yet brings them up to itself, by the window in force. The
+/// estimate is refreshed, and the changes that were used wait no longer. The prior is taken off
+/// element 0. The answer counts the numbers that are not finite, and the NaN likelihoods of the
+/// frames brought in.
+///
+/// `out` has `ivector_dim` numbers. `scratch` is free once a fetch is taken.
+///
+/// # Errors
+///
+/// The first that is met, by its number; then everything is as it was.
+///
+/// - `ForeignRecord` (10): no call made the record, or tables, rings or rooms have other lengths.
+/// - `OutputLength` (20): `out` has not `ivector_dim` places.
+/// - `NotReady` (21): the frame is not there yet, or waits for its right context.
+/// - `AboveHighest` (22): fetches are weighted, and no change has reached the frame.
 pub fn get_frame(
     s: IvectorStream,
     frame: usize,

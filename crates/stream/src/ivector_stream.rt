@@ -1,7 +1,9 @@
-// `IvectorStream`: a stream's record, and the calls on it but for the fetch; what they refuse is `stream_refusals`. The rooms are lent to each
-// call: frames and prefix rows in two rings, the waiting weight changes in two lists. The model's tables are lent where they are read. Each clause of a
-// call names the rings that it is lent, and is one equation, as the definition is: shared, it would be no plainer. That the slices of a struct stay the same
-// ones is a clause of each that writes into it: why, the head of definition's `lent` says.
+//! The calls on a stream but for the fetch. A call takes the stream's record and returns the next
+//! one. The rooms are lent to each call: a ring of frames, a ring of prefix rows, and the waiting
+//! changes.
+//!
+//! A refusal is given by its number, and leaves everything as it was. Each call refuses with
+//! `ForeignRecord` (10) a record that no call made, and rooms of other lengths than it states.
 
 ghost use Rattle.std.specs.Prelude.{◌≡◌, true, ◌<◌, ◌≤◌, min, length};
 ghost use mathlib.Core.List.{foldl};
@@ -29,7 +31,8 @@ use definition::{
 
 // ---- answers
 
-// What a call returns that leaves the record s. A refusal 10 is its number alone. By number, as C gets it in the answer.
+/// The answer of a call that leaves the record `s`. Beside refusal 10 every count is 0: the record
+/// says nothing.
 #[tactic(auto, unfolding(program::specs::Calls::answer_of))]
 pub fn reply(
     refusal: usize,
@@ -66,8 +69,8 @@ pub fn reply(
     }
 }
 
-// What a call returns that gives no vector, for C and for every host: the answer and the record. Compiled into its callers, so that the record is not
-// copied once more.
+/// The answer of a call that gives no vector.
+// inlined: so the record is not copied once more
 #[inline(always)]
 pub fn answered(taken: Result<(), Refusal>, s: IvectorStream) -> StreamCall
     requires { (refused_by taken ≡ 10 → ⊥) → (s.accepted ≤ 1000000000) × (s.mark ≤ 1000000000) }
@@ -101,7 +104,13 @@ fn fresh_estimate(dim: usize, prior_offset: f64, estimate: &mut LentEstimate<'_>
     ivector_stats::prior_vector(dim, prior_offset, &mut estimate.current[..dim]);
 }
 
-// Of the rings it writes prefix row 0 alone, and reads the frames' length: `FrameRooms`, which lends both to be written into, is no plainer.
+/// A fresh stream on a model. It clears prefix row 0 and the CMVN state, and sets the estimate to
+/// the prior.
+///
+/// # Errors
+///
+/// - `ForeignRecord`: no load made the model's record, or the tables have other lengths.
+/// - `ShortRoom`: a room is too short for the model.
 pub fn new(
     info: IvectorInfo,
     tables: LentTables<'_>,
@@ -161,6 +170,17 @@ pub fn new(
 
 // ---- push
 
+/// Appends a frame of `base_dim` finite numbers: the frame to its ring, its sums to the ring of
+/// prefix rows.
+///
+/// # Errors
+///
+/// Beside `ForeignRecord` (10), in this order:
+///
+/// - `FrameLength` (11): not `base_dim` numbers.
+/// - `FrameNumber` (12): a number is not finite.
+/// - `LastFrame` (13): 10^9 frames are in.
+/// - `FramesFull` (14), `RowsFull` (15): a ring has no place for one more.
 #[inline(always)]
 pub fn push_frame(
     mut s: IvectorStream,
@@ -183,8 +203,8 @@ pub fn push_frame(
 
 // ---- finish
 
-// Compiled into its callers, as the two calls below: else the record is copied for each, and 300 of these took 186,990 instructions where they take 82,590 so
-// (counted).
+/// Ends the input: no frame waits for its right context any more, so every frame is ready.
+// inlined, as the calls below: so the record is not copied
 #[inline(always)]
 pub fn set_input_finished(
     mut s: IvectorStream,
@@ -204,8 +224,18 @@ pub fn set_input_finished(
 
 // ---- change
 
-// The changes are two lists, as the definition takes them: that they are of one length is a test of the call. That the waiting rooms stay those that were
-// lent is a clause, as in each call that writes into some: without it nothing is known of them after the call (tried).
+/// Adds `delta_weights` to the weights of `delta_frames`. The changes wait until a fetch reaches
+/// their frames. From the first such call on, even an empty one, fetches are weighted.
+///
+/// # Errors
+///
+/// Beside `ForeignRecord` (10), in this order:
+///
+/// - `ChangeList` (16): the lists differ in length, or have more than 384 changes.
+/// - `ChangeNumber` (17): a frame of 10^9 or more, or a weight that is not finite.
+/// - `Forgotten` (30): a frame below one that a forget named.
+/// - `FrameGone` (18): a frame that is no longer kept. It never occurs: such a frame is forgotten.
+/// - `WaitingFull` (19): no place for that many.
 pub fn update_frame_weights(
     mut s: IvectorStream,
     delta_frames: &[usize],
@@ -242,7 +272,7 @@ pub fn update_frame_weights(
 
 // ---- forget
 
-// The lowest of `low` and of frames in order.
+// The lowest of `low` and of frames that ascend.
 fn lowest(low: usize, frames: &[usize]) -> usize
     requires { rising 0 frames.now ≡ true }
     ensures { result ≡ foldl min low frames.now }
@@ -253,7 +283,8 @@ fn lowest(low: usize, frames: &[usize]) -> usize
     }
 }
 
-// The longest window after a forget that brings the mark to `raised`: from a rise on it is the one in force.
+// The longest window after a forget that brings the mark to `raised`: where the mark rises, the
+// window in force.
 #[tactic(auto, unfolding(definition::specs::Machine::longest_from))]
 fn longest_from(window: usize, longest: usize, mark: usize, raised: usize) -> usize
     ensures { result ≡ longest_from window longest mark raised }
@@ -261,7 +292,8 @@ fn longest_from(window: usize, longest: usize, mark: usize, raised: usize) -> us
     if mark < raised { window } else { longest }
 }
 
-// An utterance begins at `frame`: no weight change may name a frame before it from now on.
+/// Begins an utterance at `frame`: no change may name a frame before it from now on. Frames and
+/// rows that nothing can need any more are freed.
 #[inline(always)]
 pub fn forget_before(
     mut s: IvectorStream,
@@ -288,7 +320,15 @@ pub fn forget_before(
 
 // ---- a new window
 
-// The window of the fetches to come. What is known so far carries over: CMVN state, statistics and waiting changes.
+/// Sets the CMVN window, in frames, of the fetches to come. CMVN state, statistics and waiting
+/// changes carry over.
+///
+/// # Errors
+///
+/// Beside `ForeignRecord` (10):
+///
+/// - `WindowRange` (31): not 1 to 1,000 frames.
+/// - `OldWindow` (32): above the longest window, and older rows are gone.
 #[inline(always)]
 pub fn set_cmn_window(
     mut s: IvectorStream,
@@ -310,20 +350,21 @@ pub fn set_cmn_window(
 
 // ---- questions
 
-// Frames that can be fetched: the spliced view needs the right context.
+/// How many frames can be fetched: a frame needs its right context, until the input is finished.
 pub fn num_frames_ready(s: IvectorStream) -> usize
     ensures { result ≡ frames_ready s.info.opts s.input_finished s.accepted }
 {
     limits::frames_ready(s.info.opts, s.input_finished, s.accepted)
 }
 
+/// The length of a fetch's output.
 pub fn ivector_dim(s: IvectorStream) -> usize
     ensures { result ≡ s.info.dims.ivector_dim }
 {
     s.info.dims.ivector_dim
 }
 
-// The first frame that is not in the statistics.
+/// The first frame that is not in the statistics.
 pub fn num_frames_stats(s: IvectorStream) -> usize
     ensures { result ≡ s.num_frames_stats }
 {

@@ -1,7 +1,5 @@
-// A fetch's work on a batch of frames: the batch's sums go into the statistics, and the i-vector is solved for.
-//
-// Each of these functions that writes a struct of lent rooms says by the clause `loans` or `room_loans` that its slices stay the ones that were lent: a caller
-// knows it by that clause alone, and in the struct's type it would be no plainer, since a ghost field beside a `&mut` is not covered.
+//! A fetch's work on the estimate: the batch's sums go into the statistics, and the i-vector is
+//! solved for.
 
 ghost use Rattle.std.specs.Prelude.{◌≡◌, true, ◌<◌, length};
 ghost use Rattle.definition.specs.Lent.{tables_in, SameEstimate};
@@ -23,14 +21,15 @@ use gmm::batch_sums::RunningSums;
 use gmm::diag_gmm::LikeRooms;
 use ivector_stats::{LentStatistics, LentSums, Statistics};
 
-// What an update leaves: the statistics' frame count, and how many likelihoods of the frames that it brought in were NaN.
+/// What an update returns: the statistics' frame count, and how many likelihoods of the batch were
+/// NaN.
 #[derive(Clone, Copy)]
 pub struct Update {
     pub num_frames: f64,
     pub nans: usize,
 }
 
-// Rooms of a number for each Gaussian.
+/// Scratch of a batch: a number for each Gaussian in each slice.
 #[derive(Drop)]
 pub struct GaussianRooms<'a> {
     pub likes: &'a mut [f32],
@@ -39,7 +38,7 @@ pub struct GaussianRooms<'a> {
     pub tot: &'a mut [f64],
 }
 
-// What `update_stats_until` does with a batch of some places, in rooms that it is lent.
+// Adds a batch of at least one place to the statistics, and solves.
 fn update_batch(
     batch: &FetchBatch<'_>,
     num_frames: f64,
@@ -88,10 +87,9 @@ fn update_batch(
     }
 }
 
-/// The batch goes into the statistics (where it is empty, nothing is added), and the current vector is solved for. Scratch is free.
-// Rooms for the Gaussians are arrays, as there is no heap, and are cut to their count. With few Gaussians, clearing rooms for
-// as many as there can be would cost more than the work: they have rooms for 64. The rooms of the estimate come one by one, as they are cut: a struct of parts
-// that are cut out of a struct's slices is not covered (tried).
+/// Adds the batch to the statistics, where it is not empty, and solves for the current vector.
+/// `scratch` has `num_gauss * feat_dim` numbers or more, and `s * s` or more.
+// the estimate comes slice by slice (limit: cut struct)
 pub fn update_stats_until(
     batch: &FetchBatch<'_>,
     num_frames: f64,
@@ -125,6 +123,8 @@ pub fn update_stats_until(
         quadratic,
         current,
     };
+    // arrays, as there is no heap; few Gaussians have small ones: clearing 1,024 would cost more
+    // than the work
     if g <= 64 {
         let mut likes = [0.0f32; 64];
         let mut squares = [0.0f32; 64];
@@ -151,7 +151,7 @@ pub fn update_stats_until(
     update_batch(batch, num_frames, &mut estimate, scratch, &mut rooms)
 }
 
-// Of the tables what the record says that they keep. C may lend longer ones: each is cut by hand, to a length of its own.
+// The tables, each cut to the length that the record states: C may lend longer ones.
 fn kept<'a>(info: IvectorInfo, tables: LentTables<'a>) -> LentTables<'a>
     requires sound { record_sound info ≡ true }
     requires fit { tables_fit info.opts info.dims (table_lengths_of (tables_in tables)) ≡ true }
@@ -177,8 +177,8 @@ fn kept<'a>(info: IvectorInfo, tables: LentTables<'a>) -> LentTables<'a>
     }
 }
 
-// The same in lent tables and rooms, of which it reads and writes what the record says that they keep. C may lend longer ones: each is cut by hand, to a length
-// of its own.
+/// [`update_stats_until`] on tables and an estimate as they are lent, which may be longer than the
+/// record states: each is cut to its length first.
 pub fn update_rooms(
     info: IvectorInfo,
     intake: Intake<'_>,

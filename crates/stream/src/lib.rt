@@ -1,4 +1,5 @@
-// A stream: its views of frames, what it refuses, its waiting changes, its statistics, and the calls on it.
+//! A stream of frames: what it keeps, what its calls refuse, and the calls on it. `ivector_stream`
+//! has the calls but for the fetch, which is `ivector_fetch`.
 #![tactic(auto)]
 
 pub mod delta_weights;

@@ -1,7 +1,4 @@
-// What the calls on a stream refuse, but for the fetch, and the stores of a push: in a crate of their own, so that a check of either stays short.
-// Each says how far a stream goes in the definition's own words, and takes a ring beside the place or the count of frames that its rows are told by, as
-// the definition does: with the record in place of these numbers each clause would speak of its parts, and be no plainer. (As it is compiled, a push takes as
-// many instructions either way: counted.)
+//! What the calls on a stream refuse, but for the fetch, and how a push stores its frame.
 
 ghost use Rattle.std.specs.Prelude.{◌≡◌, false, not, ◌||◌, ◌⊎◌, List, ◌+◌, ◌-◌, ◌<◌, ◌≤◌, length, leb, ltb, Float};
 ghost use Rattle.std.specs.Float.Ieee.Scale.{finite};
@@ -24,7 +21,8 @@ use definition::{
 
 // ---- every call
 
-// Refusal 10 of every call: rings of other lengths than the record's, or a record that no call made.
+/// `ForeignRecord`, which every call asks: the rings have other lengths than the record states, or
+/// no call made the record.
 #[inline(always)]
 #[tactic(auto, unfolding(loops::specs::Refusal::first_of, definition::specs::Stream::same_rings))]
 pub fn plain_refusal(
@@ -49,6 +47,8 @@ pub fn plain_refusal(
 
 // ---- a fresh stream
 
+/// What a fresh stream refuses: `ForeignRecord` for tables or a record that no load made,
+/// `ShortRoom` for rooms that are too short.
 #[tactic(auto, unfolding(loops::specs::Refusal::first_of, definition::specs::Stream::new_refusal, definition::specs::Stream::same_tables))]
 pub fn new_refusal(
     info: IvectorInfo,
@@ -69,8 +69,7 @@ pub fn new_refusal(
 
 // ---- push
 
-// Whether there was one that is not finite, or x is not. `bad` is what the loop has found so far: a function of its own, so that the loop has no branch.
-// By index and four at a time it takes 16 instructions (counted).
+// Whether `bad` holds or x is not finite. A function of its own: so the loop has no branch.
 #[inline(always)]
 fn or_not_finite(bad: bool, x: f32) -> bool
     ensures { result ≡ (bad || not (finite x)) }
@@ -78,7 +77,7 @@ fn or_not_finite(bad: bool, x: f32) -> bool
     bad || !floats::is_finite(x)
 }
 
-// No early exit, and by index: so the loop takes several at a time. A fold over the numbers, which was tried, takes 31 instructions for four.
+// No early exit, and by index: so the loop takes several numbers at a time.
 fn any_not_finite(x: &[f32]) -> bool
     ensures { result ≡ any_of (λ v. not (finite v)) x.now }
 {
@@ -89,7 +88,8 @@ fn any_not_finite(x: &[f32]) -> bool
     bad
 }
 
-// Refusals 11 to 15 of a push. The record is not passed, so that it is not copied.
+// What a push refuses beside `ForeignRecord`. `own` has the lengths of the stream's rings. The
+// record is not passed, so that it is not copied.
 #[tactic(auto, unfolding(loops::specs::Refusal::first_of, definition::specs::Machine::push_tests))]
 fn push_tests(
     d: Dimensions,
@@ -115,6 +115,7 @@ fn push_tests(
     need((rows_held + 1) * d.base_dim <= own.rows, Refusal::RowsFull)
 }
 
+/// What a push refuses.
 #[inline(always)]
 #[tactic(auto, unfolding(loops::specs::Refusal::first_of, program::specs::Calls::push_frame))]
 pub fn push_refusal(
@@ -136,7 +137,7 @@ pub fn push_refusal(
     )
 }
 
-// A frame stored from place a on.
+// Stores a frame from place a on.
 #[tactic(auto, using(loops::proofs::Std::put_std))]
 fn put_frame(frames: &mut [f32], a: usize, frame: &[f32])
     requires { a + length frame.now ≤ length frames.old }
@@ -145,19 +146,20 @@ fn put_frame(frames: &mut [f32], a: usize, frame: &[f32])
     frames[a..a + frame.len()].copy_from_slice(frame);
 }
 
-// The prefix row at `last` and a frame, summed into the row at `next`. The frame is finite: so the cast needs no test of a NaN.
+// Adds a frame to the prefix row at `last`, into the row at `next`. The frame is finite: so the
+// cast needs no test for a NaN.
 fn add_frame(rows: &mut [f64], last: usize, next: usize, frame: &[f32])
     requires { (last + length frame.now ≤ length rows.old) × (next + length frame.now ≤ length rows.old)
         × ((last + length frame.now ≤ next) ⊎ (next + length frame.now ≤ last)) × (any_of (λ v. not (finite v)) frame.now ≡ false) }
     ensures { rows.new ≡ put next (build (length frame.now) (λ d. at rows.old (last + d) +₆₄ at frame.now d)) rows.old }
 {
-    // By index: the row that is read and the one that is written lie in one slice, so no iterator over the one is held while the other is written.
+    // by index: reads and writes one slice
     for d in 0..frame.len() {
         rows[next + d] = rows[last + d] + frame[d] as f64;
     }
 }
 
-// A frame stored at its place, and its sums as the next prefix row.
+/// Stores a frame at its place of the ring, and its prefix row behind the last one.
 pub fn store_frame(frames: &mut [f32], rows: &mut [f64], accepted: usize, frame: &[f32])
     requires { (0 < length frame.now) × (length frame.now ≤ 64) × (accepted ≤ 1000000000) × (0 < rows_in (length frames.old) (length frame.now))
         × (2 ≤ rows_in (length rows.old) (length frame.now)) × (any_of (λ v. not (finite v)) frame.now ≡ false) }
@@ -201,7 +203,7 @@ fn has_places(own: RingLengths, waiting: usize, n: usize) -> bool
     n <= room && waiting <= room - n
 }
 
-// The changes are two lists, as C lends them and the definition takes them.
+/// What a change call refuses.
 #[tactic(auto, unfolding(loops::specs::Refusal::first_of, program::specs::Calls::update_frame_weights, definition::specs::Machine::change_tests))]
 pub fn change_refusal(
     s: &IvectorStream,
@@ -235,6 +237,7 @@ pub fn change_refusal(
 
 // ---- a new window
 
+/// What a new window refuses.
 #[tactic(auto, unfolding(loops::specs::Refusal::first_of, program::specs::Calls::set_cmn_window, definition::specs::Machine::window_tests))]
 pub fn window_refusal(
     s: &IvectorStream,

@@ -1,7 +1,10 @@
-// A load to try the library with. With no argument it reads one input from standard input, three runs of digits parted by blanks, and prints the
-// totals, one to a line, or 33. With an argument it reads a script, so that many inputs are played in one run: a line `i N HEX` is an input of N
-// bytes, and its answer is a line with `;` between its parts; a line `h SEED DIM COUNT FRAMES CALLS` has lists filled, which are lent for that many
-// numbers and calls, and its answer is 33, or 0 and each call: its kind, a push's numbers, the frame of another, a change's weight.
+//! A load to try the library with. With no argument it reads one input from standard input, three
+//! runs of digits parted by blanks, and prints the totals, one to a line, or 33.
+//!
+//! With an argument it reads a script. A line `i N HEX` is an input of N bytes; its answer is a
+//! line with `;` between its parts. A line `h SEED DIM COUNT FRAMES CALLS` has lists filled that
+//! are lent for so many numbers and calls; its answer is 33, or 0 and each call: its kind, a push's
+//! numbers, the frame of another, a change's weight.
 #![tactic(auto)]
 
 use definition::{IvectorInfo, LentEstimate, LentTables, Refusal, WaitingRooms};
@@ -13,7 +16,7 @@ use script::{Script, Words, front, lend, print, print_list};
 use std::env::{Env, FillError};
 use std::io::{self, Write};
 
-// ---- the model: one Gaussian, one dimension and no context, over frames of the base dimension that an input asks for
+// ---- the model: one Gaussian, one i-vector dimension, no context
 
 /// A model and its tables.
 #[derive(Drop)]
@@ -69,7 +72,7 @@ impl OpenModel {
         })
     }
 
-    /// A stream with rooms for 64 frames and 80 rows, and the calls on it.
+    /// Plays a load on a stream with rooms for 64 frames and 80 rows.
     fn play(&self, asked: LoadSizes) -> Result<Totals, Refusal> {
         let dim = asked.dim.min(64);
         let tables = LentTables {
@@ -124,8 +127,8 @@ fn totals(text: &[u8]) -> Result<Totals, Refusal> {
     model.play(asked)
 }
 
-/// The number of calls of each kind, each refusal that was met with its count, rising, and the greatest number of frames held. What stands between them is
-/// the caller's, so a `Display` of the totals would be no plainer.
+/// The number of calls of each kind, each refusal that was met with its count, rising, and the
+/// greatest number of frames held.
 fn answer(writer: &mut impl Write, text: &[u8], between: char) -> io::Result<()> {
     match totals(text) {
         Err(refusal) => {
@@ -150,7 +153,8 @@ fn answer(writer: &mut impl Write, text: &[u8], between: char) -> io::Result<()>
 
 // ---- a script of inputs
 
-/// The lists that a seed fills: the numbers of all pushes, the calls' kinds, and for each call a frame and a weight.
+/// The lists that a seed fills: the numbers of all pushes, and of each call its kind, its frame and
+/// its weight.
 #[derive(Clone, Copy)]
 struct Lists<'a> {
     dim: usize,
@@ -160,7 +164,7 @@ struct Lists<'a> {
     weights: &'a [f32],
 }
 
-// A push's floats are printed by their bits, which no `Display` has: one around these lists would be no plainer.
+// Each call; a push's numbers by their bits.
 fn print_calls(writer: &mut impl Write, lists: &Lists<'_>) -> io::Result<()> {
     let mut numbers = lists.numbers;
     for ((kind, frame), weight) in lists.kinds.iter().zip(lists.frames).zip(lists.weights) {

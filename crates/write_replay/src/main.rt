@@ -1,7 +1,10 @@
-// Writes the models of standard input, and prints what each call gives. A line is a set of parameters, its words parted by one space each: the width of its
-// floats, 4 or 8 bytes; the options; the CMVN text; the five sizes; weights, means times inverse variances, inverse variances, `<M>`, `<SigmaInv>`, the
-// offset, the LDA; the output's length. Numbers are decimal, bytes and the bits of floats hexadecimal; a list is its length and its items.
-// Printed are a refusal's number, or 0 and the three lengths; then what was written: the output, all ee at first, up to the last byte that is not ee.
+//! Writes the models of standard input, and prints what each call gives: a refusal's number, or 0
+//! and the three lengths; then the output, all ee at first, up to the last byte that is not ee.
+//!
+//! A line is a set of parameters, its words parted by one space each: the width of its floats, 4 or
+//! 8 bytes; the options; the CMVN text; the five sizes; weights, means times inverse variances,
+//! inverse variances, `<M>`, `<SigmaInv>`, the offset, the LDA; the output's length. Numbers are
+//! decimal, bytes and the bits of floats hexadecimal; a list is its length and its items.
 #![tactic(auto)]
 
 use definition::{IvectorOptions, Refusal};
@@ -12,8 +15,7 @@ use std::io::{self, Write};
 use writer::model_bytes::{FileLengths, LentParams, ModelSizes};
 use writer::model_writer;
 
-/// What a call answered, and the output up to the last byte that is not ee. The types are the library's, so a `Display` would need one around them, and be no
-/// plainer.
+/// What a call answered, and the output up to the last byte that is not ee.
 fn print_written(
     writer: &mut impl Write,
     written: Result<FileLengths, Refusal>,

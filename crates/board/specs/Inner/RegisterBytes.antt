@@ -1,4 +1,4 @@
--- What the inner functions leave. Not for readers.
+-- register_bytes: words of inner contracts, a command and a step over the rings.
 use Rattle.std.specs.Prelude.{◌≡◌, List, [], ◌∷◌, ℕ, eqb, length, Float, if◌then◌else◌}
 use Rattle.definition.specs.declared.IvectorStream.{IvectorStream}
 use Rattle.definition.specs.Machine.{Call, push, finish, forget, fetch}

@@ -1,4 +1,4 @@
--- What the rooms of the running sums hold.
+-- batch_sums: what the slices of the running sums hold.
 use Rattle.std.specs.Prelude.{◌≡◌, ℕ, List, ◌++◌, length}
 use Rattle.definition.specs.Statistics.{Entry}
 use Rattle.gmm.specs.declared.batch_sums.RunningSums.{RunningSums}

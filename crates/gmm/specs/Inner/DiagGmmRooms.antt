@@ -1,4 +1,4 @@
--- The log-likelihoods under a GMM, and the rooms that they lie in.
+-- diag_gmm: the log-likelihoods under the Gaussians, and the slices that they lie in.
 use Rattle.std.specs.Prelude.{◌≡◌, List, Float, length}
 use Rattle.definition.specs.Posteriors.{loglikes}
 use Rattle.gmm.specs.declared.diag_gmm.gmm.DiagGmm.{DiagGmm}

@@ -1,4 +1,4 @@
-// The log-likelihoods of a feature row under each Gaussian of a model.
+//! The tables of a model's Gaussians, and the log-likelihoods of a row of features under each.
 
 ghost use Rattle.std.specs.Prelude.{◌≡◌, ◌+◌, ◌-◌, ◌*◌, ◌≤◌, length};
 ghost use Rattle.loops.specs.Inner.{fill};
@@ -7,25 +7,32 @@ ghost use Rattle.gmm.specs.Fits.{GmmFits};
 
 use crate::table_sums;
 
-/// The tables of Gaussians with diagonal covariances. The second and the third hold dimension by dimension all Gaussians.
+/// The tables of `num_gauss` Gaussians over rows of `dim` features. The two transposed tables have
+/// a row of `num_gauss` numbers for each feature.
 #[derive(Clone, Copy)]
 pub struct DiagGmm<'a> {
     pub num_gauss: usize,
     pub dim: usize,
+    /// The constant part of each log-likelihood.
     pub gconsts: &'a [f32],
+    /// Means times inverse variances.
     pub means_invvars_t: &'a [f32],
+    /// Inverse variances.
     pub inv_vars_t: &'a [f32],
     pub ghost fits: { GmmFits num_gauss dim (length gconsts.now) (length means_invvars_t.now) (length inv_vars_t.now) },
 }
 
-/// Rooms of a number for each Gaussian: its log-likelihood, and, as scratch, its sum of squares.
+/// A number for each Gaussian, twice.
 #[derive(Drop)]
 pub struct LikeRooms<'a> {
+    /// The log-likelihoods.
     pub likes: &'a mut [f32],
+    /// Scratch: the sums of squares.
     pub squares: &'a mut [f32],
 }
 
-// By index: through `iter_mut().zip(..)` a proof knows no element of `out`. `b` is only read: two slices of a struct are lent alike in one call.
+// The constants and the two sums, put together. By index (limit: zip). `b` is `&mut` only because
+// two slices of one struct are lent alike in one call (limit: alike).
 #[tactic(auto, using(loops::proofs::Loop::loops))]
 fn add_constants(gconsts: &[f32], b: &mut [f32], out: &mut [f32])
     requires { (length out.old ≤ length gconsts.now) × (length b.old ≡ length out.old) }
@@ -39,8 +46,7 @@ fn add_constants(gconsts: &[f32], b: &mut [f32], out: &mut [f32])
 impl DiagGmm<'_> {
     ghost use Rattle.gmm.specs.Inner.DiagGmmRooms.{likes_of, SameLikes};
 
-    /// The log-likelihood of the row x under each Gaussian.
-    // That the rooms stay those that were lent is a clause: a ghost field cannot say it of a `&mut`, so that no struct is plainer.
+    /// The log-likelihood of the row `x` under each Gaussian, into `rooms.likes`.
     pub fn loglikes(self, x: &[f32], rooms: &mut LikeRooms<'_>)
         requires likes_long { length rooms.old.likes.now ≡ self.num_gauss }
         requires squares_long { length rooms.old.squares.now ≡ self.num_gauss }

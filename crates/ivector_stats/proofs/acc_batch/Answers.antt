@@ -1,5 +1,4 @@
--- `ivector_stats::acc_batch` meets its contract. The loop's invariant: both terms and the weight are those of the first k Gaussians seen; a turn adds one
--- (`linear_turn`, `quadratic_turn` in Gaussians.antt).
+-- `acc_batch` meets its contract, by the invariant in Invariants.antt (`linear_turn`, `quadratic_turn` in Gaussians.antt).
 use mathlib.Core.Path.{◌≡◌, refl, ap, ◌∙◌}
 use Prim.Native.Nat.{ℕ, ◌+◌, ◌-◌, ◌*◌, ◌≤◌}
 use native.Mathlib.Omega.{arith}

@@ -1,5 +1,4 @@
--- `ivector_stats::acc_batch` meets its contract. The loop's invariant: both terms and the weight are those of the first k Gaussians seen; a turn adds one
--- (`linear_turn`, `quadratic_turn` in Gaussians.antt).
+-- The loop's invariant: both terms and the weight are those of the first k Gaussians seen; a turn adds one.
 use mathlib.Core.Path.{◌≡◌}
 use Prim.Native.Nat.{◌≤◌}
 use lib.ListN.{length}

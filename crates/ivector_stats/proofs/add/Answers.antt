@@ -1,5 +1,4 @@
--- `ivector_stats::add` meets its contract. The loop's invariant: a turn at each of the first c places; each place is made from its old value alone
--- (`updated` in batch_sums/proofs/Rows.antt).
+-- `add` meets its contract, by the invariant in Invariants.antt.
 use lib.Ieee.{Float, nan}
 use Rattle.floats.specs.Operators.{◌+₆₄◌, at}
 use Rattle.loops.proofs.Fill.{updated}

@@ -1,5 +1,4 @@
--- `ivector_stats::add` meets its contract. The loop's invariant: a turn at each of the first c places; each place is made from its old value alone
--- (`updated` in batch_sums/proofs/Rows.antt).
+-- The loop's invariant: a turn at each of the first c places; each place is made from its old value alone.
 use mathlib.Core.Path.{◌≡◌}
 use Prim.Native.Nat.{◌≤◌, ◌-◌}
 use lib.ListN.{length, set}

@@ -1,5 +1,5 @@
--- `ivector_stats::add_diagonal` meets its contract. The loop's invariant is the definition's own loop up to i; a diagonal place lies in the matrix
--- (`diagonal_in` in Diagonal.antt).
+-- `add_diagonal` meets its contract, by the invariant in Invariants.antt. A diagonal place lies in the matrix (`diagonal_in` in
+-- Diagonal.antt).
 use mathlib.Core.Path.{ap}
 use Prim.Native.Nat.{ℕ, ◌<◌}
 use native.Mathlib.Omega.{arith}

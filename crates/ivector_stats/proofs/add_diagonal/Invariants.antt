@@ -1,5 +1,4 @@
--- `ivector_stats::add_diagonal` meets its contract. The loop's invariant is the definition's own loop up to i; a diagonal place lies in the matrix
--- (`diagonal_in` in Diagonal.antt).
+-- The loop's invariant is the definition's own loop up to i.
 use mathlib.Core.Path.{◌≡◌}
 use Prim.Native.Nat.{◌≤◌, ◌-◌}
 use lib.ListN.{length, set}

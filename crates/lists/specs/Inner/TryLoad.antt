@@ -1,4 +1,4 @@
--- What the inner functions leave. Not for readers.
+-- try_load: words of inner contracts, the lists partway and a number that is read.
 use Rattle.std.specs.Prelude.{◌≡◌, List, ℕ, ◌^◌, ◌≤◌, min, length, eqb, leb, Result, Ok, Err, Float, if◌then◌else◌}
 use Rattle.loops.specs.Lists.{flat, over}
 use Rattle.loops.specs.Inner.{fill}

@@ -1,4 +1,4 @@
--- What the inner functions leave. Not for readers.
+-- try_notes: words of inner contracts, the tally of calls and answers.
 use Rattle.std.specs.Prelude.{ℕ, ◌+◌, max, List, get_or, set}
 use Rattle.definition.specs.declared.StreamAnswer.{StreamAnswer}
 

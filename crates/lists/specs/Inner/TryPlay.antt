@@ -1,4 +1,4 @@
--- What the inner functions leave. Not for readers.
+-- try_play: words of inner contracts, the tally as totals.
 use Rattle.std.specs.Prelude.{max, Result, Ok, Err}
 use mathlib.Core.List.{List, map, foldl}
 use Rattle.definition.specs.Machine.{Call, Answer}

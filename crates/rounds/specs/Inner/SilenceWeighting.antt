@@ -1,4 +1,4 @@
--- What the inner functions leave. Not for readers.
+-- silence_weighting: words of inner contracts, a frame's status and weight and the changes that it gives.
 use Rattle.std.specs.Prelude.{ℕ, suc, ◌+◌, Bool, false, ◌||◌, List, Option, Some, None, get_or, eqb, ltb, Float, if◌then◌else◌}
 use Rattle.std.specs.Float.{nan}
 use Rattle.std.specs.Float.Ieee.{ne}

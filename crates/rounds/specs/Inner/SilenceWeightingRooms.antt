@@ -1,4 +1,4 @@
--- What a call is lent and what it answers, in the words of the definitions.
+-- silence_weighting: the three slices of a table, and what a call answers, in the words of the definition.
 use Rattle.std.specs.Prelude.{◌≡◌, ◌≤◌, ℕ, length, Result, Ok, Err}
 use Rattle.definition.specs.declared.SilenceWeighting.{SilenceWeighting}
 use Rattle.definition.specs.declared.SilenceAnswer.{SilenceAnswer}

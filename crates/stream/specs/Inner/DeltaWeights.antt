@@ -1,4 +1,4 @@
--- What inner functions leave. Not for readers.
+-- delta_weights: words of inner contracts.
 use Rattle.std.specs.Prelude.{ℕ, Float}
 use mathlib.Core.List.{List, foldl}
 use Rattle.definition.specs.Changes.{Change, insert_change}

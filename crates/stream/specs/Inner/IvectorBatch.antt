@@ -1,4 +1,4 @@
--- What inner functions ask and leave. Not for readers, but for `batch_of`.
+-- ivector_batch: words of inner contracts. `batch_of` is the batch of a fetch.
 use Rattle.std.specs.Prelude.{ℕ, ◌+◌, ◌-◌, ◌*◌, ◌<◌, ◌≤◌, ◌≡◌, Bool, true, List, ◌++◌, map, length, get_or, drop, Float, if◌then◌else◌}
 use Rattle.definition.specs.declared.IvectorInfo.{IvectorInfo}
 use Rattle.definition.specs.declared.IvectorOptions.{IvectorOptions}

@@ -1,4 +1,4 @@
--- What inner functions leave. Not for readers.
+-- ivector_fetch: words of inner contracts.
 use Rattle.std.specs.Prelude.{ℕ, eqb, Float, if◌then◌else◌}
 use Rattle.floats.specs.Operators.{◌-₃₂◌}
 use Rattle.floats.specs.Narrow.{narrowed}

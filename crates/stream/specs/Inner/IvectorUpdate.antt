@@ -1,4 +1,4 @@
--- What inner functions ask. Not for readers.
+-- ivector_update: words of inner contracts, what an update asks of its slices.
 use Rattle.std.specs.Prelude.{ℕ, ◌+◌, ◌*◌, ◌≤◌, ◌<◌, ◌≡◌, length, Float}
 use Rattle.definition.specs.Kaldi.{triangle}
 use Rattle.definition.specs.Estimate.{Estimate}

@@ -1,4 +1,4 @@
-//! A fetch's batch, and what its frames are heard by.
+//! The batch of a fetch, with what its frames are viewed and scored by.
 
 ghost use Rattle.std.specs.Prelude.{◌<◌, length};
 ghost use Rattle.loops.specs.Ring.{rows_in};
@@ -8,7 +8,8 @@ ghost use Rattle.stream.specs.Inner.IvectorBatch.{Ready, Held};
 use crate::ivector_batch::Intake;
 use definition::{IvectorInfo, LentFrames, LentTables};
 
-/// The batch of a fetch: what it brings in, from which rings, by which model. The tables are cut to what the record says that they keep.
+/// The batch of a fetch: the model, the rings, and what it brings in. The tables are cut to the
+/// lengths that the model's record states.
 #[derive(Clone, Copy)]
 pub struct FetchBatch<'a> {
     pub info: IvectorInfo,

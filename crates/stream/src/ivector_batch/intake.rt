@@ -1,4 +1,4 @@
-//! What a fetch brings into the statistics.
+//! Which frames a fetch brings into the statistics, and by which weights.
 
 ghost use Rattle.std.specs.Prelude.{◌≡◌, ◌∷◌, ◌<◌, ◌≤◌};
 ghost use Rattle.floats.specs.Ln.{ln_narrow};
@@ -9,28 +9,33 @@ use crate::delta_weights;
 use definition::{FrameWeight, IvectorOptions, LentWaiting};
 use gmm::diag_gmm;
 
-/// What a fetch brings in: the frames from `next` on, up to but not with `end` (none where the two are the same), or, once a change call was taken,
-/// those of the first `changes` of the waiting changes. The stream took `accepted` frames.
+/// What a fetch brings in. Before any change call: the frames from `next` to before `end`. After
+/// one: the frames of the first `changes` changes that wait.
 #[derive(Clone, Copy)]
 pub struct Intake<'a> {
+    /// The frames pushed so far.
     pub accepted: usize,
+    /// Whether a change call was taken.
     pub called: bool,
     pub next: usize,
     pub end: usize,
+    /// How many of the waiting changes the batch takes.
     pub changes: usize,
     pub waiting: LentWaiting<'a>,
 }
 
-/// A frame of a batch, its weight, the logarithm of its prune floor, and the place behind it.
+/// A frame of a batch.
 #[derive(Clone, Copy)]
 pub struct BatchFrame {
     pub frame: usize,
     pub weight: FrameWeight,
+    /// The logarithm of the weight's prune floor.
     pub ln: f32,
+    /// The place after it in the batch.
     pub end: usize,
 }
 
-// The logarithm of a frame's prune floor.
+// The logarithm of a weight's prune floor; 0 for a skipped frame, where nobody reads it.
 fn floor_log(weight: FrameWeight) -> f32
     ensures { Logged weight result }
 {
@@ -41,7 +46,8 @@ fn floor_log(weight: FrameWeight) -> f32
 }
 
 impl Intake<'_> {
-    /// How many places its batch has: one for each frame from `next` to before `end`, or, once a change call was taken, one for each change.
+    /// How many places the batch has: one for each frame, or, after a change call, one for each
+    /// change.
     pub fn places(&self) -> usize
         requires { self.now.next ≤ self.now.end }
         ensures { result ≡ places_of self.now }
@@ -52,8 +58,9 @@ impl Intake<'_> {
         self.end - self.next
     }
 
-    /// The frame at place j of so many: frame next + j, unweighted, or that of waiting change j, weighed by the sum of its own; ln: the logarithm of
-    /// the floor of frames without weights, which is the same for all.
+    /// The frame at place `j`. Before any change call: frame `next + j`, unweighted. After one: the
+    /// frame of change `j`, weighed by the sum of its changes. `ln` is the logarithm of `min_post`,
+    /// the floor of every unweighted frame.
     pub fn frame_at(&self, o: IvectorOptions, ln: f32, places: usize, j: usize) -> BatchFrame
         requires within { j < places }
         requires lined { Lined places self.now }

@@ -1,5 +1,4 @@
--- `batch_sums::acc_posteriors` meets its contract. The loop's invariant: the slots are fair, and hold the sums of the entries before and of the first i
--- posteriors; a turn is one entry more (`batch_next` in Batches.antt).
+-- `acc_posteriors` meets its contract, by the invariant in Invariants.antt (`batch_next` in Batches.antt).
 use Rattle.std.proofs.Common.{[], ◌∷◌, ◌++◌, get_or, refl, ap, ◌∙◌, arith}
 use lib.Ieee.{Float}
 use Rattle.gmm.proofs.Batches.{sums_on, batch_none, batch_next, batch_all, batch}

@@ -1,5 +1,5 @@
--- `batch_sums::acc_posteriors` meets its contract. The loop's invariant: the slots are fair, and hold the sums of the entries before and of the first i
--- posteriors; a turn is one entry more (`batch_next` in Batches.antt).
+-- The loop's invariant: the slots are fair, and hold the sums of the entries before and of the first i posteriors; a turn is one entry
+-- more.
 use Rattle.std.proofs.Common.{◌-◌, ◌≤◌, map}
 use Rattle.gmm.specs.Inner.Leading.{held}
 use Rattle.gmm.specs.Batch.{scaled_entry}

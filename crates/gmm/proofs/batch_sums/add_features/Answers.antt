@@ -1,5 +1,4 @@
--- `batch_sums::add_features` meets its contract. The loop's invariant: a turn at each of the first a places; each place is made from its old value alone
--- (`updated` in Rows.antt).
+-- `add_features` meets its contract, by the invariant in Invariants.antt.
 use Rattle.std.proofs.Common.{set, ap}
 use lib.Ieee.{Float, nan}
 use Rattle.loops.proofs.Loop.{loops, iter_step}

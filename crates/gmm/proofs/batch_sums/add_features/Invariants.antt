@@ -1,5 +1,4 @@
--- `batch_sums::add_features` meets its contract. The loop's invariant: a turn at each of the first a places; each place is made from its old value alone
--- (`updated` in Rows.antt).
+-- The loop's invariant: a turn at each of the first a places; each place is made from its old value alone.
 use Rattle.std.proofs.Common.{◌≡◌, ◌-◌, ◌≤◌, length, set}
 use Rattle.loops.specs.Loop.{iter}
 use Rattle.floats.specs.Operators.{◌+₆₄◌, ◌*₆₄◌, at}

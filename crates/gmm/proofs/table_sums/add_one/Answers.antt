@@ -1,4 +1,4 @@
--- `table_sums::add_one` meets its contract. The loop's invariant: the first m places are filled with the sums; a turn does one more (`place_done` in Passes.antt).
+-- `add_one` meets its contract, by the invariant in Invariants.antt (`place_done` in Passes.antt).
 use lib.Ieee.{Float}
 use Rattle.floats.specs.Operators.{◌+₃₂◌, ◌*₃₂◌, at}
 use Rattle.gmm.proofs.Passes.{place_done}

@@ -1,4 +1,4 @@
--- `table_sums::add_rows` meets its contract. The loop's invariant: the sums are those after k rows (`pass_none`, `rows_turn` in Passes.antt).
+-- `add_rows` meets its contract, by the invariant in Invariants.antt (`pass_none`, `rows_turn` in Passes.antt).
 use borrow.Author.Rules.{rules}
 use Prim.Native.Nat.{◌+◌, ◌*◌}
 use native.Mathlib.Omega.{arith}

@@ -1,4 +1,4 @@
--- `table_sums::add_rows` meets its contract. The loop's invariant: the sums are those after k rows (`pass_none`, `rows_turn` in Passes.antt).
+-- The loop's invariant: the sums are those after k rows.
 use mathlib.Core.Path.{◌≡◌}
 use Prim.Native.Nat.{◌+◌, ◌*◌, ◌-◌, ◌≤◌}
 use lib.ListN.{length}

@@ -1,4 +1,4 @@
--- `table_sums::add_two` meets its contract. The loop's invariant: the first m places are filled with the sums; a turn does one more (`place_done` in Passes.antt).
+-- The loop's invariant: the first m places are filled with the sums; a turn does one more.
 use mathlib.Core.Path.{◌≡◌}
 use Prim.Native.Nat.{◌-◌, ◌≤◌}
 use lib.ListN.{length}

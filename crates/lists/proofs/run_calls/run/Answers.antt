@@ -1,5 +1,4 @@
--- `run` meets its contract, by its three ways out (Runs.antt): a list that is refused, a stream that is not made, a list that is played. The loop's
--- invariant is `Left` (Lists.antt): what is left from call i on is what was to be done at first.
+-- `run` meets its contract, by its three ways out (Runs.antt): a list that is refused, a stream that is not made, a list that is played.
 use Rattle.std.proofs.Common.{rules, Ok, Err}
 use mathlib.Core.Path.{◌≡◌, refl, sym, ap, ◌∙◌}
 use mathlib.Core.List.{List}

@@ -1,5 +1,4 @@
--- `run` meets its contract, by its three ways out (Runs.antt): a list that is refused, a stream that is not made, a list that is played. The loop's
--- invariant is `Left` (Lists.antt): what is left from call i on is what was to be done at first.
+-- The loop's invariant is `Left` (Lists.antt): what is left from call i on is what was to be done at first.
 use lib.ListN.{length}
 use Rattle.definition.specs.Lent.{tables_in, SameRings, SameWaiting, SameEstimate}
 use Rattle.program.specs.Lent.{rooms_of}

@@ -1,4 +1,4 @@
--- `fill_lists` meets its contract: after i turns the lists have the first i calls (`filled_next` in Places.antt), and none has changed its length.
+-- `fill_lists` meets its contract, by the invariant in Invariants.antt. A turn is `filled_next` in Places.antt.
 use mathlib.Core.Path.{refl, ◌∙◌}
 use native.Mathlib.Omega.{arith}
 use native.Mathlib.Nat.{mod-lt}

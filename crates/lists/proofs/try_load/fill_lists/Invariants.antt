@@ -1,4 +1,4 @@
--- `fill_lists` meets its contract: after i turns the lists have the first i calls (`filled_next` in Places.antt), and none has changed its length.
+-- The loop's invariant: after i turns the lists have the first i calls, and none has changed its length.
 use mathlib.Core.Path.{◌≡◌}
 use Prim.Native.Nat.{◌-◌, ◌≤◌}
 use lib.ListN.{length}

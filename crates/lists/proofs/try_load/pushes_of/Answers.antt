@@ -1,4 +1,4 @@
--- `pushes_of` meets its contract: after i turns the place is that after i calls.
+-- `pushes_of` meets its contract, by the invariant in Invariants.antt.
 use native.Mathlib.Omega.{arith}
 use Rattle.loops.proofs.Loop.{at_end}
 use Rattle.lists.specs.Draws.{drawing_at}

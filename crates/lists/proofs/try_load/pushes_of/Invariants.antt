@@ -1,4 +1,4 @@
--- `pushes_of` meets its contract: after i turns the place is that after i calls.
+-- The loop's invariant: after i turns the place is that after i calls.
 use Prim.Native.Nat.{◌-◌, ◌≤◌}
 use Rattle.lists.specs.Inner.TryLoad.{Placed}
 use Rattle.lists.proofs.try_load.pushes_of.Given as goal

@@ -1,4 +1,4 @@
--- `put_frame` meets its contract: after i turns the first i numbers are written, and i draws are done.
+-- `put_frame` meets its contract, by the invariant in Invariants.antt.
 use mathlib.Core.Path.{refl, ap, ◌∙◌}
 use Prim.Native.Nat.{ℕ, ◌<◌, ◌≤◌}
 use native.Mathlib.Omega.{arith}

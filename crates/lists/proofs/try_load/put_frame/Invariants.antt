@@ -1,4 +1,4 @@
--- `put_frame` meets its contract: after i turns the first i numbers are written, and i draws are done.
+-- The loop's invariant: after i turns the first i numbers are written, and i draws are done.
 use mathlib.Core.Path.{◌≡◌}
 use Prim.Native.Nat.{◌+◌}
 use Rattle.loops.specs.Inner.{fill}

@@ -1,4 +1,4 @@
--- `try_load::skip` meets its contract: after i turns i draws are done.
+-- `skip` meets its contract, by the invariant in Invariants.antt.
 use native.Mathlib.Omega.{arith}
 use Rattle.lists.proofs.Steps.{draws-none, draws-next, draws_end}
 use Rattle.lists.proofs.try_load.skip.Goals as goal

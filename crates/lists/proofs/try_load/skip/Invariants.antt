@@ -1,4 +1,4 @@
--- `try_load::skip` meets its contract: after i turns i draws are done.
+-- The loop's invariant: after i turns i draws are done.
 use mathlib.Core.Path.{◌≡◌}
 use Prim.Native.Nat.{◌≤◌, ◌-◌}
 use Rattle.lists.specs.Draws.{draws}

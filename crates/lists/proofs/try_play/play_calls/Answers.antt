@@ -1,4 +1,4 @@
--- `play_calls` meets its contract: the loop's invariant is `Going` (Going.antt): what is left from call i on is what was to be tallied at first.
+-- `play_calls` meets its contract, by the invariant in Invariants.antt.
 use Rattle.std.proofs.Common.{rules}
 use mathlib.Core.Path.{◌≡◌, refl, ◌∙◌}
 use lib.ListN.{length}

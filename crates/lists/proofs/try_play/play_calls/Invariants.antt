@@ -1,4 +1,4 @@
--- `play_calls` meets its contract: the loop's invariant is `Going` (Going.antt): what is left from call i on is what was to be tallied at first.
+-- The loop's invariant is `Going` (Going.antt): what is left from call i on is what was to be tallied at first.
 use lib.ListN.{length, replicate}
 use Rattle.definition.specs.Lent.{tables_in, SameRings, SameWaiting, SameEstimate}
 use Rattle.program.specs.Lent.{rooms_of}

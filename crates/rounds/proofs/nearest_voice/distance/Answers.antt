@@ -1,4 +1,4 @@
--- `nearest_voice::distance` meets its contract: the sum of k squared differences, turn by turn.
+-- `distance` meets its contract, by the invariant in Invariants.antt.
 use borrow.Author.Rules.{rules}
 use mathlib.Core.Path.{refl}
 use Prim.Native.Nat.{◌+◌, ◌*◌}

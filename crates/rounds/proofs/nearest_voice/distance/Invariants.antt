@@ -1,4 +1,4 @@
--- `nearest_voice::distance` meets its contract: the sum of k squared differences, turn by turn.
+-- The loop's invariant: the sum of k squared differences, turn by turn.
 use mathlib.Core.Path.{◌≡◌}
 use mathlib.Core.List.{List}
 use Prim.Native.Nat.{ℕ, ◌+◌, ◌-◌, ◌*◌, ◌≤◌}

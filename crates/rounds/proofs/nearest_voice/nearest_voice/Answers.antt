@@ -1,5 +1,5 @@
--- `nearest_voice::nearest_voice` meets its contract: before index i, `index` is the lowest of least distance among those up to i - 1 (laws in Least.antt); no
--- product passes 64 bits, since a refused length never gets there (`accepted` in Refusals.antt).
+-- `nearest_voice` meets its contract, by the invariant in Invariants.antt and the laws of Least.antt. No product passes 64 bits: a refused
+-- length never gets there (`accepted` in VoiceRefusals.antt).
 use Rattle.std.specs.Prelude.{Err}
 use borrow.Author.Rules.{rules}
 use mathlib.Core.Path.{◌≡◌, refl, sym, ap, ◌∙◌}

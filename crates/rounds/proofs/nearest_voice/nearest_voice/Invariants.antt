@@ -1,5 +1,4 @@
--- `nearest_voice::nearest_voice` meets its contract: before index i, `index` is the lowest of least distance among those up to i - 1 (laws in Least.antt); no
--- product passes 64 bits, since a refused length never gets there (`accepted` in Refusals.antt).
+-- The loop's invariant: before index i, `index` is the lowest of least distance among those up to i - 1.
 use mathlib.Core.Path.{◌≡◌}
 use Prim.Native.Nat.{◌-◌, ◌≤◌}
 use Rattle.rounds.specs.Voice.{distance, least}

@@ -1,4 +1,4 @@
--- The count of the walk's changes: after i frames it is the number of those that the first i give.
+-- `count_changes` meets its contract, by the invariant in Invariants.antt.
 use mathlib.Core.Path.{refl, ap, ◌∙◌}
 use native.Mathlib.Omega.{arith}
 use lib.ListN.{length}

@@ -1,4 +1,4 @@
--- The count of the walk's changes: after i frames it is the number of those that the first i give.
+-- The loop's invariant: after i frames of the walk the count is the number of changes that the first i give.
 use mathlib.Core.Path.{◌≡◌}
 use Prim.Native.Nat.{◌*◌, ◌≤◌}
 use lib.ListN.{length}

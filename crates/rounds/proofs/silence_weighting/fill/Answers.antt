@@ -1,4 +1,4 @@
--- A part of a room set to one value: after i turns the first i places from `a` on hold it, by the laws of `put` (loops/proofs/Fill.antt).
+-- `fill` meets its contract, by the invariant in Invariants.antt and the laws of `put` (loops/proofs/Fill.antt).
 use borrow.Author.Rules.{rules}
 use mathlib.Core.Path.{refl}
 use native.Mathlib.Omega.{arith}

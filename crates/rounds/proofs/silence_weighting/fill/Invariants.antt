@@ -1,4 +1,4 @@
--- A part of a room set to one value: after i turns the first i places from `a` on hold it, by the laws of `put` (loops/proofs/Fill.antt).
+-- The loop's invariant: after i turns the first i places from `a` on hold the value.
 use mathlib.Core.Path.{◌≡◌}
 use Prim.Native.Nat.{◌≤◌}
 use lib.ListN.{length}

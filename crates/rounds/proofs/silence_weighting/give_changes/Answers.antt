@@ -1,4 +1,4 @@
--- The walk: after i frames the weights of the first i are written, and their changes stand at the fronts of the two lists.
+-- `give_changes` meets its contract, by the invariant in Invariants.antt.
 use mathlib.Core.Path.{refl, ap, ◌∙◌}
 use native.Mathlib.Omega.{arith}
 use lib.ListN.{length, length-set}

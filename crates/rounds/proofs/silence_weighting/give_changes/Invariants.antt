@@ -1,4 +1,5 @@
--- The walk: after i frames the weights of the first i are written, and their changes stand at the fronts of the two lists.
+-- The loop's invariant: after i frames of the walk the weights of the first i are written, and their changes stand at the fronts of the two
+-- lists.
 use mathlib.Core.Path.{◌≡◌}
 use Prim.Native.Nat.{suc}
 use lib.ListN.{length}

@@ -1,4 +1,4 @@
--- The segments' flags: after i segments each room is the table's part, frame by frame, marked by the first i.
+-- `mark_segments` meets its contract, by the invariant in Invariants.antt.
 use native.Mathlib.Omega.{arith}
 use mathlib.Core.Bool.{true, false}
 use mathlib.Core.Path.{◌≡◌, refl, ◌∙◌}

@@ -1,4 +1,4 @@
--- The segments' flags: after i segments each room is the table's part, frame by frame, marked by the first i.
+-- The loop's invariant: after i segments each room is the table's part, frame by frame, marked by the first i.
 use mathlib.Core.Path.{◌≡◌}
 use Prim.Native.Nat.{ℕ, ◌≤◌}
 use lib.ListN.{length}

@@ -1,6 +1,6 @@
--- `decide` meets its contract: with no ready frame nothing is done (`no_vector`); a fetch that is refused ends the round at step 6 (`fetch_refused`); one that is
--- taken is followed by the nearest voice (`fetch_taken`). Scratch is used by a fetch that is taken alone (`fetch_number`, `found-worked`). The laws are those of
--- Steps.antt in `trigger_steps`.
+-- `decide` meets its contract: with no ready frame nothing is done (`no_vector`); a fetch that is refused ends the round at step 6 (`fetch_refused`);
+-- one that is taken is followed by the nearest voice (`fetch_taken`). Scratch is used by a fetch that is taken alone (`fetch_number`,
+-- `found-worked`). The laws are those of Steps.antt.
 use mathlib.Core.Path.{sym, ap, ◌∙◌}
 use mathlib.Core.Bool.{true≢false}
 use lib.ListN.{length}

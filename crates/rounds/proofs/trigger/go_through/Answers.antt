@@ -1,5 +1,5 @@
 -- `go_through` meets its contract: each of its calls says what its steps are, and the round ends where one is refused (`ends_hearing`, `ends_weighing`, `ends_changing`) or
--- with what `decide` answers (`ends_full`). The laws are those of Steps.antt in `trigger_steps`.
+-- with what `decide` answers (`ends_full`). The laws are those of Steps.antt.
 use mathlib.Core.Path.{refl}
 use native.Mathlib.Omega.{arith}
 use lib.ListN.{length}

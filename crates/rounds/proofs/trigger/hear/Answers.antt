@@ -1,5 +1,5 @@
 -- `hear` meets its contract: a forget that is refused ends the round at step 1 (`not_forgotten`); else the pushes go on from what it left (`then_pushed`). The laws are
--- those of Steps.antt in `trigger_steps`.
+-- those of Steps.antt.
 use mathlib.Core.Path.{◌≡◌}
 use Rattle.std.proofs.lemmas.Result.{err_from_is_err_and}
 use Rattle.program.specs.Lent.{rings_pushed}

@@ -1,5 +1,5 @@
--- `push_all` meets its contract: what is left of the numbers, pushed on what the pushes so far left, is what all of them pushed give (`push_taken`); the first
--- refusal ends them (`push_refused`). The laws are those of Steps.antt in `trigger_steps`.
+-- `push_all` meets its contract, by the invariant in Invariants.antt: a push that is taken is `push_taken`, and the first refusal ends them
+-- (`push_refused`), both in Steps.antt.
 use mathlib.Core.Path.{◌≡◌, sym, ap, ◌∙◌}
 use Prim.Native.Nat.{ℕ}
 use Rattle.std.proofs.lemmas.Result.{err_from_is_err_and}

@@ -1,5 +1,4 @@
--- `push_all` meets its contract: what is left of the numbers, pushed on what the pushes so far left, is what all of them pushed give (`push_taken`); the first
--- refusal ends them (`push_refused`). The laws are those of Steps.antt in `trigger_steps`.
+-- The loop's invariant: what is left of the numbers, pushed on what the pushes so far left, is what all of them pushed give.
 use mathlib.Core.Path.{◌≡◌}
 use Prim.Native.Nat.{◌<◌}
 use Rattle.definition.specs.Lent.{SameRings}

@@ -1,5 +1,4 @@
--- `delta_weights::insert_changes` meets its contract. The loop's invariant: the rooms hold the first i changes inserted, in order (`Now` and `call_turn` in
--- Inserted.antt).
+-- `insert_changes` meets its contract, by the invariant in Invariants.antt (`Now` and `call_turn` in Inserted.antt).
 use mathlib.Core.Path.{refl, ◌∙◌}
 use native.Mathlib.Omega.{arith}
 use Rattle.loops.specs.Lists.{over}

@@ -1,5 +1,4 @@
--- `delta_weights::insert_changes` meets its contract. The loop's invariant: the rooms hold the first i changes inserted, in order (`Now` and `call_turn` in
--- Inserted.antt).
+-- The loop's invariant: the rooms hold the first i changes inserted, in order.
 use Prim.Native.Nat.{◌-◌, ◌≤◌}
 use Rattle.definition.specs.Lent.{SameWaiting}
 use Rattle.stream.specs.Waiting.{Holds}

@@ -1,5 +1,4 @@
--- `delta_weights::past_highest_of` meets its contract. The loop's invariant: the highest so far, folded over what is left, is the fold over all frames
--- (`fold_turn` in loops/proofs/Folds.antt).
+-- `past_highest_of` meets its contract, by the invariant in Invariants.antt (`fold_turn` in loops/proofs/Folds.antt).
 use native.Mathlib.Omega.{arith}
 use borrow.Author.Tests.{leb-false}
 use lib.Dec.{leb}

@@ -1,5 +1,4 @@
--- `delta_weights::past_highest_of` meets its contract. The loop's invariant: the highest so far, folded over what is left, is the fold over all frames
--- (`fold_turn` in loops/proofs/Folds.antt).
+-- The loop's invariant: the highest so far, folded over what is left, is the fold over all frames.
 use mathlib.Core.Path.{◌≡◌}
 use mathlib.Core.List.{foldl}
 use Prim.Native.Nat.{◌+◌, max}

@@ -1,5 +1,4 @@
--- `delta_weights::sum_group` meets its contract. The loop's invariant: the places from j up to `end` are of one frame, and their weights are summed
--- (`Sums`, `sums_more`, `sums_end` in Groups.antt).
+-- `sum_group` meets its contract, by the invariant in Invariants.antt (`Sums`, `sums_more`, `sums_end` in Groups.antt).
 use mathlib.Core.Path.{◌≡◌}
 use native.Mathlib.Omega.{arith}
 use Rattle.stream.proofs.Groups.{sums_first, sums_more, sums_other, sums_end}

@@ -1,5 +1,4 @@
--- `delta_weights::sum_group` meets its contract. The loop's invariant: the places from j up to `end` are of one frame, and their weights are summed
--- (`Sums`, `sums_more`, `sums_end` in Groups.antt).
+-- The loop's invariant: the places from j up to `end` are of one frame, and their weights are summed.
 use Rattle.stream.proofs.Groups.{Sums}
 use Rattle.stream.proofs.delta_weights.sum_group.Given as goal
 

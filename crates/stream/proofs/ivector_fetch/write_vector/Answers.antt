@@ -1,5 +1,4 @@
--- `write_vector` meets its contract. The loop's invariant: the first i places of the output have their bits, and `bad` counts those of the first i
--- elements that are not finite. The turn and the end of both are laws of Vector.antt and of `fill`.
+-- `write_vector` meets its contract, by the invariant in Invariants.antt and the laws of Vector.antt and of `fill`.
 use mathlib.Core.Path.{refl, ap, ◌∙◌}
 use Prim.Native.Nat.{ℕ}
 use native.Mathlib.Omega.{arith}

@@ -1,5 +1,5 @@
--- `write_vector` meets its contract. The loop's invariant: the first i places of the output have their bits, and `bad` counts those of the first i
--- elements that are not finite. The turn and the end of both are laws of Vector.antt and of `fill`.
+-- The loop's invariant: the first i places of the output have their bits, and `bad` counts those of the first i elements that are not
+-- finite.
 use mathlib.Core.Path.{◌≡◌}
 use Prim.Native.Nat.{◌-◌, ◌≤◌}
 use lib.ListN.{length}

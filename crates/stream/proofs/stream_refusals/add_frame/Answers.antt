@@ -1,5 +1,5 @@
--- `stream_refusals::add_frame` meets its contract: after d turns the first d sums are put. The row that is read lies apart from the one that is written.
--- The frame has no NaN, so that the cast of each number is defined, and leaves it as it is.
+-- `add_frame` meets its contract, by the invariant in Invariants.antt. The row that is read lies apart from the one that is written. The
+-- frame has no NaN, so that the cast of each number is defined, and leaves it as it is.
 use borrow.Author.Rules.{rules}
 use mathlib.Core.Bool.{not}
 use native.Mathlib.Omega.{arith}

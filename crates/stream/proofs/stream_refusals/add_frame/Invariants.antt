@@ -1,5 +1,4 @@
--- `stream_refusals::add_frame` meets its contract: after d turns the first d sums are put. The row that is read lies apart from the one that is written.
--- The frame has no NaN, so that the cast of each number is defined, and leaves it as it is.
+-- The loop's invariant: after d turns the first d sums are put.
 use Prim.Native.Nat.{◌≤◌, ◌+◌, ◌-◌}
 use mathlib.Core.Path.{◌≡◌}
 use lib.ListN.{length}

@@ -1,4 +1,4 @@
--- `stream_refusals::any_not_finite` meets its contract: `bad`, or one left from i on, is whether there is one.
+-- `any_not_finite` meets its contract, by the invariant in Invariants.antt.
 use Prim.Native.Nat.{◌+◌}
 use mathlib.Core.Path.{ap, ◌∙◌}
 use mathlib.Core.Bool.{Bool, not, ◌||◌}

@@ -1,4 +1,4 @@
--- `stream_refusals::any_not_finite` meets its contract: `bad`, or one left from i on, is whether there is one.
+-- The loop's invariant: `bad`, or one left from i on, is whether there is one.
 use mathlib.Core.Path.{◌≡◌}
 use mathlib.Core.Bool.{not, ◌||◌}
 use lib.ListN.{drop}

@@ -1,5 +1,4 @@
--- `diag_gmm::gmm::add_constants` meets its contract. The loop's invariant: a turn at each of the first m places; each place is made from its old value alone
--- (`iter_fill` in loops/proofs/Fill.antt).
+-- `add_constants` meets its contract, by the invariant in Invariants.antt: each place is made from its old value alone (`iter_fill` in loops/proofs/Fill.antt).
 use mathlib.Core.Path.{refl, ◌∙◌}
 use native.Mathlib.Omega.{arith}
 use lib.Ieee.{Float, nan}

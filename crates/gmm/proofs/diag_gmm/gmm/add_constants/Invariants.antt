@@ -1,5 +1,4 @@
--- `diag_gmm::gmm::add_constants` meets its contract. The loop's invariant: a turn at each of the first m places; each place is made from its old value alone
--- (`iter_fill` in loops/proofs/Fill.antt).
+-- The loop's invariant: a turn at each of the first m places; each place is made from its old value alone.
 use mathlib.Core.Path.{◌≡◌}
 use Prim.Native.Nat.{◌≤◌, ◌-◌}
 use lib.ListN.{length, set}

@@ -1,5 +1,4 @@
--- `take_batch` meets its contract. The loop's invariant: the batch is partway, what is left of it is what it has from place j on, and the rooms keep
--- their lengths. The laws of a batch partway are those of Places.antt.
+-- The loop's invariant: the batch is partway, what is left of it is what it has from place j on, and the rooms keep their lengths.
 use mathlib.Core.Path.{◌≡◌}
 use Prim.Native.Nat.{ℕ, ◌+◌, ◌-◌, ◌≤◌}
 use lib.ListN.{length}
