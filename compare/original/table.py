@@ -42,10 +42,11 @@ SILENCE = 'silence_weighting.rs'
 BRANCH = [IVECTOR, SILENCE, 'kaldi_io.rs']
 
 
-def item(name, at, source=IVECTOR, open=False, subs=(), alloc=()):
+def item(name, at, source=IVECTOR, open=False, subs=(), alloc=(), closures=()):
     """The item that begins with the text `at` in `source`. subs: rewrites (kind, from, to, how often if not once); alloc: those for allocation, done after
-    them (from, to, how often if not once). A count that is off stops the run. open: translated, not proved yet."""
-    return dict(name=name, at=at, source=source, open=open, subs=subs, alloc=alloc)
+    them (from, to, how often if not once). A count that is off stops the run. open: translated, not proved yet. closures: (name, head) of a closure
+    whose clauses stand in contracts/ITEM.NAME; head: its translated text up to its block."""
+    return dict(name=name, at=at, source=source, open=open, subs=subs, alloc=alloc, closures=closures)
 
 
 def impl(name, head, items):
@@ -254,12 +255,13 @@ LIB = [
             ('.collect();', '.collect(alloc)?;'),
             ('self.stats.acc(&info.extractor, &refs, &posts);', 'self.stats.acc(alloc, &info.extractor, &refs, &posts)?;\n        Ok(())'),
         ]),
-        item('update_stats_until_frame_weighted', 'fn update_stats_until_frame_weighted(', open=True, subs=[
+        item('update_stats_until_frame_weighted', 'fn update_stats_until_frame_weighted(', subs=[
             (PROVE, 'assert!(', 'prove!('),
+            (CAST, 'f32::from_bits(w)', 'std::num::f32_from_bits_with_nan(w)'),
         ], alloc=[
             ('(&mut self, frame: usize) {', '(&mut self, alloc: Global, frame: usize) -> Result<(), AllocError> {'),
             ('Vec::new()', 'Vec::new(alloc)'),
-            ('frame_weights.push((f, f32::from_bits(w)));', 'frame_weights.push((f, f32::from_bits(w)))?;'),
+            ('frame_weights.push((f, std::num::f32_from_bits_with_nan(w)));', 'frame_weights.push((f, std::num::f32_from_bits_with_nan(w)))?;'),
             ('self.update_stats_for_frames(&frame_weights);\n                frame', 'self.update_stats_for_frames(alloc, &frame_weights)?;\n                frame'),
             ('std::mem::take(&mut self.current)', 'std::mem::try_take(&mut self.current)?'),
             ('.get_ivector(self.info.opts.num_cg_iters, &mut cur);', '.get_ivector(alloc, self.info.opts.num_cg_iters, &mut cur)?;'),
@@ -288,7 +290,7 @@ LIB = [
             ('std::mem::take(&mut self.current)', 'std::mem::try_take(&mut self.current)?'),
             ('self.stats.get_ivector(o.num_cg_iters, &mut cur);', 'self.stats.get_ivector(alloc, o.num_cg_iters, &mut cur)?;'),
             ('flush(self, &mut pending);\n    }', 'flush(self, &mut pending)?;\n        Ok(())\n    }'),
-        ]),
+        ], closures=[('flush', '|this: &mut Self, pending: &mut Vec<usize>| -> Result<(), AllocError> ')]),
         item('get_frame', 'pub fn get_frame(', open=True, subs=[
             (PROVE, 'assert!(', 'prove!('),
             (CAST, '*o = v as f32;', '*o = floats::narrow(v);'),
