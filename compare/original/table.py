@@ -267,7 +267,7 @@ LIB = [
             ('.get_ivector(self.info.opts.num_cg_iters, &mut cur);', '.get_ivector(alloc, self.info.opts.num_cg_iters, &mut cur)?;'),
             ('self.update_stats_for_frames(&frame_weights);\n    }', 'self.update_stats_for_frames(alloc, &frame_weights)?;\n        Ok(())\n    }'),
         ]),
-        item('update_stats_until', 'fn update_stats_until(', open=True, alloc=[
+        item('update_stats_until', 'fn update_stats_until(', alloc=[
             ('(&mut self, frame: usize) {', '(&mut self, alloc: Global, frame: usize) -> Result<(), AllocError> {'),
             ('Vec::new()', 'Vec::new(alloc)', 2),
             ('|this: &mut Self, pending: &mut Vec<usize>| {', '|this: &mut Self, pending: &mut Vec<usize>| -> Result<(), AllocError> {'),
