@@ -291,8 +291,9 @@ LIB = [
             ('self.stats.get_ivector(o.num_cg_iters, &mut cur);', 'self.stats.get_ivector(alloc, o.num_cg_iters, &mut cur)?;'),
             ('flush(self, &mut pending);\n    }', 'flush(self, &mut pending)?;\n        Ok(())\n    }'),
         ], closures=[('flush', '|this: &mut Self, pending: &mut Vec<usize>| -> Result<(), AllocError> ')]),
-        item('get_frame', 'pub fn get_frame(', open=True, subs=[
+        item('get_frame', 'pub fn get_frame(', subs=[
             (PROVE, 'assert!(', 'prove!('),
+            (ZIP, 'for (o, &v) in out.iter_mut().zip(&self.current) {', 'for (i, o) in out.iter_mut().enumerate() {\n            let v = self.current[i];'),
             (CAST, '*o = v as f32;', '*o = floats::narrow(v);'),
             (CAST, 'self.info.extractor.prior_offset as f32;', 'floats::narrow(self.info.extractor.prior_offset);'),
         ], alloc=[
