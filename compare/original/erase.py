@@ -1,4 +1,5 @@
 """The eraser: strips from a translated text what the rewrites for allocation added, and gives its tokens back."""
+import difflib
 import re
 
 TOKEN = re.compile(r'''
@@ -13,6 +14,28 @@ TOKEN = re.compile(r'''
 def tokens(text):
     """The tokens of Rust's or Rattle's text: no blanks, no comments."""
     return [m.group() for m in TOKEN.finditer(text) if m.lastgroup != 'space']
+
+
+# what the eraser looks for: where these words are the item's own, they are set apart before
+SOUGHT = ('?', 'Ok', 'Result', 'alloc', 'try_take')
+OWN, ADDED = 'o', 'a'
+
+
+def set_apart(text, marks):
+    """The tokens of the text, with those that the eraser looks for set apart where no rewrite for allocation added them. marks: a letter for each character, OWN or ADDED."""
+    found = [(m.group(), m.start(), m.end()) for m in TOKEN.finditer(text) if m.lastgroup != 'space']
+    return ["own " + it if it in SOUGHT and set(marks[begin:end]) == {OWN} else it for it, begin, end in found]
+
+
+def marked(old, new, marks):
+    """The marks of `new`, which takes the place of `old` with its marks: what both have keeps its mark, the rest is added."""
+    found = [ADDED] * len(new)
+    pieces = [[m.span() for m in TOKEN.finditer(it)] for it in (old, new)]
+    words = [[it[begin:end] for begin, end in piece] for it, piece in zip((old, new), pieces)]
+    for a, b, size in difflib.SequenceMatcher(None, *words, autojunk=False).get_matching_blocks():
+        for (was, _), (begin, end) in zip(pieces[0][a:a + size], pieces[1][b:b + size]):
+            found[begin:end] = marks[was:was + end - begin]
+    return ''.join(found)
 
 
 def end_of(ts, i):

@@ -11,12 +11,13 @@ ZIP = 'a zip over what changes, by its index'
 BORROW = 'a borrow taken where it is read'
 DROP = 'a type that may be let go'
 PROVE = 'an assertion that is proved'
+TAKE = 'the next bytes as a function'
 TEXT = 'an error\'s text, and a text as a text'
 BYTES = 'bytes in place of files'
 WHY = {
     ALLOC: 'What allocates is passed `alloc` and answers a `Result`; `?` hands out of memory on, `Ok` wraps what the original gives. Erased again, the original\'s tokens '
-           'are left, to the last (`erase.py`, tried at each translation; of a reader its own `?` and `Ok` go too, and each of its tokens has to stand in the translation, in '
-           'order). Where memory suffices, each step is the original\'s.',
+           'are left, to the last (`erase.py`, tried at each translation; what was there before, a `?` or an `Ok` of a reader\'s own, stays where it stood). Where memory suffices, '
+           'each step is the original\'s.',
     LOGARITHM: 'The scope sets `ln` and `exp` bit for bit; the original calls the platform\'s. The same places as in compare\'s copy.',
     START: 'Request 9: a start that solves the equation is kept, where the original divides 0 by 0. The same place as in compare\'s copy.',
     NAN: 'Where the original panics at a NaN likelihood, a NaN stands last and the lower index first. The same place as in compare\'s copy.',
@@ -30,6 +31,8 @@ WHY = {
     DROP: 'Rattle asks a type to say that its values may be let go. No step is added.',
     TEXT: 'The words of an error take nothing of what was read; the error and its kind stay. A `String` is compared, or stripped, as the text that it holds.',
     BYTES: 'The folder is a value that holds its files\' bytes, by their names, where the original reads them from the file system.',
+    TAKE: '`by_ref().take(n).read_to_end(buf)` puts the next n bytes behind `buf`, or all where fewer are left; so does `read_up_to`, of which that is proved, where the kit\'s clauses '
+          'leave open what the reader has left.',
     PROVE: '`assert!` panics where it does not hold; `prove!` is proved to hold, so that the panic cannot come.',
 }
 
@@ -305,31 +308,31 @@ LIB = [
         ]),
         item('num_frames_stats', 'pub fn num_frames_stats('),
     ]),
-    item('Label', 'pub type Label = i32;', source='fst.rs', open=True),
-    item('PhoneSegment', 'pub struct PhoneSegment {', source='decoder.rs', open=True, subs=[
+    item('Label', 'pub type Label = i32;', source='fst.rs'),
+    item('PhoneSegment', 'pub struct PhoneSegment {', source='decoder.rs', subs=[
         (DROP, 'pub struct PhoneSegment {', '#[derive(Drop)]\npub struct PhoneSegment {'),
     ]),
-    item('Path', 'pub struct Path {', source='decoder.rs', open=True, subs=[
+    item('Path', 'pub struct Path {', source='decoder.rs', subs=[
         (DROP, 'pub struct Path {', '#[derive(Drop)]\npub struct Path {'),
     ]),
-    item('FrameInfo', '#[derive(Clone, Copy)]\nstruct FrameInfo {', source=SILENCE, open=True),
-    item('SilenceWeighting', 'pub struct SilenceWeighting {', source=SILENCE, open=True, subs=[
+    item('FrameInfo', '#[derive(Clone, Copy)]\nstruct FrameInfo {', source=SILENCE),
+    item('SilenceWeighting', 'pub struct SilenceWeighting {', source=SILENCE, subs=[
         (DROP, 'pub struct SilenceWeighting {', '#[derive(Drop)]\npub struct SilenceWeighting {'),
     ]),
     impl('SilenceWeighting', 'impl SilenceWeighting {', [
-        item('new', 'pub fn new(', source=SILENCE, open=True, alloc=[
+        item('new', 'pub fn new(', source=SILENCE, alloc=[
             ('pub fn new(silence_phones', 'pub fn new(alloc: Global, silence_phones'),
             ('-> Self {\n        SilenceWeighting {\n', '-> Result<Self, AllocError> {\n        Ok(SilenceWeighting {\n'),
             ('silence_phones.to_vec(),', 'silence_phones.to_vec(alloc)?,'),
             ('frame_info: Vec::new(),\n        }\n', 'frame_info: Vec::new(alloc),\n        })\n'),
         ]),
-        item('active', 'pub fn active(', source=SILENCE, open=True),
-        item('compute_current_traceback', 'pub fn compute_current_traceback(', source=SILENCE, open=True, alloc=[
+        item('active', 'pub fn active(', source=SILENCE),
+        item('compute_current_traceback', 'pub fn compute_current_traceback(', source=SILENCE, alloc=[
             ('num_frames_decoded: usize) {', 'num_frames_decoded: usize) -> Result<(), AllocError> {'),
             ('                },\n            );', '                },\n            )?;'),
             ('\n        }\n    }', '\n        }\n        Ok(())\n    }'),
         ]),
-        item('get_delta_weights', 'pub fn get_delta_weights(', source=SILENCE, open=True, alloc=[
+        item('get_delta_weights', 'pub fn get_delta_weights(', source=SILENCE, alloc=[
             ('&mut self,\n        num_frames_ready: usize,', '&mut self,\n        alloc: Global,\n        num_frames_ready: usize,'),
             ('-> Vec<(usize, f32)> {', '-> Result<Vec<(usize, f32)>, AllocError> {'),
             ('let mut deltas = Vec::new();', 'let mut deltas = Vec::new(alloc);'),
@@ -361,6 +364,7 @@ READERS = [
     item('err', 'pub fn err(', source=K, open=True, subs=[
         (TEXT, 'msg.to_string()', 'msg'),
     ]),
+    own('read_up_to', open=True),
     impl('KaldiReader', R, [
         reader('new'),
         reader('byte'),
@@ -384,7 +388,9 @@ READERS = [
         reader('read_f64', subs=[
             (CAST, 'f64::from_le_bytes(b)', 'std::num::f64_from_bits_with_nan(u64::from_le_bytes(b))'),
         ]),
-        reader('read_bounded', alloc=[
+        reader('read_bounded', subs=[
+            (TAKE, 'self.r.by_ref().take(want as u64).read_to_end(&mut buf)', 'read_up_to(&mut self.r, want as u64, &mut buf)'),
+        ], alloc=[
             ('&mut self, count', '&mut self, alloc: Global, count'),
             ('Vec::new()', 'Vec::new(alloc)'),
         ]),
