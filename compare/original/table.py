@@ -351,20 +351,21 @@ R = 'impl<R: Read> KaldiReader<R> {'
 
 def reader(name, subs=(), alloc=()):
     at = ('fn ' if name in ('byte', 'read_bounded', 'read_f32_raw', 'read_f64_raw') else 'pub fn ') + name + '('
-    return item(name, at, source=K, open=True, subs=subs, alloc=alloc)
+    return item(name, at, source=K, subs=subs, alloc=alloc)
 
 
 # what a reader is passed: behind `&mut self`
 SELF = ('(&mut self)', '(&mut self, alloc: Global)')
 READERS = [
-    item('KaldiReader', 'pub struct KaldiReader<R: Read> {', source=K, open=True, subs=[
+    own('above', open=True),
+    item('KaldiReader', 'pub struct KaldiReader<R: Read> {', source=K, subs=[
         (DROP, 'pub struct', '#[derive(Drop)]\npub struct'),
     ]),
-    item('cells', 'fn cells(', source=K, open=True),
-    item('err', 'pub fn err(', source=K, open=True, subs=[
+    item('cells', 'fn cells(', source=K),
+    item('err', 'pub fn err(', source=K, subs=[
         (TEXT, 'msg.to_string()', 'msg'),
     ]),
-    own('read_up_to', open=True),
+    own('read_up_to'),
     impl('KaldiReader', R, [
         reader('new'),
         reader('byte'),
