@@ -483,4 +483,7 @@ READERS = [
     ]),
 ]
 
-FILES = {'lib.rt': LIB, 'readers.rt': READERS}
+# what a list of calls gives
+CALLS = [own('calls')]
+
+FILES = {'lib.rt': LIB, 'calls.rt': CALLS, 'readers.rt': READERS}
