@@ -38,6 +38,8 @@ WHY = {
 
 # the project's crates that the contracts and proofs speak of; those below them come with them
 DEPS = 'loops floats definition algebra gmm ivector_stats'
+# files of laws, and of words that they need, in crates that stand on more than these: each is laid into this crate, since it needs no more than these itself
+LAWS = ['rounds/proofs/Phones', 'kaldi/proofs/Bytes', 'kaldi/proofs/Values', 'kaldi/proofs/Chain', 'kaldi/specs/Inner/KaldiIoAnswers']
 
 IVECTOR = 'ivector.rs'
 SILENCE = 'silence_weighting.rs'
