@@ -27,7 +27,7 @@ use Rattle.definition.specs.declared.StreamCall.{StreamCall}
 use Rattle.definition.specs.Model.{Model, Tables, table_lengths_of}
 use Rattle.definition.specs.Changes.{Change}
 use Rattle.definition.specs.Machine.{Call, Answer}
-use Rattle.definition.specs.Stream.{same_tables, is_broken, same_rooms}
+use Rattle.definition.specs.Stream.{same_tables, is_foreign, same_rooms}
 use Rattle.definition.specs.Silence.{Table, TableRooms, table_rooms, TableCall, input, decoder, segments, traced, new_table, table_broken, traceback_tests, asked, asked_table, delta_tests, table_done, compute_current_traceback, get_delta_weights}
 use Rattle.definition.proofs.Computed.{computed}
 use Rattle.program.specs.Rooms.{rings_from, estimate_from, Rooms, rooms_from, room_lengths_of, ring_at, waiting_in}
@@ -46,7 +46,7 @@ said r f n v c m = record { told = record { refusal = r; frames_held = f; rows_h
 
 -- refusal 10 of a call on a stream: waiting frames, table lengths and room lengths are what is lent
 abbrev pub declined : IvectorStream → List ℕ → TableLengths → RoomLengths → Bool
-declined s waiting tables rooms = is_broken s waiting || not (same_tables tables s.info.tables) || not (same_rooms rooms s.lengths)
+declined s waiting tables rooms = is_foreign s waiting || not (same_tables tables s.info.tables) || not (same_rooms rooms s.lengths)
 
 -- ---- the calls on a silence table, and their answers, as those of a stream
 

@@ -22,7 +22,7 @@ use Rattle.definition.specs.Solve.{dot, sp_mat_vec, less_products, cell, factor,
 use Rattle.definition.specs.Changes.{insert_change, changed, reached, merged_from, merged, batch}
 use Rattle.definition.specs.Estimate.{entries, nans_over, accumulated, updated}
 use Rattle.definition.specs.Machine.{all_frames, frames_held, rows_held, frames_ready, forgotten, longest_from, push_tests, change_tests, window_tests, fetch_tests, not_finite, fresh, fetched, caught_up, nans_met, does, told_by, answer, machine_after, answers_from, answers}
-use Rattle.definition.specs.Stream.{record_sound, info_sound, same_tables, stream_scratch, rooms_fit, new_refusal, rising, breaks, is_broken, same_rings, same_rooms}
+use Rattle.definition.specs.Stream.{record_sound, info_sound, same_tables, stream_scratch, rooms_fit, new_refusal, rising, breaks, is_foreign, same_rings, same_rooms}
 use Rattle.definition.specs.Silence.{info_at, table_in, segments, same_phone, marked, traced, before, carried, walked, weighted, decoder_frames, input_frame, delta_weights, settings_refusal, new_table, active, table_broken, traceback_tests, asked, asked_table, delta_tests, compute_current_traceback, get_delta_weights, silence_answer}
 
 unfoldable pub computed : Unit {0}
@@ -36,7 +36,7 @@ unfolding add sub mul div neg lt le eq ne is_nan of_int of_bits to_bits round it
     seen sum_for acc_linear acc_quadratic acc dot sp_mat_vec less_products cell factor forward backward solved_or begun turn linear_cgd prior_vector
     get_ivector insert_change changed reached merged_from merged batch entries nans_over accumulated updated all_frames frames_held rows_held
     frames_ready forgotten longest_from push_tests change_tests window_tests fetch_tests not_finite fresh fetched caught_up nans_met does told_by answer
-    machine_after answers_from answers record_sound info_sound same_tables stream_scratch rooms_fit new_refusal rising breaks is_broken same_rings
+    machine_after answers_from answers record_sound info_sound same_tables stream_scratch rooms_fit new_refusal rising breaks is_foreign same_rings
     same_rooms info_at table_in segments same_phone marked traced before carried walked weighted decoder_frames input_frame delta_weights
     settings_refusal new_table active table_broken traceback_tests asked asked_table delta_tests compute_current_traceback get_delta_weights
     silence_answer

@@ -4,7 +4,7 @@ use Rattle.std.specs.Float.{Format, binary32, binary64}
 use Rattle.std.specs.Float.Ieee.{of_bits}
 use Rattle.std.specs.Float.Ieee.Scale.{finite}
 use Rattle.loops.specs.Lists.{all_of}
-use Rattle.definition.specs.Options.{within, max_gauss, max_feat, max_ivector, max_columns}
+use Rattle.definition.specs.Options.{within, max_gauss, max_feat, max_ivector, max_columns, max_skipped}
 use Rattle.floats.specs.Real.{by_width, byte_width}
 use Rattle.definition.specs.Reader.{read, refused, Parser, ◌>>=◌, ◌>>◌, give, need, times, bytes, run, text, same, little_endian, floats}
 
@@ -73,7 +73,7 @@ vector f positive most = do
 unfoldable pub skipped : Parser (Unit {0})
 skipped = do
   w ← block_width vector_tag
-  n ← dim 0 1_000_000
+  n ← dim 0 max_skipped
   bytes (n * byte_width w)
   give tt
 
@@ -145,8 +145,8 @@ pub record Extractor : Type 0 where
 unfoldable pub rowless : Parser (Unit {0})
 rowless = do
   w ← block_width matrix_tag
-  r ← dim 0 1_000_000
-  c ← dim 0 1_000_000
+  r ← dim 0 max_skipped
+  c ← dim 0 max_skipped
   need (eqb r 0) 5
 
 unfoldable pub extractor_heading : Parser (Unit {0})

@@ -14,7 +14,7 @@ use Rattle.definition.specs.declared.IvectorOptions.{IvectorOptions}
 use Rattle.definition.specs.declared.Dimensions.{Dimensions}
 use Rattle.definition.specs.declared.RingLengths.{RingLengths}
 use Rattle.definition.specs.declared.StreamAnswer.{StreamAnswer}
-use Rattle.definition.specs.Options.{within}
+use Rattle.definition.specs.Options.{within, max_window, max_frames}
 use Rattle.definition.specs.Model.{Model, model_in_force}
 use Rattle.definition.specs.Views.{Frames}
 use Rattle.definition.specs.Statistics.{new_stats}
@@ -88,7 +88,7 @@ unfoldable pub push_tests : Dimensions → RingLengths → ℕ → ℕ → ℕ �
 push_tests d z longest accepted mark x =
     (not (eqb (length x) d.base_dim), 11)
     ∷ (any_of (λ v. not (finite v)) x, 12)
-    ∷ (eqb accepted 1000000000, 13)
+    ∷ (eqb accepted max_frames, 13)
     ∷ (eqb (frames_held accepted mark) (rows_in z.frames d.base_dim), 14)
     ∷ (eqb (rows_held longest accepted mark) (rows_in z.rows d.base_dim), 15) ∷ []
 
@@ -100,14 +100,14 @@ max_changes = 384
 unfoldable pub change_tests : IvectorOptions → RingLengths → ℕ → ℕ → ℕ → List ℕ → List Float → List (Bool × ℕ)
 change_tests o z mark floor n fs ws =
     (not (eqb (length fs) (length ws)) || ltb max_changes (length fs), 16)
-    ∷ (any_of (leb 1000000000) fs || any_of (λ w. not (finite w)) ws, 17)
+    ∷ (any_of (leb max_frames) fs || any_of (λ w. not (finite w)) ws, 17)
     ∷ (any_of (λ f. ltb f floor) fs, 30)
     ∷ (any_of (λ f. ltb (f - o.left_context) mark) fs, 18)
     ∷ (ltb (waiting_room z) (n + length fs), 19) ∷ []
 
 -- a new window w: where it is above the longest, all rows from 0 on have to be held still
 unfoldable pub window_tests : ℕ → ℕ → ℕ → List (Bool × ℕ)
-window_tests longest mark w = (not (within 1 1000 w), 31) ∷ (ltb longest w && ltb longest (mark + 1), 32) ∷ []
+window_tests longest mark w = (not (within 1 max_window w), 31) ∷ (ltb longest w && ltb longest (mark + 1), 32) ∷ []
 
 -- an output of n numbers
 unfoldable pub fetch_tests : Dimensions → ℕ → ℕ → Bool → ℕ → ℕ → ℕ → List (Bool × ℕ)

@@ -10,11 +10,19 @@ use Rattle.definition.specs.declared.Dimensions.{Dimensions}
 abbrev pub within : ℕ → ℕ → ℕ → Bool
 within low high n = leb low n && leb n high
 
+-- the longest window
+abbrev pub max_window : ℕ
+max_window = 1000
+
+-- frames of a stream; a frame's number is below it
+abbrev pub max_frames : ℕ
+max_frames = 1000000000
+
 -- where this fails: refusal 1
 unfoldable pub options_in_range : IvectorOptions → Bool
 options_in_range o = all_true (within 0 8 o.left_context
     ∷ within 0 8 o.right_context
-    ∷ within 1 1000 o.cmn_window
+    ∷ within 1 max_window o.cmn_window
     ∷ within 1 10000 o.global_frames
     ∷ within 1 32 o.num_gselect
     ∷ within 0 200 o.num_cg_iters
@@ -34,6 +42,10 @@ max_ivector = 128
 
 abbrev pub max_columns : ℕ
 max_columns = 1089
+
+-- of what a file holds and no model keeps: numbers of a vector, rows and columns of a matrix
+abbrev pub max_skipped : ℕ
+max_skipped = 1000000
 
 -- where this fails: refusal 4
 unfoldable pub dims_in_range : Dimensions → Bool

@@ -12,7 +12,7 @@ use Rattle.definition.specs.declared.InputFrame.{InputFrame}
 use Rattle.definition.specs.declared.DecoderFrame.{DecoderFrame}
 use Rattle.definition.specs.declared.SilenceWeighting.{SilenceWeighting}
 use Rattle.definition.specs.declared.SilenceAnswer.{SilenceAnswer}
-use Rattle.definition.specs.Options.{within}
+use Rattle.definition.specs.Options.{within, max_frames}
 use Rattle.definition.specs.Changes.{Change}
 
 -- a number of input frames, and of decoder frames
@@ -166,7 +166,7 @@ asked_table s ready first t = if leb ready.0 first.0 then t else weighted s.sile
 -- f, w: the lengths of the answer's two lists
 unfoldable pub delta_tests : SilenceWeighting → InputFrame → InputFrame → Table → ℕ → ℕ → List (Bool × ℕ)
 delta_tests s ready first t f w =
-    (ltb 1000000000 ready.0 || ltb 1000000000 first.0 || ltb (places s) (wanted s ready first).0, 23)
+    (ltb max_frames ready.0 || ltb max_frames first.0 || ltb (places s) (wanted s ready first).0, 23)
     ∷ (ltb (min f w) (length (asked s ready first t)), 24) ∷ []
 
 -- what a call does: its refusal number, and where that is 0 the table that it leaves and the changes that it gives

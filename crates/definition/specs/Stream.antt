@@ -11,7 +11,7 @@ use Rattle.definition.specs.declared.RingLengths.{RingLengths}
 use Rattle.definition.specs.declared.EstimateLengths.{EstimateLengths}
 use Rattle.definition.specs.declared.RoomLengths.{RoomLengths}
 use Rattle.definition.specs.declared.IvectorStream.{IvectorStream}
-use Rattle.definition.specs.Options.{options_in_range, dims_in_range, dims_agree}
+use Rattle.definition.specs.Options.{max_window, max_frames, options_in_range, dims_in_range, dims_agree}
 use Rattle.definition.specs.Kaldi.{triangle}
 use Rattle.definition.specs.Model.{table_lengths, tables_fit}
 use Rattle.definition.specs.Machine.{frames_held, rows_held, waiting_room}
@@ -77,19 +77,19 @@ breaks s waiting =
     let held = take s.waiting waiting in
     not (info_sound s.info)
     ∷ not (rooms_fit d s.lengths)
-    ∷ ltb 1000000000 s.accepted
+    ∷ ltb max_frames s.accepted
     ∷ ltb s.accepted s.num_frames_stats
     ∷ ltb (s.num_frames_stats - o.left_context) s.mark
     ∷ ltb (s.floor - o.left_context) s.mark
-    ∷ (eqb s.window 0 || ltb s.longest s.window || ltb 1000 s.longest)
+    ∷ (eqb s.window 0 || ltb s.longest s.window || ltb max_window s.longest)
     ∷ ltb (rows_in s.lengths.rings.frames d.base_dim) (frames_held s.accepted s.mark)
     ∷ ltb (rows_in s.lengths.rings.rows d.base_dim) (rows_held s.longest s.accepted s.mark)
     ∷ ltb (waiting_room s.lengths.rings) s.waiting
     ∷ not (rising 0 held)
     ∷ any_of (λ f. ltb (f - o.left_context) s.mark) held ∷ []
 
-unfoldable pub is_broken : IvectorStream → List ℕ → Bool
-is_broken s waiting = any_true (breaks s waiting)
+unfoldable pub is_foreign : IvectorStream → List ℕ → Bool
+is_foreign s waiting = any_true (breaks s waiting)
 
 -- lent lengths are those of the record
 unfoldable pub same_rings : RingLengths → RingLengths → Bool

@@ -21,7 +21,7 @@ use Rattle.definition.specs.declared.RoomLengths.{RoomLengths}
 use Rattle.definition.specs.declared.IvectorStream.{IvectorStream}
 use Rattle.definition.specs.Machine.{frames_held, rows_held, waiting_room}
 use Rattle.definition.specs.Model.{table_sizes, table_lengths, tables_fit}
-use Rattle.definition.specs.Stream.{info_sound, stream_scratch, estimate_lengths, estimate_sizes, rooms_fit, rising, breaks, is_broken}
+use Rattle.definition.specs.Stream.{info_sound, stream_scratch, estimate_lengths, estimate_sizes, rooms_fit, rising, breaks, is_foreign}
 use Rattle.limits.specs.Inner.{waiting_broken, counts_broken}
 use Rattle.limits.proofs.Listed.{FirstAre, all-last, any_rest, pair_fail, pair_last}
 
@@ -83,8 +83,8 @@ pub record Whole (s : IvectorStream) (waiting : List ℕ) : Type 0 where
   pub in_order : rising 0 (take s.waiting waiting) ≡ true
   pub held_back : any_of (λ f. ltb (f - s.info.opts.left_context) s.mark) (take s.waiting waiting) ≡ false
 
-pub whole : (s : IvectorStream) (waiting : List ℕ) → is_broken s waiting ≡ false → Whole s waiting
-unfolding is_broken breaks frames_held rows_held
+pub whole : (s : IvectorStream) (waiting : List ℕ) → is_foreign s waiting ≡ false → Whole s waiting
+unfolding is_foreign breaks frames_held rows_held
 whole s waiting e =
     let h = none_of (λ t. t) (breaks s waiting) e in
     let windows = or_fails (eqb s.window 0 || ltb s.longest s.window) (ltb 1000 s.longest) h.1.1.1.1.1.1.0 in

@@ -9,7 +9,7 @@ ghost use Rattle.floats.specs.Operators.{zero₃₂, one₃₂};
 ghost use Rattle.definition.specs.Options.{within, options_in_range, dims_in_range, dims_agree};
 ghost use Rattle.definition.specs.Model.{tables_fit, load_scratch};
 ghost use Rattle.definition.specs.Machine.{frames_held, rows_held, frames_ready};
-ghost use Rattle.definition.specs.Stream.{record_sound, info_sound, stream_scratch, rooms_fit, is_broken, same_tables, same_rings, same_rooms, estimate_lengths};
+ghost use Rattle.definition.specs.Stream.{record_sound, info_sound, stream_scratch, rooms_fit, is_foreign, same_tables, same_rings, same_rooms, estimate_lengths};
 ghost use Rattle.loops.specs.Lists.{pairwise};
 ghost use Rattle.limits.specs.Inner.{waiting_broken, counts_broken};
 
@@ -287,9 +287,9 @@ fn counts_broken(s: &IvectorStream, waiting: &[usize]) -> bool
 
 // Refusal 10, where true: no call made this record, whose waiting frames lie in `waiting`.
 #[inline(always)]
-#[tactic(auto, unfolding(definition::specs::Stream::is_broken, definition::specs::Stream::breaks, loops::specs::Lists::any_of, crate::specs::Inner::counts_broken))]
-pub fn is_broken(s: &IvectorStream, waiting: &[usize]) -> bool
-    ensures { result ≡ is_broken s.now waiting.now }
+#[tactic(auto, unfolding(definition::specs::Stream::is_foreign, definition::specs::Stream::breaks, loops::specs::Lists::any_of, crate::specs::Inner::counts_broken))]
+pub fn is_foreign(s: &IvectorStream, waiting: &[usize]) -> bool
+    ensures { result ≡ is_foreign s.now waiting.now }
 {
     if !info_sound(s.info) {
         return true;

@@ -28,7 +28,7 @@ use Rattle.definition.specs.Machine.{Call, push, finish, change, forget, set_win
 use Rattle.definition.proofs.Floor.{first-not, lowest_under}
 use Rattle.program.specs.Rooms.{frames_of, ring_lengths_of, room_lengths_of}
 use Rattle.program.specs.Session.{Program, program, program_after}
-use Rattle.program.specs.Played.{Played, ended, answered, took}
+use Rattle.program.specs.Played.{Played, ended, played_answers, took}
 use Rattle.program.specs.Habit.{EnoughRows, EnoughFrames, Never, window_of, RowsEnough, HeldAfterForget, Ledger, ledger, entered, may_come, in_habit, FramesEnough}
 use Rattle.program.proofs.Waiting.{inserts_none, lowest_at}
 use Rattle.program.proofs.Sound.{stream_of, held_are}
@@ -269,14 +269,14 @@ module _ (i : IvectorInfo) (t : Tables) (s : Played i t) where
   abbrev M' : Model
   M' = model_in i t
 
-  answers_are : answered i t s ≡ answers M' (ring_lengths_of s.lent.rings) s.calls
+  answers_are : played_answers i t s ≡ answers M' (ring_lengths_of s.lent.rings) s.calls
   answers_are = (keeps.keeps i t s.lent s.scratch s.made s.made_is s.calls).1
 
-  rows_there : (u : ℕ) → i.opts.cmn_window ≤ u → all_of (λ c. leb (window_of c) u) s.calls ≡ true → EnoughRows i s.lent u → Never 15 (answered i t s)
+  rows_there : (u : ℕ) → i.opts.cmn_window ≤ u → all_of (λ c. leb (window_of c) u) s.calls ≡ true → EnoughRows i s.lent u → Never 15 (played_answers i t s)
   rows_there u h p w = subst (Never 15) (sym answers_are) (rows_of M' (ring_lengths_of s.lent.rings) u h w s.calls p)
 
   frames_there : (L : ℕ) → EnoughFrames i s.lent L
-      → in_habit L i.opts.right_context (ledger 0 0 0 0) s.calls (answered i t s) ≡ true → Never 14 (answered i t s)
+      → in_habit L i.opts.right_context (ledger 0 0 0 0) s.calls (played_answers i t s) ≡ true → Never 14 (played_answers i t s)
   frames_there L w p =
       subst (Never 14) (sym answers_are)
       (frames-of M' (ring_lengths_of s.lent.rings) L w s.calls (ap (in_habit L i.opts.right_context (ledger 0 0 0 0) s.calls) (sym answers_are) ∙ p))

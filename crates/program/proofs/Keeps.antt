@@ -19,7 +19,7 @@ use Rattle.definition.proofs.Floor.{never-18 as machine-never-18}
 use Rattle.program.specs.Rooms.{Rooms, ring_lengths_of, room_lengths_of}
 use Rattle.program.specs.Calls.{answer_of, call_of, fresh_stream, new_answer, fresh_rooms}
 use Rattle.program.specs.Session.{Program, program, program_after, program_answers}
-use Rattle.program.specs.Keeping.{Keeps, Never18, frames_taken, Held, Holds, HeldAfter}
+use Rattle.program.specs.Keeping.{Keeps, Never18, frames_taken, Held, RingsHold, HeldAfter}
 use Rattle.program.proofs.Sound.{stream_of, Made, Inv}
 use Rattle.program.proofs.Moves.{keeps_from, inv_after, history_is}
 use Rattle.program.proofs.Fresh.{made-stream, fresh_made, fresh_inv}
@@ -83,7 +83,7 @@ module _ (i : IvectorInfo) (t : Tables) (z : Rooms) (n : ℕ) (c : StreamCall) (
           longest_is = ap (λ (q : Program). q.stream.longest) h.1;
         }
 
-    holds : Holds i.dims.base_dim (program_after t n start cs) took
+    holds : RingsHold i.dims.base_dim (program_after t n start cs) took
     unfolding all_frames
     holds = let h = ended_is in rw (h.1, ← took_is) (record { frame_is = h.2.agrees.frame_is; row_is = h.2.agrees.prefix_is })
 

@@ -14,7 +14,7 @@ use Rattle.loops.proofs.Tests.{none_of}
 use Rattle.definition.specs.declared.IvectorStream.{IvectorStream}
 use Rattle.definition.specs.Model.{Tables}
 use Rattle.definition.specs.Machine.{Call, push, finish, change, forget, set_window, fetch, push_tests, change_tests, window_tests, fetch_tests}
-use Rattle.definition.specs.Stream.{breaks, is_broken}
+use Rattle.definition.specs.Stream.{breaks, is_foreign}
 use Rattle.definition.proofs.Floor.{first-either, first-not, reach-none}
 use Rattle.program.specs.Calls.{Step, push_frame, set_input_finished, update_frame_weights, forget_before, set_cmn_window, fetch_refusal, get_frame}
 use Rattle.program.specs.Session.{Program, stepped, reply, step_of, program_answers}
@@ -26,8 +26,8 @@ module _ (s : IvectorStream) where
   left = s.info.opts.left_context
 
   -- of a record that is not broken
-  mark_low : (waiting : List ℕ) → is_broken s waiting ≡ false → s.mark ≤ s.floor - left
-  unfolding is_broken breaks
+  mark_low : (waiting : List ℕ) → is_foreign s waiting ≡ false → s.mark ≤ s.floor - left
+  unfolding is_foreign breaks
   mark_low waiting e = ltb-false (s.floor - left) s.mark (none_of (λ t. t) (breaks s waiting) e).1.1.1.1.1.0
 
 pub change-never-18 : ChangeNever18

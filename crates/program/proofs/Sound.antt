@@ -17,7 +17,7 @@ use Rattle.definition.specs.declared.IvectorStream.{IvectorStream}
 use Rattle.definition.specs.declared.RoomLengths.{RoomLengths}
 use Rattle.definition.specs.Model.{Tables, table_lengths_of, model_in}
 use Rattle.definition.specs.Machine.{Call, push, finish, change, forget, set_window, fetch, Machine, accepted, all_frames, frames_held, rows_held, waiting_room, does}
-use Rattle.definition.specs.Stream.{info_sound, rooms_fit, rising, breaks, is_broken, same_tables, same_rings, same_rooms, ring_lengths, estimate_lengths}
+use Rattle.definition.specs.Stream.{info_sound, rooms_fit, rising, breaks, is_foreign, same_tables, same_rings, same_rooms, ring_lengths, estimate_lengths}
 use Rattle.definition.proofs.Agree.{Agree}
 use Rattle.definition.proofs.Lengths.{Long}
 use Rattle.program.specs.Rooms.{Rooms, ring_lengths_of, room_lengths_of, frames_in, waiting_in, frames_of, estimate_in}
@@ -91,8 +91,8 @@ module _ (i : IvectorInfo) (z : RoomLengths) (n : ℕ) where
         (le-ltb 1000 k.longest v.longest_is)
 
     -- the record is never broken
-    pub sound : is_broken s w.rings.waiting_frames ≡ false
-    unfolding is_broken breaks frames_held rows_held
+    pub sound : is_foreign s w.rings.waiting_frames ≡ false
+    unfolding is_foreign breaks frames_held rows_held
     sound =
         of_none (λ t. t) (breaks s w.rings.waiting_frames) (
           ap not made.info_is,

@@ -17,7 +17,7 @@ use Rattle.definition.specs.Solve.{prior_vector}
 use Rattle.definition.specs.Changes.{Changes, changed, reached, batch}
 use Rattle.definition.specs.Estimate.{Estimate, updated, nans_over}
 use Rattle.definition.specs.Machine.{frames_held, rows_held, frames_ready, forgotten, longest_from, push_tests, change_tests, window_tests, fetch_tests, fetched, bits_of, not_finite}
-use Rattle.definition.specs.Stream.{new_refusal, same_tables, is_broken, same_rings, same_rooms}
+use Rattle.definition.specs.Stream.{new_refusal, same_tables, is_foreign, same_rings, same_rooms}
 use Rattle.program.specs.Rooms.{Rings, rings_from, EstimateRooms, estimate_from, Rooms, rooms_from, ring_lengths_of, room_lengths_of, ring_at, frames_in, frames_of, weights_of, changes_in, estimate_in}
 
 -- ---- the record
@@ -126,7 +126,7 @@ done_on s z x = ring_call (call_of x.refusal (taken x.refusal x.stream s) 0 0) (
 
 -- 10 of every call
 abbrev pub record_tests : IvectorStream → Rings → List (Bool × ℕ)
-record_tests s z = (not (same_rings (ring_lengths_of z) s.lengths.rings), 10) ∷ (is_broken s z.waiting_frames, 10) ∷ []
+record_tests s z = (not (same_rings (ring_lengths_of z) s.lengths.rings), 10) ∷ (is_foreign s z.waiting_frames, 10) ∷ []
 
 -- a push: the new frame at its place, and the sum of all frames up to it as the next prefix row
 unfoldable pub pushed_frames : IvectorStream → List Float → List Float → List Float
@@ -199,7 +199,7 @@ fetch_refusal s t z fs f m =
     first_of
     ((not (same_tables t s.info.tables), 10)
     ∷ (not (same_rooms z s.lengths), 10)
-    ∷ (is_broken s fs, 10)
+    ∷ (is_foreign s fs, 10)
     ∷ fetch_tests s.info.dims (frames_ready s.info.opts s.input_finished s.accepted) s.num_frames_stats s.delta_weights_provided s.past_highest f m)
 
 -- whether a fetch of f brings frames in; it does so by the window in force

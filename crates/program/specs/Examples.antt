@@ -7,7 +7,7 @@ use Rattle.definition.specs.Model.{Tables, tables_from, table_lengths_of}
 use Rattle.definition.specs.Machine.{Call, push, forget, fetch, bits_of}
 use Rattle.program.specs.Rooms.{Rooms, rings_from, estimate_from, rooms_from, room_lengths_of}
 use Rattle.program.specs.Calls.{call_of, fresh_stream, new_answer}
-use Rattle.program.specs.Played.{Played, ended, answered}
+use Rattle.program.specs.Played.{Played, ended, played_answers}
 use Rattle.program.specs.Loud.{view_in}
 use Rattle.program.specs.Habit.{ledger, in_habit}
 
@@ -65,7 +65,7 @@ uttered F R e = session 1 2 F R e utterances
 
 -- the refusal numbers of the answers
 abbrev pub numbers : (F R : ℕ) → Made 1 2 F R → List ℕ
-numbers F R e = map (λ a. a.told.refusal) (answered (info 1 2) (tables 3) (uttered F R e))
+numbers F R e = map (λ a. a.told.refusal) (played_answers (info 1 2) (tables 3) (uttered F R e))
 
 -- With F = 2 + 1 + 1 = 4 and R = 4 + 2 = 6 every call is taken; with a frame less a push is 14, with a row less 15.
 pub record Tight : Type 0 where
@@ -73,12 +73,12 @@ pub record Tight : Type 0 where
   pub made_frame_less : Made 1 2 3 6
   pub made_row_less : Made 1 2 4 5
   -- utterances of 2 frames
-  pub habit : in_habit 2 1 (ledger 0 0 0 0) utterances (answered (info 1 2) (tables 3) (uttered 4 6 made)) ≡ true
+  pub habit : in_habit 2 1 (ledger 0 0 0 0) utterances (played_answers (info 1 2) (tables 3) (uttered 4 6 made)) ≡ true
   pub enough : numbers 4 6 made ≡ replicate 10 0
   pub frame_less : numbers 3 6 made_frame_less ≡ 0 ∷ 0 ∷ 0 ∷ 0 ∷ 0 ∷ 14 ∷ 21 ∷ 0 ∷ 14 ∷ 14 ∷ []
   pub row_less : numbers 4 5 made_row_less ≡ 0 ∷ 0 ∷ 0 ∷ 0 ∷ 0 ∷ 0 ∷ 0 ∷ 0 ∷ 0 ∷ 15 ∷ []
   -- the pushes refused 14 are in the habit, too, up to the first of them
-  pub habit_less : in_habit 2 1 (ledger 0 0 0 0) utterances (answered (info 1 2) (tables 3) (uttered 3 6 made_frame_less)) ≡ true
+  pub habit_less : in_habit 2 1 (ledger 0 0 0 0) utterances (played_answers (info 1 2) (tables 3) (uttered 3 6 made_frame_less)) ≡ true
 
 -- ---- no context, window 600, `min_energy` 50: a frame of c0 60, one of x, and then other calls
 

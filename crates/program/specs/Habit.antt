@@ -8,10 +8,11 @@ use Rattle.loops.specs.Refusal.{taken}
 use Rattle.loops.specs.Ring.{rows_in}
 use Rattle.definition.specs.declared.IvectorInfo.{IvectorInfo}
 use Rattle.definition.specs.Model.{Tables}
+use Rattle.definition.specs.Options.{max_frames}
 use Rattle.definition.specs.Machine.{Call, push, finish, change, forget, set_window, fetch, Answer, frames_held}
 use Rattle.program.specs.Rooms.{Rooms}
 use Rattle.program.specs.Session.{program_after}
-use Rattle.program.specs.Played.{Played, ended, answered, took}
+use Rattle.program.specs.Played.{Played, ended, played_answers, took}
 
 -- F and R
 abbrev pub frame_room : IvectorInfo → Rooms → ℕ
@@ -49,7 +50,7 @@ RowsEnough =
     → i.opts.cmn_window ≤ w
     → all_of (λ c. leb (window_of c) w) s.calls ≡ true
     → EnoughRows i s.lent w
-    → Never 15 (answered i t s)
+    → Never 15 (played_answers i t s)
 
 -- ---- a forget
 
@@ -105,8 +106,8 @@ abbrev pub FramesEnough : Type 0
 FramesEnough =
     (i : IvectorInfo) (t : Tables) (s : Played i t) (L : ℕ)
     → EnoughFrames i s.lent L
-    → in_habit L i.opts.right_context (ledger 0 0 0 0) s.calls (answered i t s) ≡ true
-    → Never 14 (answered i t s)
+    → in_habit L i.opts.right_context (ledger 0 0 0 0) s.calls (played_answers i t s) ≡ true
+    → Never 14 (played_answers i t s)
 
 -- ---- utterance after utterance
 
@@ -122,7 +123,7 @@ hears right n m (xs ∷ us) =
 abbrev pub proper : ℕ → List Float → Bool
 proper dim x = eqb (length x) dim && not (any_of (λ v. not (finite v)) x)
 
--- in rooms of these lengths every frame of every utterance is taken, whatever their number, up to 10^9 frames
+-- in rooms of these lengths every frame of every utterance is taken, whatever their number, up to `max_frames` frames
 abbrev pub AllTaken : Type 0
 AllTaken =
     (i : IvectorInfo) (t : Tables) (s : Played i t) (L : ℕ) (us : List (List (List Float)))
@@ -130,5 +131,5 @@ AllTaken =
     → EnoughFrames i s.lent L
     → EnoughRows i s.lent i.opts.cmn_window
     → all_of (λ xs. leb (length xs) L && all_of (proper i.dims.base_dim) xs) us ≡ true
-    → length (flatten us) ≤ 1000000000
+    → length (flatten us) ≤ max_frames
     → took i t s ≡ flatten us

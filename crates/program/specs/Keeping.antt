@@ -64,7 +64,7 @@ pub record Held (p : Program) (k : Machine) (took : List (List Float)) : Type 0 
 
 -- the frame ring holds the frames taken, from the mark on, and the row ring their prefix sums, from mark + 1 - the longest window on (0 where that is
 -- below 0): so all that a fetch can still read is what was pushed
-pub record Holds (dim : ℕ) (p : Program) (took : List (List Float)) : Type 0 where
+pub record RingsHold (dim : ℕ) (p : Program) (took : List (List Float)) : Type 0 where
   pub frame_is : (u d : ℕ) → p.stream.mark ≤ u → u < length took → d < dim → ring_at dim p.rooms.rings.frames u d ≡ at (get_or took u []) d
   pub row_is : (u d : ℕ) → p.stream.mark + 1 - p.stream.longest ≤ u → u ≤ length took → d < dim
       → ring_at dim p.rooms.rings.rows u d ≡ sum₆₄ zero₆₄ u (λ v. at (get_or took v []) d)
@@ -79,4 +79,4 @@ HeldAfter =
     let p = program c.stream (fresh_rooms i z) in
     let took = frames_taken cs (program_answers t n p cs) in
     Held (program_after t n p cs) (machine_after M (ring_lengths_of z.rings) (fresh M) cs) took
-    × Holds i.dims.base_dim (program_after t n p cs) took
+    × RingsHold i.dims.base_dim (program_after t n p cs) took

@@ -26,8 +26,8 @@ module _ (i : IvectorInfo) (t : Tables) where
   abbrev pub ended : Played → Program
   ended s = program_after t s.scratch (begun s) s.calls
 
-  abbrev pub answered : Played → List Answer
-  answered s = program_answers t s.scratch (begun s) s.calls
+  abbrev pub played_answers : Played → List Answer
+  played_answers s = program_answers t s.scratch (begun s) s.calls
 
   abbrev pub took : Played → List (List Float)
-  took s = frames_taken s.calls (answered s)
+  took s = frames_taken s.calls (played_answers s)

@@ -18,7 +18,7 @@ use Rattle.definition.specs.declared.TableLengths.{TableLengths}
 use Rattle.definition.specs.Options.{options_in_range, dims_agree}
 use Rattle.definition.specs.Model.{in_force, table_lengths, tables_fit}
 use Rattle.definition.specs.Machine.{frames_ready, fetch_tests}
-use Rattle.definition.specs.Stream.{record_sound, info_sound, rooms_fit, is_broken, same_tables, same_rings, same_rooms, ring_lengths, estimate_lengths}
+use Rattle.definition.specs.Stream.{record_sound, info_sound, rooms_fit, is_foreign, same_tables, same_rings, same_rooms, ring_lengths, estimate_lengths}
 use Rattle.definition.proofs.Ranges.{info_sound_lem}
 use Rattle.program.specs.Rooms.{Rooms, room_lengths_of}
 use Rattle.program.specs.Calls.{fetch_refusal}
@@ -72,7 +72,7 @@ tables_in_force i w t = refl
 module _ (s : IvectorStream) (t : TableLengths) (z : RoomLengths) (fs : List ℕ) (f n : ℕ) where
   abbrev pub fetch_list : List (Bool × ℕ)
   fetch_list =
-      (not (same_tables t s.info.tables), 10) ∷ (not (same_rooms z s.lengths), 10) ∷ (is_broken s fs, 10)
+      (not (same_tables t s.info.tables), 10) ∷ (not (same_rooms z s.lengths), 10) ∷ (is_foreign s fs, 10)
       ∷ (not (eqb n s.info.dims.ivector_dim), 20)
       ∷ (leb (frames_ready s.info.opts s.input_finished s.accepted) f, 21)
       ∷ (leb s.num_frames_stats f && s.delta_weights_provided && leb s.past_highest f, 22) ∷ []
@@ -84,7 +84,7 @@ module _ (s : IvectorStream) (t : TableLengths) (w : Rooms) (scratch f n : ℕ) 
   abbrev fs : List ℕ
   fs = w.rings.waiting_frames
 
-  rooms_passed : not (same_rooms z s.lengths) ≡ false → is_broken s fs ≡ false → Passed s w.rings
+  rooms_passed : not (same_rooms z s.lengths) ≡ false → is_foreign s fs ≡ false → Passed s w.rings
   unfolding same_rooms
   rooms_passed e b = tests_passed s w.rings (ap not (and_holds (same_rings z.rings s.lengths.rings) _ (not-false _ e)).0) b
 
@@ -131,4 +131,4 @@ module _ (s : IvectorStream) (t : TableLengths) (w : Rooms) (scratch f n : ℕ) 
   fetch_few h =
       by-test (not (same_tables t s.info.tables)) (λ a. absurd (h (first-here _ _ a)))
       (λ a. by-test (not (same_rooms z s.lengths)) (λ b. absurd (h (first_past _ _ a ∙ first-here _ _ b)))
-      (λ b. by-test (is_broken s fs) (λ c. absurd (h (first_past _ _ a ∙ first_past _ _ b ∙ first-here _ _ c))) (λ c. few s w.rings (rooms_passed b c))))
+      (λ b. by-test (is_foreign s fs) (λ c. absurd (h (first_past _ _ a ∙ first_past _ _ b ∙ first-here _ _ c))) (λ c. few s w.rings (rooms_passed b c))))

@@ -16,7 +16,7 @@ use Rattle.std.specs.Prelude.{Result, Ok}
 use Rattle.definition.specs.declared.refusal.Refusal.{Refusal}
 use Rattle.definition.specs.Number.{number_of, refused_by}
 use Rattle.definition.specs.declared.IvectorStream.{IvectorStream}
-use Rattle.definition.specs.Stream.{is_broken, same_rings, ring_lengths}
+use Rattle.definition.specs.Stream.{is_foreign, same_rings, ring_lengths}
 use Rattle.definition.proofs.Ranges.{DimRanges, dim-ranges, info_sound_lem, fitting}
 use Rattle.limits.proofs.Records.{Whole, whole}
 use Rattle.program.specs.Rooms.{Rings, ring_lengths_of}
@@ -41,7 +41,7 @@ module _ (s : IvectorStream) (z : Rings) where
     pub waiting_frames_are : length z.waiting_frames ≡ s.lengths.rings.waiting_frames
     pub waiting_weights_are : length z.waiting_weights ≡ s.lengths.rings.waiting_weights
 
-  pub tests_passed : not (same_rings (ring_lengths_of z) s.lengths.rings) ≡ false → is_broken s z.waiting_frames ≡ false → Passed
+  pub tests_passed : not (same_rings (ring_lengths_of z) s.lengths.rings) ≡ false → is_foreign s z.waiting_frames ≡ false → Passed
   unfolding same_rings
   tests_passed e b =
       let h = each_pair eqb (ring_lengths (ring_lengths_of z)) (ring_lengths s.lengths.rings) (not-false _ e) in
@@ -63,7 +63,7 @@ module _ (s : IvectorStream) (z : Rings) where
   other_passed : (us : List (Bool × ℕ)) {r : ℕ} → r ≡ first_of (record_tests s z ++ us) → (r ≡ 10 → ⊥) → Passed
   other_passed us e h =
       by-test (not (same_rings (ring_lengths_of z) s.lengths.rings)) (λ a. absurd (h (e ∙ first-here _ _ a)))
-      (λ a. by-test (is_broken s z.waiting_frames) (λ b. absurd (h (e ∙ first_past _ _ a ∙ first-here _ _ b))) (λ b. tests_passed a b))
+      (λ a. by-test (is_foreign s z.waiting_frames) (λ b. absurd (h (e ∙ first_past _ _ a ∙ first-here _ _ b))) (λ b. tests_passed a b))
 
   -- the counts of an answer
   pub few : Passed → (s.accepted ≤ 1000000000) × (s.mark ≤ 1000000000)

@@ -45,7 +45,7 @@ fn fetch_refusal(
     need(tables == s.info.tables, Refusal::ForeignRecord)?;
     need(lengths == s.lengths, Refusal::ForeignRecord)?;
     need(
-        !limits::is_broken(s, waiting_frames),
+        !limits::is_foreign(s, waiting_frames),
         Refusal::ForeignRecord,
     )?;
     need(n == s.info.dims.ivector_dim, Refusal::OutputLength)?;

@@ -40,7 +40,7 @@ pub fn plain_refusal(
     };
     need(lent == s.lengths.rings, Refusal::ForeignRecord)?;
     need(
-        !limits::is_broken(s, waiting.frames),
+        !limits::is_foreign(s, waiting.frames),
         Refusal::ForeignRecord,
     )
 }

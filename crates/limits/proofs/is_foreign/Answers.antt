@@ -3,7 +3,7 @@ use mathlib.Core.Path.{ap}
 use mathlib.Core.Bool.{not}
 use Rattle.definition.proofs.Ranges.{info_sound_lem}
 use Rattle.limits.proofs.Listed.{holds}
-use Rattle.limits.proofs.is_broken.Goals as goal
+use Rattle.limits.proofs.is_foreign.Goals as goal
 
 pub rooms_fit-requires : goal.rooms_fit-requires
 rooms_fit-requires c = (info_sound_lem _ (holds c.info_sound.ensures (ap not c.if-not-info_sound.false))).0.dims_are
