@@ -1,2 +1,2 @@
--- What contracts of inner functions say; no reader needs it.
+-- Words of inner contracts; no promise rests on them.
 pub mod Inner

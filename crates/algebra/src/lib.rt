@@ -1,4 +1,4 @@
-// Arithmetic on rows and packed symmetric matrices, and the solver of the estimate.
+//! Arithmetic on rows and packed symmetric matrices, and the solver of the estimate.
 #![tactic(auto)]
 
 pub mod basics;

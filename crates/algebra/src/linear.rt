@@ -1,7 +1,8 @@
-// The solver behind `get_ivector`: A x = b by the conjugate gradient, or by Cholesky's factor where that fails. A is packed. The vectors of a turn are
-// slices, each as long as A has rows by a clause of its own, and no struct of rooms: a call that reads one field behind a reference while it writes another,
-// as `times(p, ap)`, is not covered (tried). So are the rooms of a solve, of which too one is read while another is written. By index go the loops over rows,
-// columns and factors of A: each reads places of the slice that it writes, or a column, which is no slice; so a part before place i is cut out by hand.
+//! The solver behind `get_ivector`: A x = b by the conjugate gradient, or by Cholesky's factor where
+//! that fails. A is packed, of n rows; x, b, r (the residual A x - b), p (the direction) and ap (A p)
+//! have n numbers each, and are slices of their own: one is read while another is written (limit:
+//! alike). The loops over rows, columns and factors of A go by index: each reads places of the slice
+//! that it writes, or a column, which is no slice.
 
 ghost use Rattle.std.specs.Prelude.{◌≡◌, List, ◌+◌, ◌*◌, ◌<◌, ◌≤◌, min, ltb, Float, length, if◌then◌else◌};
 ghost use Rattle.std.specs.Float.Ieee.{neg};
@@ -23,8 +24,8 @@ fn less_products(s: f64, x: &[f64], y: &[f64]) -> f64
     x.iter().zip(y).fold(s, |s, (x, y)| s - x * y)
 }
 
-// The lower factor L of A = L Lᵗ, by rows of n, or false at the first pivot that is at most 0. A bool is as plain as an Option here: L lies in the room.
-// The labelled loops, left from inside, are the form that the scope names; a `return` would do as well.
+// The lower factor L of A = L Lᵗ, by rows of n, or false at the first pivot that is at most 0. The
+// labelled loops, left from inside, are the form that the scope names.
 fn factor(a: Symmetric<'_>, l: &mut [f64]) -> bool
     requires few { a.n ≤ 128 }
     requires room { length l.old ≡ a.n * a.n }
@@ -103,7 +104,8 @@ impl Square<'_> {
     fn times(self, x: &[f64], out: &mut [f64])
         requires x_long { length x.now ≡ self.n }
         requires out_long { length out.old ≡ self.n }
-        ensures { (a : List Float) → self.entry.cells.now ≡ square_of self.entry.n a → out.new ≡ sp_mat_vec a self.entry.n x.now }
+        ensures { (a : List Float) → self.entry.cells.now ≡ square_of self.entry.n a
+            → out.new ≡ sp_mat_vec a self.entry.n x.now }
     {
         weighted_rows(self.cells, self.n, x, out);
     }
@@ -117,7 +119,7 @@ struct System<'a, 'b> {
     ghost b_long: { square.n ≤ length b.now },
 }
 
-// A x = b with L and y in lent rooms. False, and x as it was, where A has no factor.
+/// A x = b with L and y in lent rooms. False, and x as it was, where A has no factor.
 pub fn cholesky_solve(
     a: Symmetric<'_>,
     b: &[f64],
@@ -130,7 +132,8 @@ pub fn cholesky_solve(
     requires x_long { length x.old ≡ a.n }
     requires l_long { length l.old ≡ a.n * a.n }
     requires y_long { length y.old ≡ a.n }
-    ensures solved { x.new ≡ solved_or x.old a.entry.n b.now (factor_of a.entry.cells.now a.entry.n) }
+    ensures solved { x.new ≡ solved_or x.old a.entry.n b.now
+        (factor_of a.entry.cells.now a.entry.n) }
     ensures has_factor { result ≡ is_on (factor_of a.entry.cells.now a.entry.n) }
 {
     if factor(a, l) {
@@ -142,7 +145,7 @@ pub fn cholesky_solve(
     false
 }
 
-// -p. By index, here and below: of what a loop over `iter_mut().zip` writes, an invariant names no element (tried).
+// -p. By index, here and below (limit: zip).
 #[tactic(auto, using(loops::proofs::Fill::fills))]
 fn negated(p: &[f64], r: &mut [f64])
     requires { length r.old ≡ length p.now }
@@ -155,7 +158,7 @@ fn negated(p: &[f64], r: &mut [f64])
 
 // beta p - r
 #[tactic(auto, using(loops::proofs::Loop::loops))]
-fn turned(beta: f64, r: &[f64], p: &mut [f64])
+fn next_direction(beta: f64, r: &[f64], p: &mut [f64])
     requires { length r.now ≡ length p.old }
     ensures { p.new ≡ build (length p.old) (λ i. beta *₆₄ at p.old i -₆₄ at r.now i) }
 {
@@ -164,11 +167,14 @@ fn turned(beta: f64, r: &[f64], p: &mut [f64])
     }
 }
 
-// The scalars of `linear_cgd`: the residual squared, now and when it was last recomputed, and the turns taken.
+/// The scalars of `linear_cgd`.
 #[derive(Clone, Copy)]
 pub struct CgdState {
+    /// The residual squared.
     pub r_cur: f64,
+    /// The residual squared when it was last recomputed.
     pub r_recompute: f64,
+    /// The turns taken.
     pub k: usize,
 }
 
@@ -233,7 +239,8 @@ impl CgdState {
     }
 }
 
-// The first residual, the first direction against it, and the scalars. A is laid out square, here and in the turns; ap is room for A x.
+// The first residual, the first direction against it, and the scalars. A is laid out square, here
+// and in the turns; ap is room for A x.
 fn cgd_begin(
     system: System<'_, '_>,
     x: &[f64],
@@ -245,7 +252,9 @@ fn cgd_begin(
     requires r_long { length r.old ≡ system.square.n }
     requires p_long { length p.old ≡ system.square.n }
     requires ap_long { length ap.old ≡ system.square.n }
-    ensures begun { (a : List Float) → system.entry.square.cells.now ≡ square_of system.entry.square.n a → cgd_of x.now r.new p.new result ≡ begun a system.entry.square.n system.entry.b.now x.now }
+    ensures begun { (a : List Float)
+        → system.entry.square.cells.now ≡ square_of system.entry.square.n a
+        → cgd_of x.now r.new p.new result ≡ begun a system.entry.square.n system.entry.b.now x.now }
     ensures no_turn { result.k ≡ 0 }
 {
     system.square.times(x, ap);
@@ -265,8 +274,12 @@ fn recompute(
     requires x_long { length x.now ≡ system.square.n }
     requires r_long { length r.old ≡ system.square.n }
     requires ap_long { length ap.old ≡ system.square.n }
-    ensures residual { (a : List Float) → system.entry.square.cells.now ≡ square_of system.entry.square.n a → r.new ≡ (if is_far s then residual a system.entry.square.n system.entry.b.now x.now else r.old) }
-    ensures scalars { result ≡ (if is_far s then recomputed_of s (dot_of system.entry.square.n r.new r.new) else s) }
+    ensures residual { (a : List Float)
+        → system.entry.square.cells.now ≡ square_of system.entry.square.n a
+        → r.new ≡ (if is_far s
+        then residual a system.entry.square.n system.entry.b.now x.now else r.old) }
+    ensures scalars { result ≡ (if is_far s
+        then recomputed_of s (dot_of system.entry.square.n r.new r.new) else s) }
 {
     if s.is_far() {
         system.square.times(x, ap);
@@ -291,7 +304,8 @@ fn cgd_turn(
     requires p_long { length p.now ≡ system.square.n }
     requires ap_long { length ap.old ≡ system.square.n }
     ensures turn { (a : List Float) → system.entry.square.cells.now ≡ square_of system.entry.square.n a
-        → turn_end system.entry.square.n p.now s x.new r.new result ≡ turn a system.entry.square.n system.entry.b.now (cgd_of x.old r.old p.now s) }
+        → turn_end system.entry.square.n p.now s x.new r.new result
+        ≡ turn a system.entry.square.n system.entry.b.now (cgd_of x.old r.old p.now s) }
     ensures counted { result.k ≡ s.k + 1 }
 {
     system.square.times(p, ap);
@@ -319,17 +333,19 @@ fn cgd_turns(
     requires p_long { length p.old ≡ system.square.n }
     requires ap_long { length ap.old ≡ system.square.n }
     ensures { (a : List Float) → system.entry.square.cells.now ≡ square_of system.entry.square.n a
-        → cgd_of x.new r.new p.new result ≡ final (leave (min (system.entry.square.n + 5) max_iters) (λ k. turn a system.entry.square.n system.entry.b.now) (cgd_of x.old r.old p.old s)) }
+        → cgd_of x.new r.new p.new result
+        ≡ final (leave (min (system.entry.square.n + 5) max_iters)
+        (λ k. turn a system.entry.square.n system.entry.b.now) (cgd_of x.old r.old p.old s)) }
 {
     let mut t = s;
-    // No `for`: the turns are counted in the scalars, whose fields end them too.
+    // No `for`: the turns are counted in the scalars, which also end them.
     while t.goes_on(system.square.n, max_iters) {
         let before = t;
         t = cgd_turn(system, x, r, p, ap, before);
         if t.is_last() {
             break;
         }
-        turned(t.r_cur / before.r_cur, r, p);
+        next_direction(t.r_cur / before.r_cur, r, p);
     }
     t
 }
@@ -356,8 +372,8 @@ fn exact_or_start(
     }
 }
 
-// A x = b from the start x, which is kept where it is the solution. Where the residual gets worse: the exact solution, or the start
-// again. The matrix laid out square, and then L, lies in scratch.
+/// A x = b from the start x, which is kept where it is the solution. Where the residual gets worse:
+/// the exact solution, or the start again. The matrix laid out square, and then L, lies in scratch.
 pub fn linear_cgd(a: Symmetric<'_>, b: &[f64], x: &mut [f64], max_iters: usize, scratch: &mut [f64])
     requires few { a.n ≤ 128 }
     requires b_long { a.n ≤ length b.now }
@@ -366,7 +382,7 @@ pub fn linear_cgd(a: Symmetric<'_>, b: &[f64], x: &mut [f64], max_iters: usize, 
     ensures { x.new ≡ linear_cgd a.entry.cells.now a.entry.n b.now x.old max_iters }
 {
     let n = a.n;
-    // Each as long as the largest vector, with no heap: the front is cut out, as of scratch and of b, which may be longer.
+    // Each as long as the longest i-vector, with no heap; the front is cut out, as of scratch and b.
     let mut start = [0.0f64; 128];
     let mut r = [0.0f64; 128];
     let mut p = [0.0f64; 128];

@@ -1,5 +1,5 @@
-// A symmetric matrix as a model has it, packed: the rows of its lower triangle one after the other. It is laid out square for its products, which
-// are sums of rows. The inner product.
+//! A symmetric matrix as a model has it, packed: the rows of its lower triangle one after the
+//! other. It is laid out square for its products, which are sums of rows. The inner product.
 
 ghost use Rattle.std.specs.Prelude.{◌≡◌, ◌+◌, ◌*◌, ◌<◌, ◌≤◌, length, min};
 ghost use Rattle.loops.specs.Lists.{build};
@@ -12,7 +12,7 @@ ghost use Rattle.algebra.specs.Inner.PackedMatrix.{table_row, square_of};
 
 use crate::basics::add_scaled;
 
-// Where element (i, j) of a packed matrix stands.
+/// Where element (i, j) of a packed matrix stands.
 pub fn packed_index(i: usize, j: usize) -> usize
     requires { (i < 65536) × (j < 65536) }
     ensures { result ≡ packed i j }
@@ -24,10 +24,11 @@ pub fn packed_index(i: usize, j: usize) -> usize
     }
 }
 
-// Column i of the matrix: before the diagonal it is row i, which begins at `start`; below, each element stands a row further on. By index there: the places lie
-// ever further apart.
+/// Column i of the matrix: before the diagonal it is row i, which begins at `start`; below, each
+/// element stands a row further on. By index there: the places lie ever further apart.
 pub fn column(a: &[f64], start: usize, i: usize, out: &mut [f64])
-    requires { (start ≡ triangle i) × (i < length out.old) × (length out.old ≤ 65536) × (triangle (length out.old) ≤ length a.now) }
+    requires { (start ≡ triangle i) × (i < length out.old) × (length out.old ≤ 65536)
+        × (triangle (length out.old) ≤ length a.now) }
     ensures { out.new ≡ build (length out.old) (λ j. at a.now (packed j i)) }
 {
     let diagonal = start + i;
@@ -39,16 +40,17 @@ pub fn column(a: &[f64], start: usize, i: usize, out: &mut [f64])
     }
 }
 
-// A packed matrix of n rows.
+/// A packed matrix of n rows.
 #[derive(Clone, Copy)]
 pub struct Symmetric<'a> {
+    /// The lower triangle, row after row; more may stand behind it.
     pub cells: &'a [f64],
     pub n: usize,
     pub ghost fits: { triangle n ≤ length cells.now },
 }
 
 impl Symmetric<'_> {
-    // The matrix laid out square, by index.
+    /// The matrix laid out square, row after row.
     pub fn lay_out(self, square: &mut [f64])
         requires few { self.n ≤ 65536 }
         requires room { length square.old ≡ self.n * self.n }
@@ -56,7 +58,7 @@ impl Symmetric<'_> {
     {
         let n = self.n;
         let mut start = 0;
-        // By index, no `chunks_exact_mut`: the matrix may have no rows, and a part of no places is refused.
+        // By index: the matrix may have no rows (limit: chunks).
         for i in 0..n {
             let from = i * n;
             let end = from + n;
@@ -66,9 +68,7 @@ impl Symmetric<'_> {
     }
 }
 
-// Four rows, each times its number, one after the other. By index: of what a loop over `iter_mut().zip` writes, an invariant names no element (tried).
-// Rows and numbers are arguments of their own, here and in `set_four`, and that each row is as long as the sums is a clause: a struct of a row and its number
-// would be made for these two functions alone, and a word for the clause would be no shorter.
+// Adds four rows, each times its number, one after the other. By index (limit: zip).
 #[tactic(auto, using(loops::proofs::Fill::fills))]
 fn add_four(
     r0: &[f64],
@@ -81,15 +81,18 @@ fn add_four(
     v3: f64,
     out: &mut [f64],
 )
-    requires { (length r0.now ≡ length out.old) × (length r1.now ≡ length out.old) × (length r2.now ≡ length out.old) × (length r3.now ≡ length out.old) }
-    ensures { out.new ≡ fill (length out.old) (λ c. at out.old c +₆₄ at r0.now c *₆₄ v0 +₆₄ at r1.now c *₆₄ v1 +₆₄ at r2.now c *₆₄ v2 +₆₄ at r3.now c *₆₄ v3) out.old }
+    requires { (length r0.now ≡ length out.old) × (length r1.now ≡ length out.old)
+        × (length r2.now ≡ length out.old) × (length r3.now ≡ length out.old) }
+    ensures { out.new ≡ fill (length out.old)
+        (λ c. at out.old c +₆₄ at r0.now c *₆₄ v0 +₆₄ at r1.now c *₆₄ v1 +₆₄ at r2.now c *₆₄ v2
+        +₆₄ at r3.now c *₆₄ v3) out.old }
 {
     for c in 0..out.len() {
         out[c] = out[c] + r0[c] * v0 + r1[c] * v1 + r2[c] * v2 + r3[c] * v3;
     }
 }
 
-// The same, from 0.0 on. Not one function with a const parameter: that was tried, and the loop's invariant cannot name the value of a const `bool`.
+// The same, from 0.0 on: what stood in the sums is not read.
 #[tactic(auto, using(loops::proofs::Fill::fills))]
 fn set_four(
     r0: &[f64],
@@ -102,15 +105,18 @@ fn set_four(
     v3: f64,
     out: &mut [f64],
 )
-    requires { (length r0.now ≡ length out.old) × (length r1.now ≡ length out.old) × (length r2.now ≡ length out.old) × (length r3.now ≡ length out.old) }
-    ensures { out.new ≡ fill (length out.old) (λ c. zero₆₄ +₆₄ at r0.now c *₆₄ v0 +₆₄ at r1.now c *₆₄ v1 +₆₄ at r2.now c *₆₄ v2 +₆₄ at r3.now c *₆₄ v3) out.old }
+    requires { (length r0.now ≡ length out.old) × (length r1.now ≡ length out.old)
+        × (length r2.now ≡ length out.old) × (length r3.now ≡ length out.old) }
+    ensures { out.new ≡ fill (length out.old)
+        (λ c. zero₆₄ +₆₄ at r0.now c *₆₄ v0 +₆₄ at r1.now c *₆₄ v1 +₆₄ at r2.now c *₆₄ v2
+        +₆₄ at r3.now c *₆₄ v3) out.old }
 {
     for c in 0..out.len() {
         out[c] = 0.0 + r0[c] * v0 + r1[c] * v1 + r2[c] * v2 + r3[c] * v3;
     }
 }
 
-// The first w numbers of row k of a table whose rows stand s apart. By index: four rows in a pass begin where the last pass ended.
+// The first w numbers of row k of a table whose rows stand s apart.
 fn row_at(table: &[f64], s: usize, w: usize, k: usize) -> &[f64]
     requires { k * s + w ≤ length table.now }
     ensures { (result.now ≡ table_row s w table.now k) × (length result.now ≡ w) }
@@ -120,13 +126,14 @@ fn row_at(table: &[f64], s: usize, w: usize, k: usize) -> &[f64]
     &table[start..end]
 }
 
-// The sums over the first four rows, or, where x has fewer numbers, over none; and over how many. Here and below s goes beside the rows, which stand s apart
-// and have no length of their own: four at a time are cut out as they come.
+// The sums over the first four rows, or, where x has fewer numbers, over none; the answer is over
+// how many. The rows stand s apart.
 fn begin_sums(rows: &[f64], s: usize, x: &[f64], out: &mut [f64]) -> usize
     requires apart { length out.old ≤ s }
     requires rows_in { length x.now * s ≤ length rows.now }
     ensures few { result ≤ length x.now }
-    ensures sums { out.new ≡ build (length out.old) (λ c. sum₆₄ zero₆₄ result (λ a. at rows.now (a * s + c) *₆₄ at x.now a)) }
+    ensures sums { out.new ≡ build (length out.old)
+        (λ c. sum₆₄ zero₆₄ result (λ a. at rows.now (a * s + c) *₆₄ at x.now a)) }
 {
     let w = out.len();
     if x.len() < 4 {
@@ -141,13 +148,14 @@ fn begin_sums(rows: &[f64], s: usize, x: &[f64], out: &mut [f64]) -> usize
     4
 }
 
-// As many numbers as the sums have of each row, where rows stand s apart, the row times its element of x, added up, four in a pass over the sums:
-// each sum is added in the order of the rows. Of a matrix that is laid out square, and of a vector, that is their product. Rows of s numbers, four at a time: s goes
-// beside them, as above.
+/// Adds up the rows, which stand s apart, each times its element of x: of each row as many numbers
+/// as there are sums. Four rows in a pass over the sums, and each sum in the order of the rows. Of a
+/// matrix that is laid out square, and of a vector, that is their product.
 pub fn weighted_rows(rows: &[f64], s: usize, x: &[f64], out: &mut [f64])
     requires apart { length out.old ≤ s }
     requires rows_in { length x.now * s ≤ length rows.now }
-    ensures { out.new ≡ build (length out.old) (λ c. sum₆₄ zero₆₄ (length x.now) (λ a. at rows.now (a * s + c) *₆₄ at x.now a)) }
+    ensures { out.new ≡ build (length out.old)
+        (λ c. sum₆₄ zero₆₄ (length x.now) (λ a. at rows.now (a * s + c) *₆₄ at x.now a)) }
 {
     let w = out.len();
     let mut k = begin_sums(rows, s, x, out);
@@ -160,14 +168,14 @@ pub fn weighted_rows(rows: &[f64], s: usize, x: &[f64], out: &mut [f64])
         add_four(r0, r1, r2, r3, x[k], x[k + 1], x[k + 2], x[k + 3], out);
         k += 4;
     }
-    // by index: those that are left, each place that of a number and of a row
+    // By index: a place is that of a number and of a row.
     for i in k..x.len() {
         let r = row_at(rows, s, w, i);
         add_scaled(x[i], r, out);
     }
 }
 
-// The inner product, of as many numbers as the shorter vector has.
+/// The inner product, of as many numbers as the shorter vector has.
 pub fn dot(a: &[f64], b: &[f64]) -> f64
     ensures { result ≡ dot_of (min (length a.now) (length b.now)) a.now b.now }
 {

@@ -78,7 +78,7 @@ pub enum Refusal {
 }
 
 impl Refusal {
-    /// The number that the C interface gives. A method, as the definition has a word for it: `usize::from` would not say which number.
+    /// The number that the C interface gives.
     pub fn number(self) -> usize
         ensures { result ≡ number_of self }
     {
@@ -86,7 +86,7 @@ impl Refusal {
     }
 }
 
-/// `Err(e)` unless the test holds. A flag is what a test gives: an `if` at each place would be no plainer.
+/// `Err(e)` unless the test holds.
 #[tactic(auto, unfolding(loops::specs::Refusal::first_of))]
 pub fn need(holds: bool, e: Refusal) -> Result<(), Refusal>
     ensures { refused_by result ≡ first_of ((not holds, number_of e) ∷ []) }

@@ -5,7 +5,6 @@ use mathlib.Core.Bool.{false≢true}
 use lib.Ieee.{Float, nan, inf, fin, is_nan, lt, below, up, down}
 use lib.Ieee.Fits.{down_pos}
 use lib.Ieee.Positive.{through}
-use Rattle.loops.proofs.Choose.{by-test}
 
 -- ---- a NaN is above nothing
 
@@ -113,7 +112,3 @@ not-lt_trans (fin s m e) (inf true) (fin u l c) n h k = absurd (true≢false h)
 not-lt_trans (fin s m e) (inf false) (fin u l c) n h k = absurd (true≢false k)
 not-lt_trans (fin s m e) (fin t l d) (inf u) n h k = k
 not-lt_trans (fin s m e) (fin t l d) (fin u i c) n h k = not-below s t u (m * up e) (l * up d) (i * up c) (down e) (down d) (down c) (down_pos e) (down_pos d) (down_pos c) h k
-
-pub lt_trans : (x y z : Float) → lt x y ≡ true → lt y z ≡ true → lt x z ≡ true
-lt_trans x y z h k =
-    by-test (lt x z) (λ t. t) (λ t. absurd (true≢false (sym h ∙ not-lt_trans y z x (lt-no_nan y z k) (lt_asym y z k) t)))

@@ -51,12 +51,6 @@ module _ (n : ℕ) where
   root_ge : (s : ℕ) → s * s ≤ n → s ≤ root
   root_ge s h = le_of_suc-le-suc (subst (λ (x : ℕ). s < x) (add-one root) (sq_lt_back s (root + 1) (lt_of_le_of_lt h (whole_root_is n).over)))
 
-  pub twice_ge : (s : ℕ) → s * s ≤ n → 2 * s ≤ twice_root n
-  twice_ge s h = subst (λ (x : ℕ). 2 * s ≤ x) (sym twice_is) (go s root extra (root_ge s h))
-    where
-      go : (s r c : ℕ) → s ≤ r → 2 * s ≤ 2 * r + c
-      go s r c h = omega arith
-
   pub twice_lt : (s : ℕ) → n < s * s → twice_root n < 2 * s
   twice_lt s h = subst (λ (x : ℕ). x < 2 * s) (sym twice_is) (go root s extra (sq_lt_back root s (lt_of_le_of_lt (whole_root_is n).under h)) (small (eqb (root * root) n)))
     where

@@ -6,7 +6,7 @@ use Rattle.floats.specs.Operators.{◌+₆₄◌, ◌*₆₄◌, ◌/₆₄◌, 
 use Rattle.floats.specs.Narrow.{narrowed}
 use Rattle.floats.specs.Ln.{chained}
 use Rattle.floats.specs.Exp.{series, squares, wide_exp, exp_of}
-use Rattle.floats.proofs.Sizes.{none_left, one_back}
+use Rattle.floats.proofs.Sizes.{one_back}
 
 -- ---- `chain`
 chained_more : (d k : ℕ) (q : Float) → chained (suc d) k q ≡ one₆₄ /₆₄ as_f64 k +₆₄ q *₆₄ chained d (k + 2) q
@@ -30,9 +30,6 @@ chain_next q h k n p l e i =
     one : (n : ℕ) → 0 < n → n ≤ 17 → suc (17 - n) ≡ 17 - (n - 1)
     one n p l = omega arith
 
-pub chain-last : (q h : Float) (n : ℕ) → n ≤ 0 → h ≡ chained (17 - n) (n * 2 + 1) q → h ≡ chained 17 1 q
-chain-last q h n z e = e ∙ ap (λ (k : ℕ). chained (17 - k) (k * 2 + 1) q) (none_left n z)
-
 -- ---- `powers`
 series_more : (d k : ℕ) (y : Float) → series (suc d) k y ≡ one₆₄ +₆₄ y /₆₄ as_f64 k *₆₄ series d (k + 1) y
 unfolding series of_bits of_int
@@ -52,9 +49,6 @@ series-next y h n k p l e i =
   where
     one : (k : ℕ) → 0 < k → k ≤ 16 → suc (16 - k) ≡ 16 - (k - 1)
     one k p l = omega arith
-
-pub series-last : (y h : Float) (k : ℕ) → k ≤ 0 → h ≡ series (16 - k) (k + 1) y → h ≡ series 16 1 y
-series-last y h k z e = e ∙ ap (λ (x : ℕ). series (16 - x) (x + 1) y) (none_left k z)
 
 -- ---- `exp`
 exp_by : (x : Float) (t : Bool) → lt x (neg (f32 0x42d0_0000)) ≡ t → cond t zero₃₂ (narrowed (squares 7 (series 16 1 (x /₆₄ f64 0x4060_0000_0000_0000)))) ≡ exp_of x

@@ -1,4 +1,4 @@
--- What inner functions answer. Not for readers: the contracts of the public functions do not name it.
+-- What inner functions answer: the contracts of the public functions do not name it.
 use Rattle.std.specs.Prelude.{◌≡◌, ℕ, ◌+◌, ◌-◌, ◌*◌, ◌/◌, ◌%◌, ◌^◌, ◌<◌, ◌≤◌, min, nat_eq, if◌then◌else◌}
 use Rattle.std.specs.Float.{Format, binary64}
 use Rattle.std.specs.Float.Ieee.{hid}

@@ -1,4 +1,4 @@
--- Floats: operators, and the functions that the Rust takes from its standard library. `Inner` is not for readers.
+-- Floats: operators, and the functions that the Rust takes from its standard library. `Inner` has words of inner contracts, on which no promise rests.
 pub mod Operators
 pub mod Narrow
 pub mod Sqrt

@@ -1,4 +1,5 @@
-// Functions on floats: narrowing, root, logarithm, exponential, decimals, Rust's max, min, abs and is_finite, and what the two widths share.
+//! Functions on floats: narrowing, root, logarithm, exponential, decimals, Rust's max, min, abs and
+//! is_finite, and what the two widths share.
 #![tactic(auto)]
 
 ghost use Rattle.std.specs.Prelude.{◌≡◌, ◌+◌, ◌*◌, ◌^◌, ◌<◌, ◌≤◌, from_bits, to_bits};
@@ -19,15 +20,17 @@ mod real;
 
 pub use real::{Arithmetic, KeepAs, Real};
 
-// The pattern of an f64: the weight of the exponent's field, an infinity, and the weight of the sign.
+// Of an f64's pattern: the weight of the exponent's field.
 const FIELD: u64 = 0x10_0000_0000_0000;
 
+// An infinity.
 const INFINITE: u64 = 0x7ff0_0000_0000_0000;
 
+// The weight of the sign.
 const SIGN: u64 = 0x8000_0000_0000_0000;
 
-// The whole number nearest to a / 2^by, a tie to the even one: half a unit is added, less one where the whole part is even, and what is past the
-// units is cut off. No branch waits for the digits.
+// The whole number nearest to a / 2^by, a tie to the even one: half a unit is added, less one where
+// the whole part is even, and what is past the units is cut off. No branch waits for the digits.
 fn shifted(a: u64, by: u64) -> u64
     requires { (0 < by) × (by < 64) × (a < 2 ^ 63) }
     ensures { result ≡ closest a (2 ^ by) }
@@ -37,7 +40,8 @@ fn shifted(a: u64, by: u64) -> u64
     (a + (half - 1) + q % 2) >> by
 }
 
-// The pattern of the f32 nearest to the f64 of the pattern a, which has no sign and is no NaN's.
+// The pattern of the f32 nearest to the f64 of the pattern a, which has no sign and is no NaN's: x is
+// the exponent's field, q the digits with the leading one.
 fn narrow_bits(a: u64) -> u32
     requires { a ≤ 0x7ff0_0000_0000_0000 }
     ensures { result ≡ mag_bits a }
@@ -55,7 +59,7 @@ fn narrow_bits(a: u64) -> u32
     }
 }
 
-// The f32 nearest to x, a tie to the one whose last digit is even.
+/// The f32 nearest to x, a tie to the one whose last digit is even.
 pub fn narrow(x: f64) -> f32
     ensures { result ≡ narrowed x }
 {
@@ -77,8 +81,8 @@ struct Digits {
     e: u64,
 }
 
-// The f64 of the pattern a, which is above zero and finite, as q * 2^e / 2^1200, q having all its 53
-// digits.
+// The f64 of the pattern a, which is above zero and finite, as q * 2^e / 2^1200, q having all its
+// 53 digits.
 fn split(a: u64) -> Digits
     requires { (0 < a) × (a < 0x7ff0_0000_0000_0000) }
     ensures { IsSplit a result.q result.e }
@@ -91,7 +95,7 @@ fn split(a: u64) -> Digits
         q = t + FIELD;
         e = x + 125;
     }
-    // a loop and no shift by `leading_zeros`: no plainer, since each turn keeps the value q * 2^e, and of most numbers there is none
+    // Only a subnormal takes turns, and each keeps the value q * 2^e.
     while q < FIELD {
         q = q * 2;
         e = e - 1;
@@ -99,7 +103,7 @@ fn split(a: u64) -> Digits
     Digits { q, e }
 }
 
-// The root of x, correctly rounded: of a zero that zero, and below zero a NaN.
+/// The root of x, correctly rounded: of a zero that zero, and below zero a NaN.
 pub fn sqrt(x: f64) -> f64
     ensures { result ≡ square_root x }
 {
@@ -111,7 +115,6 @@ fn chain(q: f64) -> f64
     ensures { result ≡ chained 17 1 q }
 {
     let mut h = 1.0 / 35.0;
-    // over whole numbers, which are what is added up: a list of the terms would be no plainer
     for n in (0u32..17).rev() {
         h = 1.0 / f64::from(n * 2 + 1) + q * h;
     }
@@ -138,7 +141,7 @@ fn ln_bits(a: u64) -> f64
     ln_sum(m, e as f64)
 }
 
-// The logarithm of v: of a zero minus infinity, and below zero a NaN.
+/// The logarithm of v: of a zero minus infinity, and below zero a NaN.
 pub fn ln(v: f64) -> f64
     ensures { result ≡ ln_of v }
 {
@@ -161,8 +164,7 @@ pub fn ln(v: f64) -> f64
     ln_bits(b)
 }
 
-// The logarithm of x as an f64, rounded to an f32: a function of its own for the width, as the definition has one. A trait's method with two impls
-// would be no plainer.
+/// The logarithm of x as an f64, rounded to an f32.
 pub fn ln_f32(x: f32) -> f32
     ensures { result ≡ ln_narrow x }
 {
@@ -174,7 +176,6 @@ fn powers(y: f64) -> f64
     ensures { result ≡ series 16 1 y }
 {
     let mut h = 1.0;
-    // over whole numbers, as in `chain`: no list is plainer
     for k in (0u32..16).rev() {
         h = 1.0 + y / f64::from(k + 1) * h;
     }
@@ -194,21 +195,22 @@ fn squared(h: f64) -> f64
     f * f
 }
 
-// x/128, which the series of the exponential is of.
+/// x/128, which the series of the exponential is of.
 pub fn exp_argument(x: f32) -> f64
     ensures { result ≡ x /₆₄ as_f64 128 }
 {
     std::num::f32_to_f64_with_nan(x) / 128.0
 }
 
-// What the exponential is narrowed from: the series of y, squared seven times. With no test in it, so that of several at once it is compiled to vector instructions.
+/// What the exponential is narrowed from: the series of y, squared seven times. It has no test, so
+/// that a loop of it is compiled to vector instructions.
 pub fn exp_wide(y: f64) -> f64
     ensures { result ≡ wide_exp y }
 {
     squared(powers(y))
 }
 
-// The exponential of x, made from that: 0 below -104.
+/// The exponential of x, made from that: 0 below -104.
 pub fn exp_narrow(x: f32, wide: f64) -> f32
     requires { wide ≡ wide_exp (x /₆₄ as_f64 128) }
     ensures { result ≡ exp_of x }
@@ -219,14 +221,14 @@ pub fn exp_narrow(x: f32, wide: f64) -> f32
     narrow(wide)
 }
 
-// The exponential of x.
+/// The exponential of x.
 pub fn exp(x: f32) -> f32
     ensures { result ≡ exp_of x }
 {
     exp_narrow(x, exp_wide(exp_argument(x)))
 }
 
-// The larger of a and b, or the other where one is a NaN.
+/// The larger of a and b, or the other where one is a NaN.
 #[tactic(auto, using(crate::proofs::Extremes::nan_by_eq), unfolding(crate::specs::Extremes::larger))]
 pub fn max<W: Arithmetic>(a: W, b: W) -> W
     ensures { W.float result ≡ larger (W.float a) (W.float b) }
@@ -240,7 +242,7 @@ pub fn max<W: Arithmetic>(a: W, b: W) -> W
     }
 }
 
-// The smaller of a and b, or the other where one is a NaN.
+/// The smaller of a and b, or the other where one is a NaN.
 #[tactic(auto, using(crate::proofs::Extremes::nan_by_eq), unfolding(crate::specs::Extremes::smaller))]
 pub fn min<W: Arithmetic>(a: W, b: W) -> W
     ensures { W.float result ≡ smaller (W.float a) (W.float b) }
@@ -254,7 +256,7 @@ pub fn min<W: Arithmetic>(a: W, b: W) -> W
     }
 }
 
-// x without its sign.
+/// x without its sign.
 #[tactic(auto, using(crate::proofs::Extremes::abs_std))]
 pub fn abs(x: f32) -> f32
     ensures { result ≡ absolute x }
@@ -262,16 +264,15 @@ pub fn abs(x: f32) -> f32
     x.abs()
 }
 
-// Whether x is neither a NaN nor an infinity.
+/// Whether x is neither a NaN nor an infinity.
 pub fn is_finite<W: Real>(x: W) -> bool
     ensures { result ≡ finite (W.float x) }
 {
     x.is_finite()
 }
 
-// The float nearest to ±m * 10^(up - down), a tie to the even one: by one product or quotient of two
-// numbers that the format holds. The sign and the three numbers are the definition's: a struct for one call would be no plainer, and the text's own,
-// `Decimal`, has the bounds of a text.
+/// The float nearest to ±m * 10^(up - down), a tie to the even one: by one product or quotient of two
+/// numbers that the format holds.
 pub fn decimal<W: Arithmetic>(minus: bool, m: u64, up: u64, down: u64) -> W
     requires m_bound { m < 2 ^ prec W.format }
     requires up_bound { (up ≤ down + tens W.format) × (down ≤ up + tens W.format) }

@@ -1,6 +1,5 @@
-// What the two widths of a float share, so that code over both is written once: `Real`; and how a table of one width keeps a number that was written at
-// another: `KeepAs`. Each has an impl for each type, which is what a trait wants: these methods are not twins, since each calls the library's of its own type.
-// What a method says is one equation about its own number: a name for it would be no plainer than the definition's.
+//! What the two widths of a float share, so that code over both is written once: `Real`,
+//! `Arithmetic`; and how a table of one width keeps a number that was written at another: `KeepAs`.
 
 ghost use Rattle.std.specs.Prelude.{◌≡◌, ℕ, ◌^◌, ◌<◌, ◌≤◌, pos, from_bits, to_bits, length, Float};
 ghost use Rattle.std.specs.Int.{Width, w32, w64, byte_len, from_le_bytes, to_le_bytes};
@@ -20,7 +19,7 @@ use std::num::{
 };
 use std::ops::{Div, Mul, Neg};
 
-// The powers of ten that an f64 holds, and those that an f32 does.
+// The powers of ten that an f64 holds.
 const TENS: [f64; 23] = [
     1.0,
     10.0,
@@ -47,6 +46,7 @@ const TENS: [f64; 23] = [
     10000000000000000000000.0,
 ];
 
+// Those that an f32 holds.
 const TENS_F32: [f32; 11] = [
     1.0,
     10.0,
@@ -154,7 +154,8 @@ impl Real for f32 {
         f32_to_f64_with_nan(self)
     }
 
-    // Not the library's `is_finite`, which asks whether x - x is 0: a push's loop over four numbers takes 31 instructions with it, and 16 so (counted).
+    // Not the library's: a push asks this of each number of a frame, and the difference, a NaN where
+    // x is not finite, is faster.
     #[tactic(auto, using(crate::proofs::Finite::less_itself))]
     fn is_finite(self) -> bool {
         let d = self - self;
@@ -203,7 +204,8 @@ impl Real for f64 {
         self
     }
 
-    // Not the library's `is_finite`, which asks whether x - x is 0: a push's loop over four numbers takes 31 instructions with it, and 16 so (counted).
+    // Not the library's: a push asks this of each number of a frame, and the difference, a NaN where
+    // x is not finite, is faster.
     #[tactic(auto, using(crate::proofs::Finite::less_itself))]
     fn is_finite(self) -> bool {
         let e = self - self;

@@ -35,9 +35,6 @@ module _ (a b : Bool) where
   pub or_none : a ≡ false → b ≡ false → (a || b) ≡ false
   or_none e h = rw e h
 
-  pub or_skip : a ≡ false → (a || b) ≡ b
-  or_skip e = rw e
-
   pub or_fails : (a || b) ≡ false → (a ≡ false) × (b ≡ false)
   or_fails e = by-test a (λ h. absurd (true≢false (rw h at e))) (λ h. (h, rw h at e))
 

@@ -1,12 +1,12 @@
 -- A room of n places, each with a counted loop of its own: code does turn k at all places before turn k + 1.
 use mathlib.Core.Path.{◌≡◌, sym, ap, ◌∙◌}
 use mathlib.Core.List.{List}
-use Prim.Native.Nat.{ℕ, ◌+◌, ◌≤◌}
+use Prim.Native.Nat.{ℕ, ◌+◌}
 use lib.ListN.{length, get_or}
 use Rattle.loops.specs.Loop.{iter}
 use Rattle.loops.specs.Lists.{build}
 use Rattle.loops.specs.Inner.{fill}
-use Rattle.loops.proofs.Loop.{at_end, iter_more}
+use Rattle.loops.proofs.Loop.{iter_more}
 use Rattle.loops.proofs.Build.{length_build, at_build, build_ext}
 use Rattle.loops.proofs.Fill.{fill_whole}
 
@@ -16,6 +16,3 @@ module _ {A : Type 0} (d : A) (n : ℕ) (f : ℕ → ℕ → A → A) (s : ℕ �
   columns_turn k {x} e h =
       h ∙ fill_whole _ n x (ap length e ∙ length_build n _)
       ∙ build_ext n _ _ (λ r l. ap (λ (x : List A). f r k (get_or x r d)) e ∙ ap (f r k) (at_build d n _ r l) ∙ sym (iter_more (f r) (s r) k))
-
-  pub columns_end : (k m : ℕ) {x : List A} → k ≤ m → m ≤ k → x ≡ build n (λ r. iter k (f r) (s r)) → x ≡ build n (λ r. iter m (f r) (s r))
-  columns_end k m = at_end (λ k. build n (λ r. iter k (f r) (s r))) k m

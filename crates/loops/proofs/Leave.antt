@@ -1,6 +1,6 @@
 -- Laws of a counted loop that may be left from inside.
 use mathlib.Core.Path.{◌≡◌, refl, sym, ap, ◌∙◌}
-use mathlib.Core.Bool.{Bool, true, false, not}
+use mathlib.Core.Bool.{Bool, false, not}
 use mathlib.Core.Logic.{⊎_elim}
 use Prim.Native.Nat.{ℕ, zero, suc, ◌+◌, ◌≤◌, ◌<◌}
 use native.Mathlib.Nat.{eq-or-lt_of_le, le_of_suc-le-suc}
@@ -42,9 +42,6 @@ module _ {S : Type 0} (f : ℕ → S → Out S) (s : S) where
 -- a Bool says that the turn was the last
 pub goes_on : {S : Type 0} (b : Bool) (x : S) → b ≡ false → on x ≡ done (not b) x
 goes_on b x e = rw e
-
-pub is_last_lem : {S : Type 0} (b : Bool) (x : S) → b ≡ true → off x ≡ done (not b) x
-is_last_lem b x e = rw e
 
 next-keeps : {S : Type 0} (P : S → Type 0) (f : S → Out S) (o : Out S) → ((x : S) → P x → P (final (f x))) → P (final o) → P (final (next f o))
 next-keeps P f (on x) k p = k x p

@@ -1,31 +1,15 @@
--- The words of lists are the library's: `any_of` is `list_any`, `all_of` is `list_all`, `those` is `filter`. And what the library's methods leave of a
--- room, by `put`, `over` and `fill`.
+-- What the library's methods leave of a room, by `put`, `over` and `fill`.
 use mathlib.Core.Path.{◌≡◌, refl, sym, ap, ◌∙◌}
-use mathlib.Core.Bool.{Bool}
 use mathlib.Core.List.{List, ◌++◌, append-nil}
 use Prim.Native.Nat.{ℕ, ◌≤◌}
 use native.Mathlib.Omega.{arith}
 use lib.ListN.{length, take, drop, replicate, length-replicate, drop_of_length-le}
 use lib.Seq.{length-take-le}
-use Rattle.std.specs.List.{list_any, list_all, filter}
-use Rattle.loops.specs.Lists.{build, those, any_of, all_of, over}
+use Rattle.loops.specs.Lists.{build, over}
 use Rattle.loops.specs.Ring.{put}
 use Rattle.loops.specs.Inner.{fill}
 use Rattle.loops.proofs.Build.{build_same}
 use Rattle.loops.proofs.Fill.{put_back}
-
-module _ {A : Type 0} (p : A → Bool) (xs : List A) where
-  pub any_std : any_of p xs ≡ list_any p xs
-  unfolding any_of
-  any_std = refl
-
-  pub all_std : all_of p xs ≡ list_all p xs
-  unfolding all_of
-  all_std = refl
-
-  pub those_std : those p xs ≡ filter p xs
-  unfolding those
-  those_std = refl
 
 module _ {A : Type 0} where
   -- a part that a slice's method wrote: `room[a..e].copy_from_slice(xs)` and `room[..n].copy_from_slice(xs)`
@@ -36,11 +20,7 @@ module _ {A : Type 0} where
   unfolding over
   over_std k xs room e = rw e refl
 
-  -- `room[..n].fill(x)`, and `room.fill(x)`: the last argument is `c.fill.ensures.after (λ y e. e)`
-  pub fill_front : (n : ℕ) (x : A) (xs room : List A) → n ≤ length room → xs ≡ replicate (length (take n room)) x → xs ++ drop n room ≡ fill n (λ k. x) room
-  unfolding fill
-  fill_front n x xs room l h = ap (λ (s : List A). s ++ drop n room) (h ∙ ap (λ (k : ℕ). replicate k x) (length-take-le n room l) ∙ sym (build_same n x))
-
+  -- `room[..n].fill(x)`: the last argument is `c.fill.ensures.after (λ y e. e)`; and `room.fill(x)`
   pub over_front : (n : ℕ) (x : A) (xs room : List A) → n ≤ length room → xs ≡ replicate (length (take n room)) x → xs ++ drop n room ≡ over (replicate n x) room
   over_front n x xs room l h =
       let e = h ∙ ap (λ (k : ℕ). replicate k x) (length-take-le n room l) in

@@ -58,10 +58,6 @@ module _ {A : Type 0} (p : A → Bool) where
   unfolding any_of
   any_turn d xs i l e h = let g : any_of p (drop i xs) ≡ any_of p (drop (i + 1) xs) = rw (drop_next d xs i l, e) in sym g ∙ h
 
-  pub any_found : (d : A) (xs : List A) (i : ℕ) {b : Bool} → i < length xs → p (get_or xs i d) ≡ true → any_of p (drop i xs) ≡ b → true ≡ b
-  unfolding any_of
-  any_found d xs i l e h = let g : any_of p (drop i xs) ≡ true = rw (drop_next d xs i l, e) in sym g ∙ h
-
   pub any_end : (xs : List A) (i : ℕ) {b : Bool} → length xs ≤ i → any_of p (drop i xs) ≡ b → false ≡ b
   unfolding any_of
   any_end xs i l h = let g : any_of p (drop i xs) ≡ false = rw (drop_of_length-le xs l) in sym g ∙ h
@@ -105,9 +101,6 @@ module _ {A : Type 0} (p : A → Bool) where
 
   pub all_turn : (d : A) (xs : List A) (i : ℕ) {b : Bool} → i < length xs → p (get_or xs i d) ≡ true → all_of p (drop i xs) ≡ b → all_of p (drop (i + 1) xs) ≡ b
   all_turn d xs i l e h = all_any _ ∙ ap not (any_turn (λ x. not (p x)) d xs i l (ap not e) refl) ∙ sym (all_any (drop i xs)) ∙ h
-
-  pub all_fails : (d : A) (xs : List A) (i : ℕ) {b : Bool} → i < length xs → p (get_or xs i d) ≡ false → all_of p (drop i xs) ≡ b → false ≡ b
-  all_fails d xs i l e h = ap not (any_found (λ x. not (p x)) d xs i l (ap not e) refl) ∙ sym (all_any (drop i xs)) ∙ h
 
   pub all_end : (xs : List A) (i : ℕ) {b : Bool} → length xs ≤ i → all_of p (drop i xs) ≡ b → true ≡ b
   all_end xs i l h = ap not (any_end (λ x. not (p x)) xs i l refl) ∙ sym (all_any (drop i xs)) ∙ h

@@ -1,4 +1,4 @@
--- What loops in code leave. Not for readers.
+-- What loops in code leave: words of contracts, on which no promise rests.
 use Rattle.std.specs.Prelude.{Bool, true, false, List, ◌++◌, ℕ, ◌+◌, ◌-◌, drop}
 use Rattle.loops.specs.Loop.{iter, Out, on, off}
 use Rattle.loops.specs.Lists.{build}

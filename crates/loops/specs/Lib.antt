@@ -3,5 +3,5 @@ pub mod Loop
 pub mod Lists
 pub mod Refusal
 pub mod Ring
--- what loops in code leave: for the contracts of inner functions, not for readers
+-- words of inner contracts
 pub mod Inner

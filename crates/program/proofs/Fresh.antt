@@ -32,7 +32,7 @@ use Rattle.program.specs.Rooms.{Rooms, room_lengths_of, ring_at, waiting_in}
 use Rattle.program.specs.Calls.{fresh_rooms}
 use Rattle.program.proofs.Facts.{Ranges, ranges}
 use Rattle.program.proofs.Sound.{Made, Inv}
-use Rattle.program.proofs.Steps.{four}
+use Rattle.program.proofs.Steps.{same_by_four}
 use Rattle.definition.specs.Stream.{record_sound}
 use Rattle.definition.specs.Model.{tables_fit}
 
@@ -85,7 +85,7 @@ module _ (i : IvectorInfo) (t : Tables) (z : Rooms) (n : ℕ) where
         record {
           lengths_are = ap₂ (λ (a : ℕ) (b : EstimateLengths). record { rings = record { frames = lengths.rings.frames; rows = a; waiting_frames = lengths.rings.waiting_frames; waiting_weights = lengths.rings.waiting_weights }; estimate = b })
               (length_over (replicate dim zero₆₄) z.rings.rows (rw (length-replicate dim zero₆₄) (one-row (length z.rings.rows) dim (omega (arith, fit.rows_fit)))))
-              (four (λ (b c d e : ℕ). record { cmvn_stats = b; linear = c; quadratic = d; current = e; scratch = n })
+              (same_by_four (λ (b c d e : ℕ). record { cmvn_stats = b; linear = c; quadratic = d; current = e; scratch = n })
               (length_over (replicate (dim + 1) zero₆₄) z.estimate.cmvn (rw (length-replicate (dim + 1) zero₆₄) fit.cmvn_fits))
               (length_over (new_stats s prior).linear z.estimate.linear (rw (length_new_linear s prior) fit.linear_fits))
               (length_over (new_stats s prior).quadratic z.estimate.quadratic (rw (length_new_quadratic s prior) fit.quadratic_fits))
@@ -103,7 +103,7 @@ module _ (i : IvectorInfo) (t : Tables) (z : Rooms) (n : ℕ) where
           waiting_is = refl;
           in_order = refl;
           held_back = refl;
-          estimate_is = four (λ (a b c d : List Float). record { cmvn = a; stats = record { num_frames = (new_stats s prior).num_frames; linear = b; quadratic = c }; current = d })
+          estimate_is = same_by_four (λ (a b c d : List Float). record { cmvn = a; stats = record { num_frames = (new_stats s prior).num_frames; linear = b; quadratic = c }; current = d })
               (take_over (replicate (dim + 1) zero₆₄) z.estimate.cmvn (dim + 1) (length-replicate (dim + 1) zero₆₄))
               (take_over (new_stats s prior).linear z.estimate.linear s (length_new_linear s prior))
               (take_over (new_stats s prior).quadratic z.estimate.quadratic (triangle s) (length_new_quadratic s prior))

@@ -4,7 +4,6 @@ use mathlib.Core.Bool.{true}
 use mathlib.Core.List.{List, [], ◌∷◌, ◌++◌, foldl}
 use Prim.Native.Nat.{ℕ, zero, suc, ◌+◌, ◌-◌, ◌≤◌, ◌<◌}
 use native.Mathlib.Nat.{not-suc-le-zero, le_of_suc-le-suc}
-use native.Mathlib.Decide.{dec_le}
 use native.Mathlib.Omega.{arith}
 use lib.Dec.{leb, ltb}
 use lib.ListN.{length, get_or, take, drop, length-map}
@@ -41,16 +40,6 @@ rising-at m (x ∷ xs) (suc i) (suc j) o p l = rising-at x xs i j (and_holds (le
 module _ (l : List ℕ) (n f : ℕ) where
   abbrev pub Above : ℕ → Type 0
   Above k = (i : ℕ) → k ≤ i → i < n → f < get_or l i 0
-
-  pub above_none : Above n
-  above_none i p q = absurd (omega arith)
-
-  pub above_turn : (k : ℕ) → 0 < k → f < get_or l (k - 1) 0 → Above k → Above (k - 1)
-  above_turn k z g a i p q = go (dec_le k i)
-    where
-      go : Dec (k ≤ i) → f < get_or l i 0
-      go (yes r) = a i r q
-      go (no r) = let e : i ≡ k - 1 = omega arith in rw e g
 
 module _ (l : List ℕ) (n f : ℕ) (h : n ≤ length l) where
   first_ones : (k : ℕ) → k ≤ n → ((i : ℕ) → i < k → get_or l i 0 ≤ f) → Above l n f k → k ≡ length (those (λ g. leb g f) (take n l))

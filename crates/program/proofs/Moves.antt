@@ -142,13 +142,13 @@ module _ (M : Model) (z : RingLengths) where
   history_one zero k (fetch f m) cs a rs e = rw (history_fetch k f)
   history_one (suc r) k (fetch f m) cs a rs e = refl
 
-  number_of : (k : Machine) (y : Move) → (answer M k y).told.refusal ≡ y.refusal
+  refusal_is : (k : Machine) (y : Move) → (answer M k y).told.refusal ≡ y.refusal
   unfolding answer told_by
-  number_of k y = refl
+  refusal_is k y = refl
 
   pub history_is : (k : Machine) (cs : List Call) → (machine_after M z k cs).history ≡ k.history ++ frames_taken cs (answers_from M z k cs)
   unfolding machine_after answers_from frames_taken
   history_is k [] = sym (append-nil _)
   history_is k (c ∷ cs) =
       let y : Move = does M z k c in
-      history_is (moved k y) cs ∙ history_one y.refusal k c cs (answer M k y) _ (number_of k y)
+      history_is (moved k y) cs ∙ history_one y.refusal k c cs (answer M k y) _ (refusal_is k y)

@@ -85,8 +85,8 @@ less_than : (a b : ℕ) → a ≤ b → (a ≡ b → ⊥) → a < b
 less_than a b h e = omega arith
 
 -- equal parts make equal wholes
-pub four : {A B : Type 0} (f : A → A → A → A → B) {a a' b b' c c' d d' : A} → a ≡ a' → b ≡ b' → c ≡ c' → d ≡ d' → f a b c d ≡ f a' b' c' d'
-four f p q r s = rw (p, q, r, s)
+pub same_by_four : {A B : Type 0} (f : A → A → A → A → B) {a a' b b' c c' d d' : A} → a ≡ a' → b ≡ b' → c ≡ c' → d ≡ d' → f a b c d ≡ f a' b' c' d'
+same_by_four f p q r s = rw (p, q, r, s)
 
 -- ---- the frames of a batch have their context held
 
@@ -349,7 +349,7 @@ module _ (i : IvectorInfo) (z : RoomLengths) (n : ℕ) (t : Tables) (made : Made
               (ap₂ (λ (x y : ℕ). record { frames = length w.rings.frames; rows = length w.rings.rows; waiting_frames = x; waiting_weights = y })
               (length_over (frames_of c.waiting) w.rings.waiting_frames (omega (arith, length-map c.waiting (λ (d : Change). d.0), room, rooms)))
               (length_over (weights_of c.waiting) w.rings.waiting_weights (omega (arith, length-map c.waiting (λ (d : Change). d.1), room, rooms))))
-              (four (λ (a b c d : ℕ). record { cmvn_stats = a; linear = b; quadratic = c; current = d; scratch = n })
+              (same_by_four (λ (a b c d : ℕ). record { cmvn_stats = a; linear = b; quadratic = c; current = d; scratch = n })
               (length_over e.cmvn w.estimate.cmvn (rw long.cmvn_is (le (λ x. x.cmvn_stats) _ fit.cmvn_fits)))
               (length_over e.stats.linear w.estimate.linear (rw long.linear_is (le (λ x. x.linear) _ fit.linear_fits)))
               (length_over e.stats.quadratic w.estimate.quadratic (rw long.quadratic_is (le (λ x. x.quadratic) _ fit.quadratic_fits)))
@@ -368,7 +368,7 @@ module _ (i : IvectorInfo) (z : RoomLengths) (n : ℕ) (t : Tables) (made : Made
           waiting_is = waiting_over c.waiting w.rings.waiting_frames w.rings.waiting_weights;
           in_order = order;
           held_back = back;
-          estimate_is = four (λ (a b c d : List Float). record { cmvn = a; stats = record { num_frames = e.stats.num_frames; linear = b; quadratic = c }; current = d })
+          estimate_is = same_by_four (λ (a b c d : List Float). record { cmvn = a; stats = record { num_frames = e.stats.num_frames; linear = b; quadratic = c }; current = d })
               (take_over e.cmvn w.estimate.cmvn (dim + 1) long.cmvn_is)
               (take_over e.stats.linear w.estimate.linear i.dims.ivector_dim long.linear_is)
               (take_over e.stats.quadratic w.estimate.quadratic (triangle i.dims.ivector_dim) long.quadratic_is)

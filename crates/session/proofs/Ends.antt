@@ -22,7 +22,7 @@ use Rattle.program.specs.Rooms.{Rooms, ring_lengths_of, room_lengths_of}
 use Rattle.program.specs.Calls.{answer_from, fresh_stream, fresh_rooms}
 use Rattle.program.specs.Session.{program, program_after}
 use Rattle.lists.specs.Listed.{Written, writes, list_refusal, run_refusal}
-use Rattle.whole.specs.Whole.{Answered, not_loaded, not_made, played, got, left, on_model, machine_session}
+use Rattle.whole.specs.Whole.{Answered, not_loaded, not_made, played, model_read, left, on_model, machine_session}
 use Rattle.whole.proofs.Whole.{loaded_sound, refused_for-rooms, answers-from-bytes}
 use Rattle.session.specs.Session.{written_of, returned_with, of_list, session_answered, after_calls, rooms_left}
 use Rattle.session.specs.declared.NotPlayed.{NotPlayed}
@@ -56,15 +56,15 @@ module _ (o : IvectorOptions) (f : Files) (t : Tables) (n : ℕ) (z : Rooms) (m 
 
   -- ---- a load that is refused
 
-  session_not_loaded : (r : ℕ) → loaded_of (got o f t n z m) ≡ Err r → not_loaded r ≡ x
+  session_not_loaded : (r : ℕ) → loaded_of (model_read o f t n z m) ≡ Err r → not_loaded r ≡ x
   unfolding machine_session
-  session_not_loaded r e = ap (of_list listed) (by (got o f t n z m) e)
+  session_not_loaded r e = ap (of_list listed) (by (model_read o f t n z m) e)
     where
       by : (g : Got Model) → loaded_of g ≡ Err r → not_loaded r ≡ on_model o f t n z m cs g
       by (refused s) e = let q : s ≡ r = cc in ap not_loaded (sym q)
       by (read M at) e = absurd (let q : ◌≡◌ {A = ℕ} 0 1 = cc in omega arith)
 
-  pub load_ends : (e : Refusal) → loaded_of (got o f t n z m) ≡ Err (number_of e) → Ends (Err (N.Load e)) w z
+  pub load_ends : (e : Refusal) → loaded_of (model_read o f t n z m) ≡ Err (number_of e) → Ends (Err (N.Load e)) w z
   unfolding writes
   load_ends e h = as_x (Err (N.Load e)) w z (not_loaded (number_of e)) (session_not_loaded (number_of e) h) (refl, refl, refl)
 
@@ -77,7 +77,7 @@ module _ (o : IvectorOptions) (f : Files) (t : Tables) (n : ℕ) (z : Rooms) (m 
 
   -- ---- a model that is loaded
 
-  module _ (M : Model) (at : ℕ) (e : got o f t n z m ≡ read M at) where
+  module _ (M : Model) (at : ℕ) (e : model_read o f t n z m ≡ read M at) where
     abbrev fits : Bool
     fits = rooms_fit M.info.dims (room_lengths_of z m)
 
@@ -136,12 +136,12 @@ module _ (o : IvectorOptions) (f : Files) (t : Tables) (n : ℕ) (z : Rooms) (m 
         (refl, wrote ∙ taken_old (number_of r) _ w (not_zero r), rooms ∙ taken_old (number_of r) _ z (not_zero r))
 
   -- by the record that the load returned, and the tables that it left
-  module _ (i : IvectorInfo) (t' : Tables) (loaded : Ok i ≡ loaded_of (got o f t n z m)) (tables_are : t' ≡ left o f t n z m) (w' : Written) (y : Rooms) where
-    by_model : (P : Result StreamAnswer NotPlayed) (r : ℕ) → ((M : Model) (at : ℕ) → got o f t n z m ≡ read M at → Ran M.info (left o f t n z m) r w' y → Ends P w' y)
+  module _ (i : IvectorInfo) (t' : Tables) (loaded : Ok i ≡ loaded_of (model_read o f t n z m)) (tables_are : t' ≡ left o f t n z m) (w' : Written) (y : Rooms) where
+    by_model : (P : Result StreamAnswer NotPlayed) (r : ℕ) → ((M : Model) (at : ℕ) → model_read o f t n z m ≡ read M at → Ran M.info (left o f t n z m) r w' y → Ends P w' y)
         → Ran i t' r w' y → Ends P w' y
-    by_model P r ends ran = go (got o f t n z m) refl loaded
+    by_model P r ends ran = go (model_read o f t n z m) refl loaded
       where
-        go : (g : Got Model) → got o f t n z m ≡ g → Ok i ≡ loaded_of g → Ends P w' y
+        go : (g : Got Model) → model_read o f t n z m ≡ g → Ok i ≡ loaded_of g → Ends P w' y
         go (refused k) e h = absurd (let q : ◌≡◌ {A = ℕ} 0 1 = cc in omega arith)
         go (read M at) e h =
             let q : i ≡ M.info = cc in

@@ -10,7 +10,7 @@ use Rattle.definition.specs.Machine.{Call, Answer}
 use Rattle.program.specs.Rooms.{Rooms, room_lengths_of}
 use Rattle.program.specs.Calls.{fresh_stream, fresh_rooms}
 use Rattle.program.specs.Session.{program, program_after}
-use Rattle.whole.specs.Whole.{Answered, not_loaded, not_made, played, got, left, machine_session}
+use Rattle.whole.specs.Whole.{Answered, not_loaded, not_made, played, model_read, left, machine_session}
 use Rattle.session.specs.declared.NotPlayed.{NotPlayed}
 use Rattle.session.specs.declared.NotPlayed.TheVariants as N
 
@@ -45,4 +45,4 @@ module _ (o : IvectorOptions) (f : Files) (t : Tables) (n : ℕ) (z : Rooms) (m 
   abbrev pub rooms_left : Answered → Rooms
   rooms_left (not_loaded r) = z
   rooms_left (not_made r) = z
-  rooms_left (played a as') = after_calls (got o f t n z m)
+  rooms_left (played a as') = after_calls (model_read o f t n z m)

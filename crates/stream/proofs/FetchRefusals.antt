@@ -22,7 +22,7 @@ use Rattle.definition.specs.Stream.{record_sound, info_sound, rooms_fit, is_fore
 use Rattle.definition.proofs.Ranges.{info_sound_lem}
 use Rattle.program.specs.Rooms.{Rooms, room_lengths_of}
 use Rattle.program.specs.Calls.{fetch_refusal}
-use Rattle.program.proofs.Steps.{four}
+use Rattle.program.proofs.Steps.{same_by_four}
 use Rattle.stream.proofs.Records.{Passed, tests_passed, few}
 
 -- lengths that pass for the same are the same
@@ -50,9 +50,9 @@ same_rooms_lem a b e =
     let h = each_pair eqb (ring_lengths a.rings) (ring_lengths b.rings) g.0 in
     let k = each_pair eqb (estimate_lengths a.estimate) (estimate_lengths b.estimate) g.1 in
     ap₂ (λ (x : RingLengths) (y : EstimateLengths). record { rings = x; estimate = y })
-    (four (λ (p q r s : ℕ). record { frames = p; rows = q; waiting_frames = r; waiting_weights = s })
+    (same_by_four (λ (p q r s : ℕ). record { frames = p; rows = q; waiting_frames = r; waiting_weights = s })
     (eqb-true _ _ h.0) (eqb-true _ _ h.1.0) (eqb-true _ _ h.1.1.0) (eqb-true _ _ h.1.1.1.0))
-    (four (λ (p q r s : ℕ). record { cmvn_stats = p; linear = q; quadratic = r; current = s; scratch = a.estimate.scratch })
+    (same_by_four (λ (p q r s : ℕ). record { cmvn_stats = p; linear = q; quadratic = r; current = s; scratch = a.estimate.scratch })
     (eqb-true _ _ k.0) (eqb-true _ _ k.1.0) (eqb-true _ _ k.1.1.0) (eqb-true _ _ k.1.1.1.0)
     ∙ ap (λ (p : ℕ). record { cmvn_stats = b.estimate.cmvn_stats; linear = b.estimate.linear; quadratic = b.estimate.quadratic; current = b.estimate.current; scratch = p }) (eqb-true _ _ k.1.1.1.1.0))
 

@@ -34,7 +34,7 @@ use Rattle.program.specs.Rooms.{rings_from, EstimateRooms, estimate_from, Rooms,
 use Rattle.program.specs.Calls.{call_of, over_waiting, Step, fetch_call, fetched_on, fetch_refusal, get_frame, catches_up, fetch_estimate, fetch_changes, fetch_stream, over_estimate, fetch_rooms, fetch_vector, fetch_nans}
 use Rattle.program.proofs.WaitingRooms.{length_waiting, frames_waiting, weights_waiting}
 use Rattle.program.proofs.InOrder.{waiting_early, waiting_late}
-use Rattle.program.proofs.Steps.{four}
+use Rattle.program.proofs.Steps.{same_by_four}
 use Rattle.stream.specs.Inner.IvectorBatch.{batch_of, changes_batch, run}
 use Rattle.stream.specs.Inner.IvectorFetch.{fetched_at}
 use Rattle.stream.proofs.Vector.{fetched_is}
@@ -208,7 +208,7 @@ module _ (s : IvectorStream) (t : Tables) (z : Rooms) (f : ℕ) {scratch n : ℕ
 
     held_same : z.estimate ≡ over_estimate (estimate_in s z.estimate) z.estimate
     held_same =
-        four estimate_from
+        same_by_four estimate_from
         (over_take _ z.estimate.cmvn fit.cmvn_fits refl)
         (over_take _ z.estimate.linear fit.linear_fits refl)
         (over_take _ z.estimate.quadratic fit.quadratic_fits refl)

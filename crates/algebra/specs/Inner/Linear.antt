@@ -1,4 +1,4 @@
--- The solver's scalars, and what its inner functions leave. Not for readers.
+-- The solver's scalars, and what its inner functions leave.
 use Rattle.std.specs.Prelude.{ℕ, ◌+◌, Bool, true, false, List, Float, if◌then◌else◌}
 use Rattle.loops.specs.Loop.{Out, on, off}
 use Rattle.loops.specs.Lists.{build}

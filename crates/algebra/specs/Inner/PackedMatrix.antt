@@ -1,4 +1,4 @@
--- A table's row, and a matrix laid out square. Not for readers.
+-- A table's row, and a matrix laid out square.
 use Rattle.std.specs.Prelude.{List, ℕ, ◌*◌, take, drop, Float}
 use Rattle.loops.specs.Lists.{build, flat}
 use Rattle.floats.specs.Operators.{at}

@@ -1,5 +1,5 @@
--- `split` gives digits and exponent of a pattern, `IsSplit`. The loop doubles the digits of a subnormal and takes one from the exponent; the
--- invariant `Doubling` says that the product stays (Splitting.antt).
+-- `split` gives digits and exponent of a pattern, `IsSplit`: a normal one's at once (`begun_normal`), a subnormal's by turns (`begun_subnormal`, `doubled`, `done`, all in
+-- Splitting.antt).
 use Rattle.std.proofs.Common.{arith}
 use Rattle.floats.proofs.Splitting.{begun_normal, begun_subnormal, falls, doubled, done}
 use Rattle.floats.proofs.split.Goals.{then-x-gt0, else-x-gt0}

@@ -1,5 +1,4 @@
--- `split` gives digits and exponent of a pattern, `IsSplit`. The loop doubles the digits of a subnormal and takes one from the exponent; the
--- invariant `Doubling` says that the product stays (Splitting.antt).
+-- The loop's invariant of `split`, `Doubling`: the digits of a subnormal are doubled and the exponent falls by one, so that the product stays.
 use Rattle.floats.proofs.Splitting.{Doubling}
 use Rattle.floats.proofs.split.Given as goal
 

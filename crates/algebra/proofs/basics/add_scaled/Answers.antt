@@ -1,5 +1,4 @@
--- `basics::add_scaled` meets its contract. The loop's invariant: the first c places are filled with the sums, and the place that is written next
--- has its old value (`fill_ahead` in loops/proofs/Fill.antt).
+-- `basics::add_scaled` meets its contract: a turn by `fill_turn`; the place that is written next has its old value (`fill_ahead`, both in loops/proofs/Fill.antt).
 use mathlib.Core.Path.{refl, ap, ◌∙◌}
 use Prim.Native.Nat.{ℕ}
 use native.Mathlib.Omega.{arith}

@@ -1,5 +1,4 @@
--- `basics::add_scaled` meets its contract. The loop's invariant: the first c places are filled with the sums, and the place that is written next
--- has its old value (`fill_ahead` in loops/proofs/Fill.antt).
+-- The loop's invariant of `basics::add_scaled`: the first c places are filled with the sums, and the place that is written next has its old value.
 use mathlib.Core.Path.{◌≡◌}
 use Prim.Native.Nat.{◌-◌, ◌≤◌}
 use lib.ListN.{length}

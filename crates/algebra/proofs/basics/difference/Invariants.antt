@@ -1,4 +1,4 @@
--- `basics::difference` meets its contract. The loop's invariant: the first i places are filled with the differences.
+-- The loop's invariant of `basics::difference`: the first i places are filled with the differences.
 use mathlib.Core.Path.{◌≡◌}
 use Prim.Native.Nat.{◌-◌, ◌≤◌}
 use lib.ListN.{length}

@@ -1,5 +1,4 @@
--- `linear::cgd_turns` meets its contract. The loop's invariant: the rooms are those after the turns taken, none of them the last (`next_turn`,
--- `last_turn`, `turns_end` in Turns.antt).
+-- `linear::cgd_turns` meets its contract: a turn by `next_turn`, the last by `last_turn`; with no turn left by `turns_end` (Turns.antt).
 use mathlib.Core.Path.{sym, ap, ◌∙◌}
 use Prim.Native.Nat.{ℕ, ◌+◌, ◌≤◌, ◌<◌, min}
 use native.Mathlib.Nat.{min-le_left}
@@ -30,8 +29,8 @@ loop-before-smaller c =
     let g : c.loop-before.t.k < min (c.args.system.square.n + 5) c.args.max_iters = ltb-true _ _ (sym c.goes_on.ensures ∙ c.loop-before-test.true) in
     omega (arith, c.cgd_turn-t.ensures.counted)
 
-pub turned-requires : goal.turned-requires
-turned-requires c = c.cgd_turn-t.auto.r ∙ c.loop-before.invariant.r_long ∙ sym c.loop-before.invariant.p_long
+pub next_direction-requires : goal.next_direction-requires
+next_direction-requires c = c.cgd_turn-t.auto.r ∙ c.loop-before.invariant.r_long ∙ sym c.loop-before.invariant.p_long
 
 pub loop-before-preserved : goal.loop-before-preserved
 loop-before-preserved c =
@@ -40,14 +39,14 @@ loop-before-preserved c =
     let i = c.loop-before.invariant in
     let e = c.cgd_turn-t.ensures in
     let beta = c.cgd_turn-t.result.r_cur /₆₄ c.loop-before.t.r_cur in
-    let turned = c.turned.ensures ∙ ap (λ (m : ℕ). build m (λ i. beta *₆₄ at c.loop-before.p i -₆₄ at c.cgd_turn-t.new.r i)) i.p_long in
+    let next_direction = c.next_direction.ensures ∙ ap (λ (m : ℕ). build m (λ i. beta *₆₄ at c.loop-before.p i -₆₄ at c.cgd_turn-t.new.r i)) i.p_long in
     record {
       most = omega (arith, e.counted);
       x_long = c.cgd_turn-t.auto.x ∙ i.x_long;
       r_long = c.cgd_turn-t.auto.r ∙ i.r_long;
-      p_long = c.turned.auto.p ∙ i.p_long;
+      p_long = c.next_direction.auto.p ∙ i.p_long;
       ap_long = c.cgd_turn-t.auto.ap ∙ i.ap_long;
-      turns = λ a h. next_turn a _ _ _ _ (i.turns a h) c.cgd_turn-t.result (e.turn a h) c.is_last.ensures e.counted c.if-is_last.false turned;
+      turns = λ a h. next_turn a _ _ _ _ (i.turns a h) c.cgd_turn-t.result (e.turn a h) c.is_last.ensures e.counted c.if-is_last.false next_direction;
     }
 
 pub returns-after-loop-before : goal.returns-after-loop-before

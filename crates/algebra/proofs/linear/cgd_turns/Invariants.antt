@@ -1,5 +1,4 @@
--- `linear::cgd_turns` meets its contract. The loop's invariant: the rooms are those after the turns taken, none of them the last (`next_turn`,
--- `last_turn`, `turns_end` in Turns.antt).
+-- The loop's invariant of `linear::cgd_turns`: the rooms are those after the turns taken, none of them the last.
 use mathlib.Core.Path.{◌≡◌}
 use mathlib.Core.List.{List}
 use Prim.Native.Nat.{◌+◌, ◌-◌, ◌≤◌, min}

@@ -1,5 +1,5 @@
--- `linear::factor` meets its contract. The invariants: the rows, and the cells of a row, that the definition has gone through; a cell goes one of three ways
--- (`cell_diagonal`, `cell_left`, `cell_beside` in Cells.antt), and its sum is over two rows (`less_lent` there).
+-- `linear::factor` meets its contract: a cell goes one of three ways (`cell_diagonal`, `cell_left`, `cell_beside` in Cells.antt), and its sum is over two rows
+-- (`less_lent` there).
 use Rattle.std.proofs.lemmas.Grind.{common_steps}
 use mathlib.Core.Path.{◌≡◌, refl, ap, ◌∙◌}
 use mathlib.Core.Bool.{Bool}

@@ -1,5 +1,4 @@
--- `linear::factor` meets its contract. The invariants: the rows, and the cells of a row, that the definition has gone through; a cell goes one of three ways
--- (`cell_diagonal`, `cell_left`, `cell_beside` in Cells.antt), and its sum is over two rows (`less_lent` there).
+-- The loops' invariants of `linear::factor`: the rows, and the cells of a row, that the definition has gone through.
 use mathlib.Core.Path.{◌≡◌}
 use mathlib.Core.Bool.{true}
 use Prim.Native.Nat.{◌≤◌, ◌+◌, ◌*◌}

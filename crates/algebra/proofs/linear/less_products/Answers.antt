@@ -1,4 +1,4 @@
--- `linear::less_products` meets its contract: the fold over both vectors is the loop of the definition (`fold_zip` in packed_matrix/proofs/Products.antt).
+-- `linear::less_products` meets its contract: the fold over both vectors is the loop of the definition (`fold_zip` in Products.antt).
 use Rattle.std.proofs.Common.{rules}
 use Rattle.std.proofs.lemmas.Iterator.{YieldsList-from_slice, YieldsList-from_zip}
 use Rattle.std.proofs.lemmas.Iterator.Consumers.{fold_from_yields_List}

@@ -1,4 +1,4 @@
--- `linear::negated` meets its contract. The loop's invariant: the first i places are filled with the negatives.
+-- The loop's invariant of `linear::negated`: the first i places are filled with the negatives.
 use mathlib.Core.Path.{◌≡◌}
 use Prim.Native.Nat.{◌≤◌}
 use lib.ListN.{length}

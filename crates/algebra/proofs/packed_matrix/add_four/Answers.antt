@@ -1,5 +1,4 @@
--- `packed_matrix::add_four` meets its contract. The loop's invariant: the first c places are filled with the sums; the place that is written next has its old
--- value (`fill_ahead` in loops/proofs/Fill.antt).
+-- `packed_matrix::add_four` meets its contract: the place that is written next has its old value (`fill_ahead` in loops/proofs/Fill.antt).
 use native.Mathlib.Omega.{arith}
 use lib.Ieee.{nan}
 use Rattle.loops.proofs.Fill.{fills, fill_turn, fill_ahead}

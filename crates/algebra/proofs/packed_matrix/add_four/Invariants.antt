@@ -1,5 +1,4 @@
--- `packed_matrix::add_four` meets its contract. The loop's invariant: the first c places are filled with the sums; the place that is written next has its old
--- value (`fill_ahead` in loops/proofs/Fill.antt).
+-- The loop's invariant of `packed_matrix::add_four`: the first c places are filled with the sums.
 use mathlib.Core.Path.{◌≡◌}
 use Prim.Native.Nat.{◌-◌, ◌≤◌}
 use lib.ListN.{length}

@@ -1,5 +1,5 @@
--- `packed_matrix::weighted_rows` meets its contract. The invariant of both loops: each place holds the sum over the first k rows (`four_turn`,
--- `one_turn` in Square.antt); what is read of a row lies in the table (`front_in` there).
+-- `packed_matrix::weighted_rows` meets its contract: a pass by `four_turn`, a row by `one_turn`; what is read of a row lies in the table (`front_in`, all in
+-- Square.antt).
 use mathlib.Core.Path.{sym, ◌∙◌}
 use Prim.Native.Nat.{◌+◌}
 use native.Mathlib.Nat.{le_of_eq}

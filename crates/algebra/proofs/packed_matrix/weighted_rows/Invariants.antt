@@ -1,5 +1,4 @@
--- `packed_matrix::weighted_rows` meets its contract. The invariant of both loops: each place holds the sum over the first k rows (`four_turn`,
--- `one_turn` in Square.antt); what is read of a row lies in the table (`front_in` there).
+-- The loops' invariants of `packed_matrix::weighted_rows`: each place holds the sum over the first rows, those before k, and then those before i.
 use mathlib.Core.Path.{◌≡◌}
 use Prim.Native.Nat.{◌-◌, ◌≤◌}
 use lib.ListN.{length}

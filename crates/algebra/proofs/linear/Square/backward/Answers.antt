@@ -1,5 +1,5 @@
--- `Square::backward` meets its contract. The outer invariant: t rows are solved from the back, as the definition does it (`backward_step`); the inner one: the
--- products taken off so far (`lessens`, both in Cells.antt).
+-- `Square::backward` meets its contract: a row is a step of the definition's loop (`iter_step` in loops/proofs/Loop.antt), its products are taken off by
+-- `less_none`, `less_next` and `less_end` (Cells.antt).
 use Rattle.std.proofs.lemmas.Grind.{common_steps}
 use mathlib.Core.Path.{◌≡◌, ap}
 use Prim.Native.Nat.{◌+◌, ◌-◌, ◌*◌, ◌≤◌}

@@ -1,5 +1,4 @@
--- `Square::backward` meets its contract. The outer invariant: t rows are solved from the back, as the definition does it (`backward_step`); the inner one: the
--- products taken off so far (`lessens`, both in Cells.antt).
+-- The loops' invariants of `Square::backward`: t rows are solved from the back, as the definition does it; of row i the products taken off so far.
 use mathlib.Core.Path.{◌≡◌}
 use Prim.Native.Nat.{◌≤◌, ◌<◌, ◌+◌, ◌*◌}
 use lib.ListN.{length}

@@ -1,5 +1,5 @@
--- `Square::forward` meets its contract. The invariant: i rows are solved from the front, as the definition does it (`forward_step` in Cells.antt); the sum
--- of a row is over the row's front and that of y (`less_front` there).
+-- `Square::forward` meets its contract: a row is a step of the definition's loop (`iter_step` in loops/proofs/Loop.antt); the sum of a row is over the row's
+-- front and that of y (`less_front` in Cells.antt).
 use Rattle.std.proofs.lemmas.Grind.{common_steps}
 use mathlib.Core.Path.{◌≡◌, ap}
 use Prim.Native.Nat.{◌+◌, ◌*◌, ◌≤◌}

@@ -1,5 +1,4 @@
--- `Square::forward` meets its contract. The invariant: i rows are solved from the front, as the definition does it (`forward_step` in Cells.antt); the sum
--- of a row is over the row's front and that of y (`less_front` there).
+-- The loop's invariant of `Square::forward`: i rows are solved from the front, as the definition does it.
 use mathlib.Core.Path.{◌≡◌}
 use Prim.Native.Nat.{◌≤◌}
 use lib.ListN.{length}

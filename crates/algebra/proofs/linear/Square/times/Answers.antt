@@ -1,4 +1,4 @@
--- `Square::times` meets its contract: the sums of rows of a matrix laid out square are its product (`square_product` in packed_matrix/proofs/Square.antt).
+-- `Square::times` meets its contract: the sums of rows of a matrix laid out square are its product (`square_product` in Square.antt).
 use mathlib.Core.Path.{ap, ◌∙◌}
 use Prim.Native.Nat.{ℕ, ◌+◌, ◌*◌}
 use lib.ListN.{length}

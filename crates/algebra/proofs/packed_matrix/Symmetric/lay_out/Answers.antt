@@ -1,5 +1,4 @@
--- `Symmetric::lay_out` meets its contract. The loop's invariant: the first i columns stand in the room, by the laws of rows that make a table (crate
--- loops), and row i of the packed matrix begins at `start`; that this is the square is `square_whole` (Square.antt).
+-- `Symmetric::lay_out` meets its contract: a column is a row of a table (loops/proofs/Flat.antt); that the table is the square is `square_whole` (Square.antt).
 use mathlib.Core.Path.{◌≡◌, refl, ap, ◌∙◌}
 use mathlib.Core.List.{List}
 use Prim.Native.Nat.{ℕ, ◌+◌, ◌-◌, ◌*◌, ◌≤◌}

@@ -1,5 +1,4 @@
--- `Symmetric::lay_out` meets its contract. The loop's invariant: the first i columns stand in the room, by the laws of rows that make a table (crate
--- loops), and row i of the packed matrix begins at `start`; that this is the square is `square_whole` (Square.antt).
+-- The loop's invariant of `Symmetric::lay_out`: the first i columns stand in the room, and row i of the packed matrix begins at `start`.
 use mathlib.Core.Path.{◌≡◌}
 use Prim.Native.Nat.{◌-◌, ◌≤◌}
 use lib.ListN.{length}

@@ -1,11 +1,10 @@
--- `linear::turned` meets its contract. The loop's invariant: a turn at each of the first i places; each place is made from its old value alone
--- (`updated_whole` in loops/proofs/Fill.antt).
+-- `linear::next_direction` meets its contract: each place is made from its old value alone (`updated_whole` in loops/proofs/Fill.antt).
 use mathlib.Core.Path.{refl}
 use native.Mathlib.Omega.{arith}
 use lib.Ieee.{nan}
 use Rattle.floats.specs.Operators.{◌-₆₄◌, ◌*₆₄◌, at}
 use Rattle.loops.proofs.Fill.{updated_whole}
-use Rattle.algebra.proofs.linear.turned.Goals as goal
+use Rattle.algebra.proofs.linear.next_direction.Goals as goal
 
 pub returns : goal.returns
 returns c = updated_whole nan (λ i v. c.args.beta *₆₄ v -₆₄ at c.args.r.now i) _ _ _ c.loop-i.invariant.most (omega arith) refl c.loop-i.invariant.turns

@@ -1,11 +1,10 @@
--- `linear::turned` meets its contract. The loop's invariant: a turn at each of the first i places; each place is made from its old value alone
--- (`updated_whole` in loops/proofs/Fill.antt).
+-- The loop's invariant of `linear::next_direction`: a turn at each of the first i places.
 use mathlib.Core.Path.{◌≡◌}
 use Prim.Native.Nat.{◌≤◌}
 use lib.ListN.{length, set}
 use Rattle.floats.specs.Operators.{◌-₆₄◌, ◌*₆₄◌, at}
 use Rattle.loops.specs.Loop.{iter}
-use Rattle.algebra.proofs.linear.turned.Given as goal
+use Rattle.algebra.proofs.linear.next_direction.Given as goal
 
 abbrev pub invariant-loop-i : goal.invariant-loop-i
 invariant-loop-i l = record {
