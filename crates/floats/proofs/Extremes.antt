@@ -61,6 +61,21 @@ nan_by_eq (inf true) = refl
 nan_by_eq (inf false) = refl
 nan_by_eq (fin s m e) = sym (ap not (eq_self (fin s m e) refl))
 
+-- ---- `max` and `min`, by their tests: e and n are what the first test says, and d and l the second, of which t is the definition's
+module _ (a b : Float) (t : Bool) {p r : Bool} (e : p ≡ eq a a) (n : r ≡ not p) where
+  is-nan : {v : Bool} → r ≡ v → is_nan a ≡ v
+  is-nan h = nan_by_eq a ∙ sym (ap not e) ∙ sym n ∙ h
+
+  pub past_nan : r ≡ true → b ≡ cond (is_nan a) b (cond t b a)
+  past_nan h = rw (is-nan h) refl
+
+  module _ (h : r ≡ false) {q s : Bool} (d : q ≡ t) (l : s ≡ q) where
+    pub the_other : s ≡ true → b ≡ cond (is_nan a) b (cond t b a)
+    the_other k = rw (is-nan h, sym (l ∙ d) ∙ k) refl
+
+    pub the_first : s ≡ false → a ≡ cond (is_nan a) b (cond t b a)
+    the_first k = rw (is-nan h, sym (l ∙ d) ∙ k) refl
+
 -- ---- a sum of finite numbers is no NaN
 cond-no_nan : (b : Bool) (x y : Float) → is_nan x ≡ false → is_nan y ≡ false → is_nan (cond b x y) ≡ false
 cond-no_nan true x y h k = h
