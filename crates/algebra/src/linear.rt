@@ -1,8 +1,8 @@
-//! The solver behind `get_ivector`: A x = b by the conjugate gradient, or by Cholesky's factor where
-//! that fails. A is packed, of n rows; x, b, r (the residual A x - b), p (the direction) and ap (A p)
-//! have n numbers each, and are slices of their own: one is read while another is written (limit:
-//! alike). The loops over rows, columns and factors of A go by index: each reads places of the slice
-//! that it writes, or a column, which is no slice.
+//! The solver behind `get_ivector`: A x = b by the conjugate gradient, or by Cholesky's factor
+//! where that fails. A is packed, of n rows; x, b, r (the residual A x - b), p (the direction) and
+//! ap (A p) have n numbers each, and are slices of their own: one is read while another is written
+//! (limit: alike). The loops over rows, columns and factors of A go by index: each reads places of
+//! the slice that it writes, or a column, which is no slice.
 
 ghost use Rattle.std.specs.Prelude.{◌≡◌, List, ◌+◌, ◌*◌, ◌<◌, ◌≤◌, min, ltb, Float, length, if◌then◌else◌};
 ghost use Rattle.std.specs.Float.Ieee.{neg};
@@ -303,7 +303,8 @@ fn cgd_turn(
     requires r_long { length r.old ≡ system.square.n }
     requires p_long { length p.now ≡ system.square.n }
     requires ap_long { length ap.old ≡ system.square.n }
-    ensures turn { (a : List Float) → system.entry.square.cells.now ≡ square_of system.entry.square.n a
+    ensures turn { (a : List Float)
+        → system.entry.square.cells.now ≡ square_of system.entry.square.n a
         → turn_end system.entry.square.n p.now s x.new r.new result
         ≡ turn a system.entry.square.n system.entry.b.now (cgd_of x.old r.old p.now s) }
     ensures counted { result.k ≡ s.k + 1 }
@@ -382,7 +383,8 @@ pub fn linear_cgd(a: Symmetric<'_>, b: &[f64], x: &mut [f64], max_iters: usize, 
     ensures { x.new ≡ linear_cgd a.entry.cells.now a.entry.n b.now x.old max_iters }
 {
     let n = a.n;
-    // Each as long as the longest i-vector, with no heap; the front is cut out, as of scratch and b.
+    // Each as long as the longest i-vector, with no heap; the front is cut out, as of scratch and
+    // b.
     let mut start = [0.0f64; 128];
     let mut r = [0.0f64; 128];
     let mut p = [0.0f64; 128];

@@ -149,8 +149,8 @@ fn begin_sums(rows: &[f64], s: usize, x: &[f64], out: &mut [f64]) -> usize
 }
 
 /// Adds up the rows, which stand s apart, each times its element of x: of each row as many numbers
-/// as there are sums. Four rows in a pass over the sums, and each sum in the order of the rows. Of a
-/// matrix that is laid out square, and of a vector, that is their product.
+/// as there are sums. Four rows in a pass over the sums, and each sum in the order of the rows. Of
+/// a matrix that is laid out square, and of a vector, that is their product.
 pub fn weighted_rows(rows: &[f64], s: usize, x: &[f64], out: &mut [f64])
     requires apart { length out.old ≤ s }
     requires rows_in { length x.now * s ≤ length rows.now }

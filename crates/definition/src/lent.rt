@@ -1,6 +1,6 @@
 //! What a call is lent: slices that always travel together. Each is a few references, and copies
-//! nothing. What is only read is `Copy` and goes by value; what is written into goes behind `&mut`, and
-//! each function that does so says by a clause that its slices stay the same ones, `Same..` of
+//! nothing. What is only read is `Copy` and goes by value; what is written into goes behind `&mut`,
+//! and each function that does so says by a clause that its slices stay the same ones, `Same..` of
 //! specs/Lent.antt (limit: loans).
 
 ghost use Rattle.std.specs.Prelude.{◌≡◌};

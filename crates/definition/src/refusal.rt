@@ -1,4 +1,5 @@
-//! Why a call is not taken. The definitions speak of refusals by their numbers, as the C interface does; the code by this enum.
+//! Why a call is not taken. The definitions speak of refusals by their numbers, as the C interface
+//! does; the code by this enum.
 
 ghost use Rattle.std.specs.Prelude.{◌≡◌, [], ◌∷◌, not};
 ghost use Rattle.loops.specs.Refusal.{first_of};
@@ -71,7 +72,8 @@ pub enum Refusal {
     WindowRange = 31,
     /// The window is above the longest, and older rows are gone.
     OldWindow = 32,
-    /// A seed or a size outside its limits, a list too short for what is drawn, or input that can't be read.
+    /// A seed or a size outside its limits, a list too short for what is drawn, or input that can't
+    /// be read.
     TrySizes = 33,
     /// A list of calls is too short for what it says.
     ListTooShort = 99,

@@ -40,8 +40,8 @@ fn shifted(a: u64, by: u64) -> u64
     (a + (half - 1) + q % 2) >> by
 }
 
-// The pattern of the f32 nearest to the f64 of the pattern a, which has no sign and is no NaN's: x is
-// the exponent's field, q the digits with the leading one.
+// The pattern of the f32 nearest to the f64 of the pattern a, which has no sign and is no NaN's: x
+// is the exponent's field, q the digits with the leading one.
 fn narrow_bits(a: u64) -> u32
     requires { a ≤ 0x7ff0_0000_0000_0000 }
     ensures { result ≡ mag_bits a }
@@ -271,8 +271,8 @@ pub fn is_finite<W: Real>(x: W) -> bool
     x.is_finite()
 }
 
-/// The float nearest to ±m * 10^(up - down), a tie to the even one: by one product or quotient of two
-/// numbers that the format holds.
+/// The float nearest to ±m * 10^(up - down), a tie to the even one: by one product or quotient of
+/// two numbers that the format holds.
 pub fn decimal<W: Arithmetic>(minus: bool, m: u64, up: u64, down: u64) -> W
     requires m_bound { m < 2 ^ prec W.format }
     requires up_bound { (up ≤ down + tens W.format) × (down ≤ up + tens W.format) }

@@ -154,8 +154,8 @@ impl Real for f32 {
         f32_to_f64_with_nan(self)
     }
 
-    // Not the library's: a push asks this of each number of a frame, and the difference, a NaN where
-    // x is not finite, is faster.
+    // Not the library's: a push asks this of each number of a frame, and the difference, a NaN
+    // where x is not finite, is faster.
     #[tactic(auto, using(crate::proofs::Finite::less_itself))]
     fn is_finite(self) -> bool {
         let d = self - self;
@@ -204,8 +204,8 @@ impl Real for f64 {
         self
     }
 
-    // Not the library's: a push asks this of each number of a frame, and the difference, a NaN where
-    // x is not finite, is faster.
+    // Not the library's: a push asks this of each number of a frame, and the difference, a NaN
+    // where x is not finite, is faster.
     #[tactic(auto, using(crate::proofs::Finite::less_itself))]
     fn is_finite(self) -> bool {
         let e = self - self;
@@ -223,7 +223,8 @@ pub trait Arithmetic: Real
     + Neg<Output = Self>
     + Mul<Self, Output = Self>
     + Div<Self, Output = Self> {
-    /// A whole number that the format holds. A method of each type, since `as` takes no type parameter.
+    /// A whole number that the format holds. A method of each type, since `as` takes no type
+    /// parameter.
     fn whole(n: u64) -> Self
         requires { n < 2 ^ prec Self.format }
         ensures { Self.float result ≡ of_int Self.format (pos n) };
@@ -236,7 +237,8 @@ pub trait Arithmetic: Real
     // comparisons and operators are the format's, each rounded once
     ghost eq_is: { (x y : Self) → Self.eq x y ≡ eq (Self.float x) (Self.float y) };
 
-    ghost lt_is: { (x y : Self) → partial_lt Self.partial_cmp x y ≡ lt (Self.float x) (Self.float y) };
+    ghost lt_is: { (x y : Self) → partial_lt Self.partial_cmp x y
+        ≡ lt (Self.float x) (Self.float y) };
 
     ghost may_neg: { (x : Self) → Self.can_neg x };
 
@@ -244,11 +246,13 @@ pub trait Arithmetic: Real
 
     ghost may_mul: { (x y : Self) → Self.can_mul x y };
 
-    ghost mul_is: { (x y z : Self) → Self.mul_gives x y z → Self.float z ≡ mul Self.format (Self.float x) (Self.float y) };
+    ghost mul_is: { (x y z : Self) → Self.mul_gives x y z
+        → Self.float z ≡ mul Self.format (Self.float x) (Self.float y) };
 
     ghost may_div: { (x y : Self) → Self.can_div x y };
 
-    ghost div_is: { (x y z : Self) → Self.div_gives x y z → Self.float z ≡ div Self.format (Self.float x) (Self.float y) };
+    ghost div_is: { (x y z : Self) → Self.div_gives x y z
+        → Self.float z ≡ div Self.format (Self.float x) (Self.float y) };
 }
 
 impl Arithmetic for f32 {
@@ -305,7 +309,8 @@ impl Arithmetic for f64 {
     }
 }
 
-/// A number that is written at this width, as a table of width `K` keeps it: an f64 is narrowed for a table of f32, and an f32 is an f64 as it stands.
+/// A number that is written at this width, as a table of width `K` keeps it: an f64 is narrowed for
+/// a table of f32, and an f32 is an f64 as it stands.
 pub trait KeepAs<K: Real>: Real {
     fn keep(self) -> K
         ensures { K.float result ≡ kept_as K.format Self.format (Self.float self) };

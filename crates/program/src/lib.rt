@@ -1,3 +1,3 @@
-// The program as its contracts speak of it: a stream's rooms, what lies where in them, and what each call does. No code: the definitions
-// stand in specs/.
+// The program as its contracts speak of it: a stream's rooms, what lies where in them, and what
+// each call does. No code: the definitions stand in specs/.
 #![tactic(auto)]
