@@ -2,13 +2,17 @@
 //! call takes.
 #![tactic(auto)]
 
-ghost use Rattle.std.specs.Prelude.{◌≡◌};
-ghost use Rattle.definition.specs.Number.{numbered};
+ghost use Rattle.std.specs.Prelude.{◌≡◌, ◌≤◌};
+ghost use Rattle.definition.specs.Number.{refused_by, numbered};
+ghost use Rattle.program.specs.Calls.{answer_of};
+ghost use Rattle.stream.specs.Stream.{not_finite_in, nans_in};
 ghost use Rattle.answers.specs.Answers.{no_info, load_answer, no_options, no_stream, new_stream_answer, no_table, new_table_answer};
 
 use definition::{
-    IvectorInfo, IvectorOptions, IvectorStream, Refusal, SilenceWeighting, StreamAnswer, StreamCall,
+    IvectorInfo, IvectorOptions, IvectorStream, Refusal, SilenceWeighting, StreamAnswer,
+    StreamCall, number_or_0,
 };
+use stream::Fetched;
 
 /// The answer of a load: the model's record, or beside a refusal one that no fresh stream takes.
 #[repr(C)]
@@ -91,6 +95,56 @@ pub fn stream_answer(info: IvectorInfo, a: Result<StreamCall, usize>) -> StreamC
             },
             stream: no_stream(info),
         },
+    }
+}
+
+// ---- a call on a stream
+
+// The answer of a call that leaves the record `s`. Beside refusal 10 every count is 0: the record
+// says nothing.
+#[tactic(auto, unfolding(program::specs::Calls::answer_of))]
+fn reply(
+    refusal: usize,
+    s: &IvectorStream,
+    not_finite: usize,
+    nan_likelihoods: usize,
+) -> StreamAnswer
+    requires { (refusal ≡ 10 → ⊥) → (s.now.accepted ≤ 1000000000) × (s.now.mark ≤ 1000000000) }
+    ensures { result ≡ answer_of refusal s.now not_finite nan_likelihoods }
+{
+    if refusal == 10 {
+        return StreamAnswer {
+            refusal,
+            ..StreamAnswer::default()
+        };
+    }
+    let frames_held = limits::frames_held(s.accepted, s.mark);
+    let rows_held = limits::rows_held(s.longest, s.accepted, s.mark);
+    StreamAnswer {
+        refusal,
+        frames_held,
+        rows_held,
+        not_finite,
+        nan_likelihoods,
+    }
+}
+
+/// The answer of a call that gives no vector and leaves the record `s`.
+pub fn answered(taken: Result<(), Refusal>, s: &IvectorStream) -> StreamAnswer
+    requires { (refused_by taken ≡ 10 → ⊥) → (s.now.accepted ≤ 1000000000) × (s.now.mark ≤ 1000000000) }
+    ensures { result ≡ answer_of (refused_by taken) s.now 0 0 }
+{
+    reply(number_or_0(taken), s, 0, 0)
+}
+
+/// The answer of a fetch that leaves the record `s`.
+pub fn fetch_answer(taken: Result<Fetched, Refusal>, s: &IvectorStream) -> StreamAnswer
+    requires { (refused_by taken ≡ 10 → ⊥) → (s.now.accepted ≤ 1000000000) × (s.now.mark ≤ 1000000000) }
+    ensures { result ≡ answer_of (refused_by taken) s.now (not_finite_in taken) (nans_in taken) }
+{
+    match taken {
+        Ok(told) => reply(0, s, told.not_finite, told.nan_likelihoods),
+        Err(e) => reply(e.number(), s, 0, 0),
     }
 }
 

@@ -23,4 +23,4 @@ pub mod Taken
 pub mod Vector
 pub mod FetchRefusals
 mod Short
-pub mod Fetched
+pub mod FetchSteps

@@ -1,3 +1,5 @@
+-- A stream in the definitions' words, and what a call on it leaves.
+pub mod Stream
 -- Words of inner contracts.
 pub mod Inner
 -- frame_views: the views of a frame.

@@ -7,14 +7,13 @@ ghost use mathlib.Core.List.{◌∷◌, foldl};
 ghost use Rattle.loops.specs.Lists.{build, those, any_of};
 ghost use Rattle.loops.specs.Ring.{put};
 ghost use Rattle.floats.specs.Operators.{at};
-ghost use Rattle.definition.specs.Lent.{SameWaiting};
 ghost use Rattle.definition.specs.Changes.{insert_change, changed, merged};
 ghost use Rattle.definition.specs.Stream.{rising};
 ghost use Rattle.program.specs.Rooms.{waiting_in};
-ghost use Rattle.stream.specs.Waiting.{waiting_of, waiting_changes, InOrder, Holds};
+ghost use Rattle.stream.specs.Waiting.{waiting_changes, InOrder, Holds};
 ghost use Rattle.stream.specs.Inner.DeltaWeights.{inserted_to};
 
-use definition::{LentWaiting, WaitingRooms};
+use definition::LentWaiting;
 
 /// How many of `frames`, which ascend, are up to frame `f`. Searched from the back, where changes
 /// mostly go.
@@ -30,54 +29,53 @@ pub fn up_to(frames: &[usize], f: usize) -> usize
 
 // Moves places k to n - 1 up by one. Not inlined: its loops would take the walk's registers.
 #[inline(never)]
-fn open_place(waiting: &mut WaitingRooms<'_>, k: usize, n: usize)
+fn open_place(frames: &mut [usize], weights: &mut [f32], k: usize, n: usize)
     requires place { k ≤ n }
-    requires frames { n < length waiting.old.frames.now }
-    requires weights { n < length waiting.old.weights.now }
-    ensures frames { waiting.new.frames.now ≡ put (k + 1) (build (n - k) (λ j. get_or waiting.old.frames.now (k + j) 0)) waiting.old.frames.now }
-    ensures weights { waiting.new.weights.now ≡ put (k + 1) (build (n - k) (λ j. at waiting.old.weights.now (k + j))) waiting.old.weights.now }
-    ensures frames_long { length waiting.new.frames.now ≡ length waiting.old.frames.now }
-    ensures weights_long { length waiting.new.weights.now ≡ length waiting.old.weights.now }
-    ensures loans { SameWaiting waiting.old waiting.new }
+    requires frames { n < length frames.old }
+    requires weights { n < length weights.old }
+    ensures frames { frames.new ≡ put (k + 1) (build (n - k) (λ j. get_or frames.old (k + j) 0)) frames.old }
+    ensures weights { weights.new ≡ put (k + 1) (build (n - k) (λ j. at weights.old (k + j))) weights.old }
+    ensures frames_long { length frames.new ≡ length frames.old }
+    ensures weights_long { length weights.new ≡ length weights.old }
 {
-    waiting.frames.copy_within(k..n, k + 1);
-    waiting.weights.copy_within(k..n, k + 1);
+    frames.copy_within(k..n, k + 1);
+    weights.copy_within(k..n, k + 1);
 }
 
 /// Inserts one change behind those of its own frame and of lower ones. `n` changes wait before the
 /// call, n + 1 after it.
-pub fn insert_change(waiting: &mut WaitingRooms<'_>, n: usize, frame: usize, weight: f32)
-    requires frames { n < length waiting.old.frames.now }
-    requires weights { n < length waiting.old.weights.now }
-    requires order { InOrder n waiting.old }
-    ensures changes { Holds (insert_change (waiting_of n waiting.old) (frame, weight)) waiting.old waiting.new }
-    ensures loans { SameWaiting waiting.old waiting.new }
+pub fn insert_change(frames: &mut [usize], weights: &mut [f32], n: usize, frame: usize, weight: f32)
+    requires frames { n < length frames.old }
+    requires weights { n < length weights.old }
+    requires order { InOrder n frames.old }
+    ensures { Holds (insert_change (waiting_in n frames.old weights.old) (frame, weight)) frames.old weights.old frames.new weights.new }
 {
-    let k = up_to(&waiting.lent().frames[..n], frame);
-    open_place(waiting, k, n);
-    waiting.frames[k] = frame;
-    waiting.weights[k] = weight;
+    let k = up_to(&frames[..n], frame);
+    open_place(frames, weights, k, n);
+    frames[k] = frame;
+    weights[k] = weight;
 }
 
 // Inserts changes in the order given. Not inlined: its numbers would take its caller's registers.
 #[inline(never)]
 fn insert_changes(
-    waiting: &mut WaitingRooms<'_>,
+    frames: &mut [usize],
+    weights: &mut [f32],
     n: usize,
     delta_frames: &[usize],
     delta_weights: &[f32],
 )
-    requires frames { n + length delta_frames.now ≤ length waiting.old.frames.now }
-    requires weights { n + length delta_frames.now ≤ length waiting.old.weights.now }
+    requires frames { n + length delta_frames.now ≤ length frames.old }
+    requires weights { n + length delta_frames.now ≤ length weights.old }
     requires paired { length delta_weights.now ≡ length delta_frames.now }
-    requires order { InOrder n waiting.old }
-    ensures changes { Holds (inserted_to (length delta_frames.now) delta_frames.now delta_weights.now (waiting_of n waiting.old)) waiting.old waiting.new }
-    ensures loans { SameWaiting waiting.old waiting.new }
+    requires order { InOrder n frames.old }
+    ensures { Holds (inserted_to (length delta_frames.now) delta_frames.now delta_weights.now (waiting_in n frames.old weights.old))
+        frames.old weights.old frames.new weights.new }
 {
     let m = delta_frames.len();
     // by index: i is a place of both lists and counts the changes that wait
     for i in 0..m {
-        insert_change(waiting, n + i, delta_frames[i], delta_weights[i]);
+        insert_change(frames, weights, n + i, delta_frames[i], delta_weights[i]);
     }
 }
 
@@ -96,35 +94,35 @@ fn past_highest_of(past_highest: usize, delta_frames: &[usize]) -> usize
 /// Inserts the changes of one call into the `n` that wait. It returns one more than the highest
 /// frame ever changed. `delta_frames` and `delta_weights` are of one length.
 pub fn update_frame_weights(
-    waiting: &mut WaitingRooms<'_>,
+    frames: &mut [usize],
+    weights: &mut [f32],
     n: usize,
     past_highest: usize,
     delta_frames: &[usize],
     delta_weights: &[f32],
 ) -> usize
-    requires frames { n + length delta_frames.now ≤ length waiting.old.frames.now }
-    requires weights { n + length delta_frames.now ≤ length waiting.old.weights.now }
+    requires frames { n + length delta_frames.now ≤ length frames.old }
+    requires weights { n + length delta_frames.now ≤ length weights.old }
     requires paired { length delta_weights.now ≡ length delta_frames.now }
-    requires order { InOrder n waiting.old }
+    requires order { InOrder n frames.old }
     requires bound { any_of (leb 1000000000) delta_frames.now ≡ false }
-    ensures changes { Holds (changed (waiting_changes n past_highest waiting.old) delta_frames.now delta_weights.now).waiting waiting.old waiting.new }
-    ensures past_highest { result ≡ (changed (waiting_changes n past_highest waiting.old) delta_frames.now delta_weights.now).past_highest }
-    ensures loans { SameWaiting waiting.old waiting.new }
+    ensures changes { Holds (changed (waiting_changes n past_highest frames.old weights.old) delta_frames.now delta_weights.now).waiting
+        frames.old weights.old frames.new weights.new }
+    ensures past_highest { result ≡ (changed (waiting_changes n past_highest frames.old weights.old) delta_frames.now delta_weights.now).past_highest }
 {
-    insert_changes(waiting, n, delta_frames, delta_weights);
+    insert_changes(frames, weights, n, delta_frames, delta_weights);
     past_highest_of(past_highest, delta_frames)
 }
 
 /// Removes the first `k` of the `n` changes that wait.
-pub fn remove_first(waiting: &mut WaitingRooms<'_>, n: usize, k: usize)
+pub fn remove_first(frames: &mut [usize], weights: &mut [f32], n: usize, k: usize)
     requires within { k ≤ n }
-    requires frames { n ≤ length waiting.old.frames.now }
-    requires weights { n ≤ length waiting.old.weights.now }
-    ensures changes { Holds (drop k (waiting_of n waiting.old)) waiting.old waiting.new }
-    ensures loans { SameWaiting waiting.old waiting.new }
+    requires frames { n ≤ length frames.old }
+    requires weights { n ≤ length weights.old }
+    ensures { Holds (drop k (waiting_in n frames.old weights.old)) frames.old weights.old frames.new weights.new }
 {
-    waiting.frames.copy_within(k..n, 0);
-    waiting.weights.copy_within(k..n, 0);
+    frames.copy_within(k..n, 0);
+    weights.copy_within(k..n, 0);
 }
 
 /// The changes of one frame: the place after the last of them, and the sum of their weights.

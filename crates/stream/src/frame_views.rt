@@ -1,9 +1,5 @@
-// The frame views of a stream: what `IvectorStream` does on its rings.
-//
-// Frames lie in a ring, prefix rows in another: row t begins at (t mod F) * dim, F being how many rows the room has.
-//
-// Each of these methods that writes the CMVN state asks that it has dim + 1 places: a struct around it would be no plainer, since a ghost field beside a `&mut`
-// is not covered, and the fact would stand in the clauses all the same.
+//! The frame views of a stream. Frames lie in a ring, prefix rows in another: row t begins at
+//! (t mod F) * dim, F being how many rows the room has.
 
 mod view;
 
@@ -23,8 +19,7 @@ use gmm::table_sums;
 use view::Places;
 pub use view::{Features, Lda, StreamView};
 
-// n numbers of a ring, from `start` on. Cut by hand: `start` is a step and a wrap from the row before; of `chunks_exact` a row is taken by its number,
-// which is not at hand, so that is no plainer. n is the width of a row, and not the ring's length.
+// n numbers of a ring, from `start` on.
 fn row<T>(ring: &[T], start: usize, n: usize) -> &[T]
     requires { start + n ≤ length ring.now }
     ensures { result.now ≡ take (start + n - start) (drop start ring.now) }
@@ -33,8 +28,9 @@ fn row<T>(ring: &[T], start: usize, n: usize) -> &[T]
     &ring[start..end]
 }
 
-// What a frame gives to a spliced row: a part of the raw store, from where the frame begins, or of the room for normalised rows. Compiled into its caller, as
-// `fetch_frame` and `add_frame` are into theirs: where the LDA is called it is known which of the two it is, so that no row has to ask.
+// What a frame gives to a spliced row: a part of the raw store, from where the frame begins, or of
+// the room for normalised rows. Inlined, as `fetch_frame` and `add_frame` are: the LDA's caller knows
+// which of the two it is, so that no row has to ask.
 #[inline(always)]
 fn spliced_row<'a>(
     raw: &'a [f32],
@@ -60,14 +56,13 @@ fn raw_less_mean(raw: &[f32], cmvn: &[f64], out: &mut [f32])
     ensures { out.new ≡ fill (length raw.now) (λ d. at raw.now d -₃₂ narrowed (at cmvn.now d /₆₄ at cmvn.now (length raw.now))) out.old }
 {
     let count = cmvn[raw.len()];
-    // By index: of what a loop over `iter_mut().zip` writes, an invariant names no element (tried).
+    // by index (limit: zip)
     for d in 0..raw.len() {
         out[d] = raw[d] - floats::narrow(cmvn[d] / count);
     }
 }
 
-// What the LDA starts from. The table may be longer than the sums, and `copy_from_slice` wants two of one length: a loop over a `zip`, which would end by
-// itself, is no plainer.
+// What the LDA starts from. The offset may be longer than the sums.
 fn copy_offset(offset: &[f32], out: &mut [f32])
     requires { length out.old ≤ length offset.now }
     ensures { out.new ≡ fill (length out.old) (at offset.now) out.old }
@@ -116,8 +111,8 @@ impl StreamView<'_> {
         }
     }
 
-    // A normalised frame. The window is taken anew only for a frame whose raw c0 is above `min_energy`; a quieter one goes by what the fetch
-    // before it left, and smooths that again.
+    // A normalised frame. The window is taken anew only for a frame whose raw c0 is above
+    // `min_energy`; a quieter one goes by what the fetch before it left, and smooths that again.
     fn cmvn_frame(&self, p: Places, cmvn: &mut [f64], out: &mut [f32])
         requires there { p.frame < self.now.accepted }
         requires state { length cmvn.old ≡ self.now.dim + 1 }
@@ -131,7 +126,8 @@ impl StreamView<'_> {
         raw_less_mean(row(self.frames, p.here, self.dim), cmvn, out);
     }
 
-    // A frame, fetched: one to be normalised leaves its CMVN state, and its view in the front of the room.
+    // A frame, fetched: one to be normalised leaves its CMVN state, and its view in the front of the
+    // room.
     #[inline(always)]
     fn fetch_frame(&self, features: Features, p: Places, cmvn: &mut [f64], view: &mut [f32])
         requires there { p.frame < self.now.accepted }
@@ -147,8 +143,8 @@ impl StreamView<'_> {
         }
     }
 
-    // A frame, fetched, and added to the LDA's sums. `part` is the rows of the LDA's table for this frame; `view` has room for its normalised
-    // numbers, and raw ones are added where they lie.
+    // A frame, fetched, and added to the LDA's sums. `part` is the rows of the LDA's table for this
+    // frame; `view` has room for its normalised numbers, and raw ones are added where they lie.
     #[inline(always)]
     fn add_frame(
         &self,
@@ -211,7 +207,8 @@ impl StreamView<'_> {
         }
     }
 
-    // From a frame's places to those of frame v, which is the same or the one after it: a step and a wrap each, or none.
+    // From a frame's places to those of frame v, which is the same or the one after it: a step and a
+    // wrap each, or none.
     fn next_places(&self, features: Features, p: Places, v: usize) -> Places
         requires near { (p.frame ≤ v) × (v ≤ p.frame + 1) }
         requires placed { Placed self.now (is_normalized features) p }
@@ -250,10 +247,11 @@ impl StreamView<'_> {
         p
     }
 
-    /// The spliced and LDA-transformed frame t, from raw frames or from normalised ones. The spliced row is nowhere put together: at
-    /// each place of it, the frame's numbers are added where they lie. A repeated frame is fetched again. Where the frames and their windows begin in
-    /// the rings is found once, for the first place; from place to place it is a step and a wrap. Compiled into its caller: a small fetch took
-    /// 1,583,766 instructions where it was not, and 1,421,112 so (counted).
+    /// The spliced and LDA-transformed frame t, from raw frames or from normalised ones. The spliced
+    /// row is nowhere put together: at each place of it, the frame's numbers are added where they
+    /// lie. A repeated frame is fetched again. Where the frames and their windows begin in the rings
+    /// is found once, for the first place; from place to place it is a step and a wrap.
+    // inlined: so each caller's kind of features is known in it
     #[inline(always)]
     pub fn lda_frame(
         &self,
@@ -278,7 +276,7 @@ impl StreamView<'_> {
         let mut view = [0.0f32; 64];
         copy_offset(lda.offset, out);
         let mut p = self.first_places(features, t.saturating_sub(self.options.left_context));
-        // Over numbers: n is a part of the table and the place of the next frame, so `chunks_exact` with `enumerate` is no plainer.
+        // by index: n names the part of the table and the place of the next frame
         for n in 0..width {
             let start = n * size;
             let end = start + size;

@@ -2,21 +2,21 @@
 //! solved for.
 
 ghost use Rattle.std.specs.Prelude.{◌≡◌, true, ◌<◌, length};
-ghost use Rattle.definition.specs.Lent.{tables_in, SameEstimate};
+ghost use Rattle.definition.specs.Lent.{tables_in};
 ghost use Rattle.definition.specs.Model.{table_lengths_of, table_sizes, tables_fit, kept_tables, Model, model_in};
 ghost use Rattle.definition.specs.Views.{Frames};
 ghost use Rattle.definition.specs.Changes.{Batch};
 ghost use Rattle.definition.specs.Estimate.{Estimate, nans_over, updated};
 ghost use Rattle.definition.specs.Stream.{record_sound, rooms_fit};
 ghost use Rattle.program.specs.Rooms.{EstimateRooms, estimate_from, rooms_from, room_lengths_of, ring_frames, estimate_at};
-ghost use Rattle.program.specs.Lent.{rings_in, estimate_of};
+ghost use Rattle.program.specs.Lent.{rings_in};
 ghost use Rattle.program.specs.Calls.{over_estimate};
 ghost use Rattle.stream.specs.Inner.IvectorBatch.{batch_in, places_of, Held};
 ghost use Rattle.stream.specs.Fetched.{model_of, frames_of, whole_of};
 ghost use Rattle.stream.specs.Inner.IvectorUpdate.{Solvable, learnt, RoomsFit, SameRooms};
 
 use crate::ivector_batch::{FetchBatch, Intake};
-use definition::{IvectorInfo, LentEstimate, LentFrames, LentTables};
+use definition::{IvectorInfo, LentFrames, LentTables};
 use gmm::batch_sums::RunningSums;
 use gmm::diag_gmm::LikeRooms;
 use ivector_stats::{LentStatistics, LentSums, Statistics};
@@ -42,18 +42,20 @@ pub struct GaussianRooms<'a> {
 fn update_batch(
     batch: &FetchBatch<'_>,
     num_frames: f64,
-    estimate: &mut LentEstimate<'_>,
+    cmvn_stats: &mut [f64],
+    linear: &mut [f64],
+    quadratic: &mut [f64],
+    current: &mut [f64],
     scratch: &mut [f64],
     rooms: &mut GaussianRooms<'_>,
 ) -> Update
     requires some { 0 < places_of batch.now.intake }
-    requires solvable { Solvable batch.now (estimate_of estimate.old) (length scratch.old) }
+    requires solvable { Solvable batch.now (estimate_from cmvn_stats.old linear.old quadratic.old current.old) (length scratch.old) }
     requires rooms { RoomsFit batch.now.info.dims.num_gauss rooms.old }
-    ensures learnt { learnt result.num_frames (estimate_of estimate.new)
-        ≡ updated (model_of batch.now) (frames_of batch.now) (whole_of batch.now) (learnt num_frames (estimate_of estimate.old)) }
-    ensures nans { result.nans ≡ nans_over (model_of batch.now) (frames_of batch.now) (whole_of batch.now) estimate.old.cmvn_stats.now }
-    ensures loans { SameEstimate estimate.old estimate.new }
-    ensures room_loans { SameRooms rooms.old rooms.new }
+    ensures learnt { learnt result.num_frames (estimate_from cmvn_stats.new linear.new quadratic.new current.new)
+        ≡ updated (model_of batch.now) (frames_of batch.now) (whole_of batch.now) (learnt num_frames (estimate_from cmvn_stats.old linear.old quadratic.old current.old)) }
+    ensures nans { result.nans ≡ nans_over (model_of batch.now) (frames_of batch.now) (whole_of batch.now) cmvn_stats.old }
+    ensures loans { SameRooms rooms.old rooms.new }
 {
     let mut likes = LikeRooms {
         likes: rooms.likes,
@@ -65,11 +67,11 @@ fn update_batch(
         tot: rooms.tot,
         sum: scratch,
     };
-    let nans = batch.take_batch(estimate.cmvn_stats, &mut likes, &mut sums);
+    let nans = batch.take_batch(cmvn_stats, &mut likes, &mut sums);
     let mut stats = Statistics {
         num_frames,
-        linear: estimate.linear,
-        quadratic: estimate.quadratic,
+        linear,
+        quadratic,
     };
     let t = batch.tables;
     ivector_stats::acc(
@@ -80,7 +82,7 @@ fn update_batch(
         &mut stats,
     );
     let learnt = stats.lent();
-    ivector_stats::get_ivector(batch.info, learnt, estimate.current, scratch);
+    ivector_stats::get_ivector(batch.info, learnt, current, scratch);
     Update {
         num_frames: stats.num_frames,
         nans,
@@ -89,7 +91,6 @@ fn update_batch(
 
 /// Adds the batch to the statistics, where it is not empty, and solves for the current vector.
 /// `scratch` has `num_gauss * feat_dim` numbers or more, and `s * s` or more.
-// the estimate comes slice by slice (limit: cut struct)
 pub fn update_stats_until(
     batch: &FetchBatch<'_>,
     num_frames: f64,
@@ -117,12 +118,6 @@ pub fn update_stats_until(
             nans: 0,
         };
     }
-    let mut estimate = LentEstimate {
-        cmvn_stats,
-        linear,
-        quadratic,
-        current,
-    };
     // arrays, as there is no heap; few Gaussians have small ones: clearing 1,024 would cost more
     // than the work
     if g <= 64 {
@@ -136,7 +131,9 @@ pub fn update_stats_until(
             seen: &mut seen[..g],
             tot: &mut tot[..g],
         };
-        return update_batch(batch, num_frames, &mut estimate, scratch, &mut rooms);
+        return update_batch(
+            batch, num_frames, cmvn_stats, linear, quadratic, current, scratch, &mut rooms,
+        );
     }
     let mut likes = [0.0f32; 1024];
     let mut squares = [0.0f32; 1024];
@@ -148,7 +145,9 @@ pub fn update_stats_until(
         seen: &mut seen[..g],
         tot: &mut tot[..g],
     };
-    update_batch(batch, num_frames, &mut estimate, scratch, &mut rooms)
+    update_batch(
+        batch, num_frames, cmvn_stats, linear, quadratic, current, scratch, &mut rooms,
+    )
 }
 
 // The tables, each cut to the length that the record states: C may lend longer ones.
@@ -185,23 +184,25 @@ pub fn update_rooms(
     tables: LentTables<'_>,
     held: LentFrames<'_>,
     num_frames: f64,
-    estimate: &mut LentEstimate<'_>,
+    cmvn_stats: &mut [f64],
+    linear: &mut [f64],
+    quadratic: &mut [f64],
+    current: &mut [f64],
     scratch: &mut [f64],
 ) -> Update
     requires sound { record_sound info ≡ true }
     requires tables_fit { tables_fit info.opts info.dims (table_lengths_of (tables_in tables)) ≡ true }
-    requires rooms_fit { rooms_fit info.dims (room_lengths_of (rooms_from (rings_in held intake.waiting) (estimate_of estimate.old)) (length scratch.old)) ≡ true }
+    requires rooms_fit { rooms_fit info.dims (room_lengths_of (rooms_from (rings_in held intake.waiting) (estimate_from cmvn_stats.old linear.old quadratic.old current.old)) (length scratch.old)) ≡ true }
     requires held { Held info.opts intake }
-    ensures learnt { (
+    ensures { (
         let M : Model = model_in info (tables_in tables.entry) in
-        let z : EstimateRooms = estimate_of estimate.old in
+        let z : EstimateRooms = estimate_from cmvn_stats.old linear.old quadratic.old current.old in
         let F : Frames = ring_frames info.dims.base_dim intake.entry.accepted held.entry.frames.now held.entry.rows.now in
         let bs : Batch = batch_in info.opts intake.entry in
         let e : Estimate = updated M F bs (estimate_at info.dims num_frames z) in
         (result.num_frames ≡ e.stats.num_frames)
-        × (estimate_of estimate.new ≡ over_estimate e z)
+        × (estimate_from cmvn_stats.new linear.new quadratic.new current.new ≡ over_estimate e z)
         × (result.nans ≡ nans_over M F bs (estimate_at info.dims num_frames z).cmvn)) }
-    ensures loans { SameEstimate estimate.old estimate.new }
 {
     let s = info.dims.ivector_dim;
     let row = info.dims.base_dim + 1;
@@ -215,10 +216,10 @@ pub fn update_rooms(
     update_stats_until(
         &batch,
         num_frames,
-        &mut estimate.cmvn_stats[..row],
-        &mut estimate.linear[..s],
-        &mut estimate.quadratic[..packed],
-        &mut estimate.current[..s],
+        &mut cmvn_stats[..row],
+        &mut linear[..s],
+        &mut quadratic[..packed],
+        &mut current[..s],
         scratch,
     )
 }

@@ -1,5 +1,5 @@
-//! A stream of frames: what it keeps, what its calls refuse, and the calls on it. `ivector_stream`
-//! has the calls but for the fetch, which is `ivector_fetch`.
+//! A stream of frames: what it keeps, what its calls refuse, and the calls on it, which are methods
+//! of [`Stream`].
 #![tactic(auto)]
 
 pub mod delta_weights;
@@ -9,3 +9,6 @@ pub mod ivector_fetch;
 pub mod ivector_stream;
 pub mod ivector_update;
 pub mod stream_refusals;
+pub mod stream_rooms;
+
+pub use stream_rooms::{Fetched, Stream};

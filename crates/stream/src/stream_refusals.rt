@@ -10,40 +10,12 @@ ghost use Rattle.definition.specs.Number.{refused_by};
 ghost use Rattle.definition.specs.Machine.{frames_held, rows_held, waiting_room, push_tests};
 ghost use Rattle.definition.specs.Stream.{new_refusal};
 ghost use Rattle.program.specs.Rooms.{ring_at};
-ghost use Rattle.program.specs.Lent.{rings_in};
+ghost use Rattle.stream.specs.Stream.{record_of, rings_of};
 ghost use Rattle.program.specs.Calls.{record_tests, push_frame, update_frame_weights, set_cmn_window};
 
+use crate::stream_rooms::Stream;
 use algebra::basics;
-use definition::{
-    Dimensions, IvectorInfo, IvectorStream, LentFrames, LentWaiting, Refusal, RingLengths,
-    RoomLengths, TableLengths, need,
-};
-
-// ---- every call
-
-/// `ForeignRecord`, which every call asks: the rings have other lengths than the record states, or
-/// no call made the record.
-#[inline(always)]
-#[tactic(auto, unfolding(loops::specs::Refusal::first_of, definition::specs::Stream::same_rings))]
-pub fn plain_refusal(
-    s: &IvectorStream,
-    frames: LentFrames<'_>,
-    waiting: LentWaiting<'_>,
-) -> Result<(), Refusal>
-    ensures { refused_by result ≡ first_of (record_tests s.now (rings_in frames.entry waiting.entry)) }
-{
-    let lent = RingLengths {
-        frames: frames.frames.len(),
-        rows: frames.rows.len(),
-        waiting_frames: waiting.frames.len(),
-        waiting_weights: waiting.weights.len(),
-    };
-    need(lent == s.lengths.rings, Refusal::ForeignRecord)?;
-    need(
-        !limits::is_foreign(s, waiting.frames),
-        Refusal::ForeignRecord,
-    )
-}
+use definition::{Dimensions, IvectorInfo, Refusal, RingLengths, RoomLengths, TableLengths, need};
 
 // ---- a fresh stream
 
@@ -115,28 +87,6 @@ fn push_tests(
     need((rows_held + 1) * d.base_dim <= own.rows, Refusal::RowsFull)
 }
 
-/// What a push refuses.
-#[inline(always)]
-#[tactic(auto, unfolding(loops::specs::Refusal::first_of, program::specs::Calls::push_frame))]
-pub fn push_refusal(
-    s: &IvectorStream,
-    frame: &[f32],
-    frames: LentFrames<'_>,
-    waiting: LentWaiting<'_>,
-) -> Result<(), Refusal>
-    ensures { refused_by result ≡ (push_frame s.now (rings_in frames.entry waiting.entry) frame.now).refusal }
-{
-    plain_refusal(s, frames, waiting)?;
-    push_tests(
-        s.info.dims,
-        s.lengths.rings,
-        s.longest,
-        s.accepted,
-        s.mark,
-        frame,
-    )
-}
-
 // Stores a frame from place a on.
 #[tactic(auto, using(loops::proofs::Std::put_std))]
 fn put_frame(frames: &mut [f32], a: usize, frame: &[f32])
@@ -203,54 +153,97 @@ fn has_places(own: RingLengths, waiting: usize, n: usize) -> bool
     n <= room && waiting <= room - n
 }
 
-/// What a change call refuses.
-#[tactic(auto, unfolding(loops::specs::Refusal::first_of, program::specs::Calls::update_frame_weights, definition::specs::Machine::change_tests))]
-pub fn change_refusal(
-    s: &IvectorStream,
-    delta_frames: &[usize],
-    delta_weights: &[f32],
-    frames: LentFrames<'_>,
-    waiting: LentWaiting<'_>,
-) -> Result<(), Refusal>
-    ensures { refused_by result
-        ≡ (update_frame_weights s.now (rings_in frames.entry waiting.entry) delta_frames.now delta_weights.now).refusal }
-{
-    plain_refusal(s, frames, waiting)?;
-    need(
-        delta_frames.len() == delta_weights.len() && delta_frames.len() <= 384,
-        Refusal::ChangeList,
-    )?;
-    need(
-        !any_from(delta_frames, 1000000000) && !any_not_finite(delta_weights),
-        Refusal::ChangeNumber,
-    )?;
-    need(!any_below(delta_frames, 0, s.floor), Refusal::Forgotten)?;
-    need(
-        !any_below(delta_frames, s.info.opts.left_context, s.mark),
-        Refusal::FrameGone,
-    )?;
-    need(
-        has_places(s.lengths.rings, s.waiting, delta_frames.len()),
-        Refusal::WaitingFull,
-    )
-}
+// ---- what the calls refuse
 
-// ---- a new window
+impl Stream<'_> {
+    /// `ForeignRecord`, which every call asks: the rings have other lengths than the record states, or
+    /// no call made the record.
+    #[inline(always)]
+    #[tactic(auto, unfolding(loops::specs::Refusal::first_of, definition::specs::Stream::same_rings))]
+    pub fn plain_refusal(&self) -> Result<(), Refusal>
+        ensures { refused_by result ≡ first_of (record_tests (record_of self.now) (rings_of self.now)) }
+    {
+        let lent = RingLengths {
+            frames: self.frames.len(),
+            rows: self.rows.len(),
+            waiting_frames: self.waiting_frames.len(),
+            waiting_weights: self.waiting_weights.len(),
+        };
+        need(lent == self.record.lengths.rings, Refusal::ForeignRecord)?;
+        need(
+            !limits::is_foreign(self.record, self.waiting_frames),
+            Refusal::ForeignRecord,
+        )
+    }
 
-/// What a new window refuses.
-#[tactic(auto, unfolding(loops::specs::Refusal::first_of, program::specs::Calls::set_cmn_window, definition::specs::Machine::window_tests))]
-pub fn window_refusal(
-    s: &IvectorStream,
-    window: usize,
-    frames: LentFrames<'_>,
-    waiting: LentWaiting<'_>,
-) -> Result<(), Refusal>
-    ensures { refused_by result ≡ (set_cmn_window s.now (rings_in frames.entry waiting.entry) window).refusal }
-{
-    plain_refusal(s, frames, waiting)?;
-    need(limits::window_in_range(window), Refusal::WindowRange)?;
-    need(
-        window <= s.longest || s.mark < s.longest,
-        Refusal::OldWindow,
-    )
+    /// What a push refuses.
+    #[inline(always)]
+    #[tactic(auto, unfolding(loops::specs::Refusal::first_of, program::specs::Calls::push_frame))]
+    pub fn push_refusal(&self, frame: &[f32]) -> Result<(), Refusal>
+        ensures { refused_by result ≡ (push_frame (record_of self.now) (rings_of self.now) frame.now).refusal }
+    {
+        self.plain_refusal()?;
+        push_tests(
+            self.record.info.dims,
+            self.record.lengths.rings,
+            self.record.longest,
+            self.record.accepted,
+            self.record.mark,
+            frame,
+        )
+    }
+
+    /// What a change call refuses.
+    #[tactic(auto, unfolding(loops::specs::Refusal::first_of, program::specs::Calls::update_frame_weights, definition::specs::Machine::change_tests))]
+    pub fn change_refusal(
+        &self,
+        delta_frames: &[usize],
+        delta_weights: &[f32],
+    ) -> Result<(), Refusal>
+        ensures { refused_by result
+            ≡ (update_frame_weights (record_of self.now) (rings_of self.now) delta_frames.now delta_weights.now).refusal }
+    {
+        self.plain_refusal()?;
+        need(
+            delta_frames.len() == delta_weights.len() && delta_frames.len() <= 384,
+            Refusal::ChangeList,
+        )?;
+        need(
+            !any_from(delta_frames, 1000000000) && !any_not_finite(delta_weights),
+            Refusal::ChangeNumber,
+        )?;
+        need(
+            !any_below(delta_frames, 0, self.record.floor),
+            Refusal::Forgotten,
+        )?;
+        need(
+            !any_below(
+                delta_frames,
+                self.record.info.opts.left_context,
+                self.record.mark,
+            ),
+            Refusal::FrameGone,
+        )?;
+        need(
+            has_places(
+                self.record.lengths.rings,
+                self.record.waiting,
+                delta_frames.len(),
+            ),
+            Refusal::WaitingFull,
+        )
+    }
+
+    /// What a new window refuses.
+    #[tactic(auto, unfolding(loops::specs::Refusal::first_of, program::specs::Calls::set_cmn_window, definition::specs::Machine::window_tests))]
+    pub fn window_refusal(&self, window: usize) -> Result<(), Refusal>
+        ensures { refused_by result ≡ (set_cmn_window (record_of self.now) (rings_of self.now) window).refusal }
+    {
+        self.plain_refusal()?;
+        need(limits::window_in_range(window), Refusal::WindowRange)?;
+        need(
+            window <= self.record.longest || self.record.mark < self.record.longest,
+            Refusal::OldWindow,
+        )
+    }
 }

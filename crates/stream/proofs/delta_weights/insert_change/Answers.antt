@@ -7,12 +7,12 @@ use Rattle.definition.specs.Changes.{Change}
 use Rattle.stream.proofs.Inserted.{insert_frames, insert_weights}
 use Rattle.stream.proofs.delta_weights.insert_change.Goals as goal
 
-pub returns-clause-changes : goal.returns-clause-changes
-returns-clause-changes c =
-    let fs = c.args.waiting.now.frames.now in
+pub returns : goal.returns
+returns c =
+    let fs = c.args.frames.now in
     let change : Change = (c.args.frame, c.args.weight) in
     let pre = c.requires in
-    let e = rw c.lent.ensures.frames at c.up_to-k.ensures in
+    let e = c.up_to-k.ensures in
     let k : c.up_to-k.result ≤ c.args.n = omega (arith, e.1, length-take-le c.args.n fs) in
     let moved = c.open_place.ensures in
     (insert_frames _ _ _ _ change k pre.order e.0 pre.frames moved.frames, insert_weights _ _ _ _ change k pre.order e.0 pre.frames pre.weights moved.weights)

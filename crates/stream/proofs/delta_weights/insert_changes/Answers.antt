@@ -1,5 +1,4 @@
 -- `insert_changes` meets its contract, by the invariant in Invariants.antt (`Now` and `call_turn` in Inserted.antt).
-use mathlib.Core.Path.{refl, ◌∙◌}
 use native.Mathlib.Omega.{arith}
 use Rattle.loops.specs.Lists.{over}
 use Rattle.loops.proofs.Loop.{at_end}
@@ -10,14 +9,13 @@ use Rattle.stream.proofs.delta_weights.insert_changes.Goals as goal
 
 pub loop-i-init : goal.loop-i-init
 loop-i-init c =
-    let fs = c.args.waiting.now.frames.now in
-    let ws = c.args.waiting.now.weights.now in
+    let fs = c.args.frames.now in
+    let ws = c.args.weights.now in
     let f = frames_waiting c.args.n fs ws (omega arith) in
     let w = weights_waiting c.args.n fs ws (omega arith) in
     record {
       few = omega arith;
       changes = (call_none _ _ _ _ _ (λ d. d.0) fs (omega arith) f, call_none _ _ _ _ _ (λ d. d.1) ws (omega arith) w);
-      loans = (refl, refl);
     }
 
 pub insert_change-requires-clause-frames : goal.insert_change-requires-clause-frames
@@ -36,25 +34,23 @@ pub loop-i-preserved : goal.loop-i-preserved
 loop-i-preserved c =
     let loop = c.loop-i.invariant in
     let h = loop.changes in
-    let e = c.insert_change.ensures.changes in
-    let s = c.insert_change.ensures.loans in
+    let e = c.insert_change.ensures in
     let i = c.loop-i.i in
     record {
       few = omega (arith, c.loop-i-test.true);
       changes = (
-        call_turn _ _ _ _ _ i h.0 h.1 (λ d. d.0) c.args.waiting.now.frames.now h.0 e.0,
-        call_turn _ _ _ _ _ i h.0 h.1 (λ d. d.1) c.args.waiting.now.weights.now h.1 e.1,
+        call_turn _ _ _ _ _ i h.0 h.1 (λ d. d.0) c.args.frames.now h.0 e.0,
+        call_turn _ _ _ _ _ i h.0 h.1 (λ d. d.1) c.args.weights.now h.1 e.1,
       );
-      loans = (s.0 ∙ loop.loans.0, s.1 ∙ loop.loans.1);
     }
 
-pub returns-clause-changes : goal.returns-clause-changes
-returns-clause-changes c =
+pub returns : goal.returns
+returns c =
     let loop = c.loop-i in
     let h = loop.invariant in
     let a = c.args in
-    let fs = a.waiting.now.frames.now in
-    let ws = a.waiting.now.weights.now in (
+    let fs = a.frames.now in
+    let ws = a.weights.now in (
       at_end (λ j. over (frames_of (Now a.delta_frames.now a.delta_weights.now a.n fs ws j)) fs) loop.i _ h.few c.loop-i-test.false h.changes.0,
       at_end (λ j. over (weights_of (Now a.delta_frames.now a.delta_weights.now a.n fs ws j)) ws) loop.i _ h.few c.loop-i-test.false h.changes.1,
     )

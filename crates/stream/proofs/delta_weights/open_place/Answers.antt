@@ -6,7 +6,7 @@ use Rattle.stream.proofs.Inserted.{moved_up}
 use Rattle.stream.proofs.delta_weights.open_place.Goals as goal
 
 pub returns-clause-frames : goal.returns-clause-frames
-returns-clause-frames c = c.copy_within.ensures.after ∙ moved_up 0 c.args.waiting.now.frames.now c.args.k _ _ (omega arith)
+returns-clause-frames c = c.copy_within.ensures.after ∙ moved_up 0 c.args.frames.now c.args.k _ _ (omega arith)
 
 pub returns-clause-weights : goal.returns-clause-weights
-returns-clause-weights c = c.copy_within-2.ensures.after ∙ moved_up nan c.args.waiting.now.weights.now c.args.k _ _ (omega arith)
+returns-clause-weights c = c.copy_within-2.ensures.after ∙ moved_up nan c.args.weights.now c.args.k _ _ (omega arith)

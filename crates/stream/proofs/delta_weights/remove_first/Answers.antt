@@ -10,12 +10,12 @@ use Rattle.program.specs.Rooms.{waiting_in}
 use Rattle.stream.proofs.Inserted.{moved_down, removed}
 use Rattle.stream.proofs.delta_weights.remove_first.Goals as goal
 
-pub returns-clause-changes : goal.returns-clause-changes
+pub returns : goal.returns
 unfolding waiting_in
-returns-clause-changes c =
+returns c =
     let a = c.args in
-    let fs = a.waiting.now.frames.now in
-    let ws = a.waiting.now.weights.now in
+    let fs = a.frames.now in
+    let ws = a.weights.now in
     let g : ℕ → Change = λ j. (get_or fs j 0, at ws j) in (
       c.copy_within.ensures.after ∙ moved_down 0 fs a.k _ (omega arith) ∙ removed (λ d. d.0) g fs a.n a.k c.requires.within,
       c.copy_within-2.ensures.after ∙ moved_down nan ws a.k _ (omega arith) ∙ removed (λ d. d.1) g ws a.n a.k c.requires.within,

@@ -6,7 +6,7 @@ use Rattle.stream.proofs.delta_weights.update_frame_weights.Goals as goal
 
 pub returns-clause-changes : goal.returns-clause-changes
 unfolding changed inserted_to waiting_in
-returns-clause-changes c = c.insert_changes.ensures.changes
+returns-clause-changes c = c.insert_changes.ensures
 
 pub returns-clause-past_highest : goal.returns-clause-past_highest
 unfolding changed

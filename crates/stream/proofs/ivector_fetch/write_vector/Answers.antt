@@ -13,7 +13,7 @@ use Rattle.stream.proofs.ivector_fetch.write_vector.Goals as goal
 
 -- element k of the vector
 abbrev element : Start → ℕ → Float
-element c k = fetched_at c.args.prior_offset k (at c.args.estimate.now.current.now k)
+element c k = fetched_at c.args.prior_offset k (at c.args.current.now k)
 
 pub loop-i-init : goal.loop-i-init
 loop-i-init c = (omega arith, refl, fill_none _ _, bad_none (element (goal.at.loop-i-init c).Start), omega arith)

@@ -14,8 +14,8 @@ use Rattle.stream.proofs.ivector_fetch.write_vector.Given as goal
 abbrev pub invariant-loop-i : goal.invariant-loop-i
 invariant-loop-i l = (l.i ≤ length l.initial.out)
     × (length l.out ≡ length l.initial.out)
-    × (l.out ≡ fill l.i (λ k. to_bits binary32 (fetched_at l.prior_offset k (at l.initial.current k))) l.initial.out)
-    × (l.bad ≡ not_finite (build l.i (λ k. fetched_at l.prior_offset k (at l.initial.current k))))
+    × (l.out ≡ fill l.i (λ k. to_bits binary32 (fetched_at l.prior_offset k (at l.current k))) l.initial.out)
+    × (l.bad ≡ not_finite (build l.i (λ k. fetched_at l.prior_offset k (at l.current k))))
     × (l.bad ≤ l.i)
 
 abbrev pub decreases-loop-i : goal.decreases-loop-i

@@ -13,8 +13,8 @@ use Rattle.definition.specs.Model.{Tables, model}
 use Rattle.definition.specs.Estimate.{Estimate, nans_over, updated}
 use Rattle.definition.specs.Stream.{stream_scratch}
 use Rattle.definition.proofs.Ranges.{Fitting, fitting}
-use Rattle.program.specs.Rooms.{Rooms, rooms_from, room_lengths_of, ring_frames, estimate_at}
-use Rattle.program.specs.Lent.{rings_in, estimate_of}
+use Rattle.program.specs.Rooms.{estimate_from, Rooms, rooms_from, room_lengths_of, ring_frames, estimate_at}
+use Rattle.program.specs.Lent.{rings_in}
 use Rattle.stream.specs.Inner.IvectorBatch.{batch_in, Ready}
 use Rattle.stream.proofs.Rooms.{Sized, sized, ready, rooms-over}
 use Rattle.stream.proofs.ivector_update.update_rooms.Goals.{Start}
@@ -24,7 +24,7 @@ abbrev tables : (c : Start) → Tables
 tables c = tables_in c.args.tables
 
 abbrev rooms : (c : Start) → Rooms
-rooms c = rooms_from (rings_in c.args.held c.args.intake.waiting) (estimate_of c.args.estimate.now)
+rooms c = let a = c.args in rooms_from (rings_in a.held a.intake.waiting) (estimate_from a.cmvn_stats.now a.linear.now a.quadratic.now a.current.now)
 
 -- the estimate by tables that are kept
 abbrev after : (c : Start) → Tables → Estimate
@@ -117,9 +117,9 @@ update_stats_until-requires c =
       factor_fits = omega (arith, z.scratch_fits);
     }
 
-pub returns-clause-learnt : goal.returns-clause-learnt
-returns-clause-learnt c =
-    let o = (goal.at.returns-clause-learnt c).Start in
+pub returns : goal.returns
+returns c =
+    let o = (goal.at.returns c).Start in
     let fit = fits o in
     let left = c.update_stats_until.ensures.learnt ∙ ap (after o) c.kept.ensures in (
       ap (λ (e : Estimate). e.stats.num_frames) left,

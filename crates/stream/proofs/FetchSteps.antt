@@ -52,20 +52,21 @@ those_pass p d [] k l = absurd (omega arith)
 those_pass p d (x ∷ xs) k l =
     by-test (p x) (λ t. rw t (first_pass p d x (those p xs) t (λ j m. those_pass p d xs j m) k (rw t at l))) (λ t. rw t (those_pass p d xs k (rw t at l)))
 
--- a refusal by lengths and frames that code has for others
-pub refused_as : (s : IvectorStream) (z : RoomLengths) (f n : ℕ) {t t' : TableLengths} {fs fs' : List ℕ} {r : ℕ} → t' ≡ t → fs' ≡ fs → r ≡ fetch_refusal s t' z fs' f n → r ≡ fetch_refusal s t z fs f n
-refused_as s z f n p q e = e ∙ ap₂ (λ (t : TableLengths) (fs : List ℕ). fetch_refusal s t z fs f n) p q
+-- the refusal of a step is that of its tests
+pub asked : (s : IvectorStream) (t : Tables) (z : Rooms) (n f m : ℕ) → (get_frame s t z n f m).refusal ≡ 0
+    → fetch_refusal s (table_lengths_of t) (room_lengths_of z n) z.rings.waiting_frames f m ≡ 0
+unfolding get_frame
+asked s t z n f m e = e
+
+-- a fetch leaves the model as it is
+pub prior_is : (s : IvectorStream) (t : Tables) (z : Rooms) (f : ℕ) {r : IvectorStream} → r ≡ fetch_stream s t z f → r.info.prior_offset ≡ s.info.prior_offset
+unfolding fetch_stream
+prior_is s t z f e = ap (λ (r : IvectorStream). r.info.prior_offset) e
 
 -- how many are up to f, from a list that code was lent for another
 pub counted : (f w : ℕ) {fs fs' : List ℕ} {n : ℕ} → fs' ≡ fs → w ≤ length fs → (n ≡ length (those (λ g. leb g f) (take w fs'))) × (n ≤ length (take w fs'))
     → (n ≡ length (those (λ g. leb g f) (take w fs))) × (n ≤ w)
 counted f w {fs} e l (c, m) = (rw (← e) c, omega (arith, m, length-take-le w fs l, ap (λ (x : List ℕ). length (take w x)) e))
-
--- whatever the waiting changes are, the rooms are as they were
-pub rooms_fit_by : (d : Dimensions) (z : Rooms) (n : ℕ) (fs : List ℕ) (ws : List Float) → rooms_fit d (room_lengths_of z n) ≡ true
-    → rooms_fit d (room_lengths_of (rooms_from (rings_from z.rings.frames z.rings.rows fs ws) z.estimate) n) ≡ true
-unfolding rooms_fit
-rooms_fit_by d z n fs ws h = h
 
 module _ (s : IvectorStream) (z : Rooms) (f : ℕ) where
   -- the model's record with the window in force
