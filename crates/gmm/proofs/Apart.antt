@@ -12,7 +12,7 @@ use Rattle.loops.specs.Lists.{build, those}
 use Rattle.loops.proofs.Choose.{by-test}
 use Rattle.floats.specs.Operators.{◌+₃₂◌, ◌*₃₂◌, ◌/₃₂◌, zero₃₂, one₃₂}
 use Rattle.definition.specs.Posteriors.{Post, ahead, insert, sorted, or_else, pruned, every, ranked, best_of, renormalised}
-use Rattle.gmm.specs.Inner.Leading.{held}
+use Rattle.gmm.specs.Inner.Leading.{posts_in}
 use Rattle.gmm.specs.Inner.Posteriors.{Fair}
 use Rattle.gmm.proofs.Sorting.{into}
 use Rattle.gmm.proofs.Rooms.{length_held, held_at}
@@ -141,11 +141,11 @@ renormalised-apart min_post {ps} a =
     apart-map (λ p. p.1 *₃₂ (one₃₂ /₃₂ left.1)) (apart-take left.0 a)
 
 -- what that says of the rooms
-pub held_fair : (n r : ℕ) (chosen : List ℕ) (posts : List Float) {ps : List Post} → r ≤ length chosen → r ≤ length posts → held r chosen posts ≡ ps → Apart n ps → Fair n r chosen
+pub held_fair : (n r : ℕ) (chosen : List ℕ) (posts : List Float) {ps : List Post} → r ≤ length chosen → r ≤ length posts → posts_in r chosen posts ≡ ps → Apart n ps → Fair n r chosen
 held_fair n r chosen posts h l e a =
-    let b : Apart n (held r chosen posts) = rw e a in
+    let b : Apart n (posts_in r chosen posts) = rw e a in
     let s = length_held r chosen posts h l in
-    let i : (k : ℕ) → k < r → (get_or (held r chosen posts) k (0, nan)).0 ≡ get_or chosen k 0 = λ k g. ap (λ (p : Post). p.0) (held_at r chosen posts h l (0, nan) k g) in
+    let i : (k : ℕ) → k < r → (get_or (posts_in r chosen posts) k (0, nan)).0 ≡ get_or chosen k 0 = λ k g. ap (λ (p : Post). p.0) (held_at r chosen posts h l (0, nan) k g) in
     record {
       below = λ k g. rw (← i k g) (apart_below (0, nan) k b (omega arith));
       once = λ j k g f q. apart_once (0, nan) j k b g (omega arith) (i j (omega arith) ∙ q ∙ sym (i k f));

@@ -10,7 +10,7 @@ use Rattle.definition.specs.declared.FrameWeight.{FrameWeight}
 use Rattle.definition.specs.declared.FrameWeight.TheVariants.{Skipped, Weighed}
 use Rattle.definition.specs.Posteriors.{Post, select_posteriors, nan_count, posteriors, nans_of}
 use Rattle.definition.specs.Statistics.{Entry, seen}
-use Rattle.gmm.specs.Inner.Leading.{held}
+use Rattle.gmm.specs.Inner.Leading.{posts_in}
 use Rattle.gmm.proofs.Rooms.{held_none, held_build}
 use Rattle.gmm.specs.Batch.{entry_of, scaled_entry, Sums}
 
@@ -28,7 +28,7 @@ sums_on {d} {m} {gs = gs} {tot} {sum} e h = subst (λ (es : List Entry). Sums d 
 -- ---- the entries es, then those of the first i posteriors
 
 module _ (chosen : List ℕ) (posts : List Float) where
-  held_next : (i : ℕ) → i < length chosen → i < length posts → held (i + 1) chosen posts ≡ held i chosen posts ++ ((get_or chosen i 0, at posts i) ∷ [])
+  held_next : (i : ℕ) → i < length chosen → i < length posts → posts_in (i + 1) chosen posts ≡ posts_in i chosen posts ++ ((get_or chosen i 0, at posts i) ∷ [])
   held_next i p q =
       let f : ℕ → Post = λ k. (get_or chosen k 0, at posts k) in
       held_build (i + 1) chosen posts (omega arith) (omega arith) ∙ ap (λ (n : ℕ). build n f) (add-one i) ∙ build_snoc i f
@@ -36,17 +36,17 @@ module _ (chosen : List ℕ) (posts : List Float) where
 
   module _ (es : List Entry) (f : Post → Entry) where
     abbrev pub batch : ℕ → List Entry
-    batch i = es ++ map f (held i chosen posts)
+    batch i = es ++ map f (posts_in i chosen posts)
 
     pub batch_none : es ≡ batch 0
     batch_none = sym (ap (λ (l : List Post). es ++ map f l) (held_none chosen posts) ∙ append-nil es)
 
     pub batch_next : (i : ℕ) → i < length chosen → i < length posts → batch i ++ (f (get_or chosen i 0, at posts i) ∷ []) ≡ batch (i + 1)
     batch_next i p q =
-        append_assoc es (map f (held i chosen posts)) _
-        ∙ ap (λ (l : List Entry). es ++ l) (sym (ap (map f) (held_next i p q) ∙ map-append f (held i chosen posts) ((get_or chosen i 0, at posts i) ∷ [])))
+        append_assoc es (map f (posts_in i chosen posts)) _
+        ∙ ap (λ (l : List Entry). es ++ l) (sym (ap (map f) (held_next i p q) ∙ map-append f (posts_in i chosen posts) ((get_or chosen i 0, at posts i) ∷ [])))
 
-    pub batch_all : (i n : ℕ) → i ≤ n → n ≤ i → batch i ≡ es ++ map f (held n chosen posts)
+    pub batch_all : (i n : ℕ) → i ≤ n → n ≤ i → batch i ≡ es ++ map f (posts_in n chosen posts)
     batch_all i n p q = at_end batch i n p q refl
 
 -- ---- a frame by its weight

@@ -11,7 +11,7 @@ use Rattle.loops.proofs.Tests.{those_all, at_each}
 use Rattle.floats.specs.Operators.{◌+₃₂◌, zero₃₂}
 use Rattle.floats.specs.Ln.{ln_narrow}
 use Rattle.definition.specs.Posteriors.{Post, sorted, or_else, every, max_like, ranked, best_of}
-use Rattle.gmm.specs.Inner.Leading.{held}
+use Rattle.gmm.specs.Inner.Leading.{posts_in}
 use Rattle.gmm.specs.Inner.Posteriors.{likelihoods}
 use Rattle.gmm.proofs.Comparing.{differs, same}
 use Rattle.gmm.proofs.Rooms.{length_held}
@@ -38,8 +38,8 @@ every-all ls = those_all (λ p. true) (every ls) (at_each (λ p. true) (0, nan) 
 module _ (ls : List Float) (k : ℕ) (min_post : Float) {largest : Float} (m : largest ≡ max_like ls) where
   -- the rooms hold n that are above the cutoff
   module _ {ln : Float} (t : ne min_post zero₃₂ ≡ true) (l : ln ≡ ln_narrow min_post) (n : ℕ) (chosen : List ℕ) (posts : List Float)
-      (e : held n chosen posts ≡ ranked k largest (those (λ p. lt (largest +₃₂ ln) p.1) (every ls))) (h : n ≤ length chosen) (h2 : n ≤ length posts) where
-    pub best_some : 0 < n → held n chosen posts ≡ best_of ls k min_post
+      (e : posts_in n chosen posts ≡ ranked k largest (those (λ p. lt (largest +₃₂ ln) p.1) (every ls))) (h : n ≤ length chosen) (h2 : n ≤ length posts) where
+    pub best_some : 0 < n → posts_in n chosen posts ≡ best_of ls k min_post
     unfolding best_of
     best_some g = rw (differs min_post zero₃₂ t, ← m, ← l) (some_left largest (every ls) k _ e (omega (arith, length_held n chosen posts h h2)))
 

@@ -18,7 +18,7 @@ use Rattle.loops.proofs.Tests.{those_append, those_none, at_none}
 use Rattle.floats.specs.Operators.{◌-₃₂◌, at}
 use Rattle.floats.specs.Exp.{exp_of}
 use Rattle.definition.specs.Posteriors.{Post, insert, sorted, every, ranked}
-use Rattle.gmm.specs.Inner.Leading.{held, stays, into, Falling}
+use Rattle.gmm.specs.Inner.Leading.{posts_in, stays, into, Falling}
 use Rattle.gmm.specs.Inner.Posteriors.{likelihoods, Next, passes}
 use Rattle.gmm.specs.Inner.PosteriorsRooms.{Collects}
 use Rattle.gmm.proofs.Sorting.{take_sort, take-insert}
@@ -82,7 +82,7 @@ module _ (cutoff : Option Float) (f : Float → Float) (ls : List Float) (g firs
         more = those_here test ls r h (next.here h) ∙ ap (λ (e : List Post). e ++ (x ∷ [])) (those_before test ls k r next.from next.most next.none ∙ c.more)
             ∙ append_assoc (those test (take g (every ls))) c.found (x ∷ []);
         here = held_put n gauss₁ likes₁ l l2 r (f (at ls r)) ∙ ap (λ (e : List Post). e ++ ((r, f (at ls r)) ∷ [])) c.here
-            ∙ append_assoc (held first gauss likes) (map post c.found) ((r, f (at ls r)) ∷ []) ∙ ap (λ (e : List Post). held first gauss likes ++ e) (sym (map-append post c.found (x ∷ [])));
+            ∙ append_assoc (posts_in first gauss likes) (map post c.found) ((r, f (at ls r)) ∷ []) ∙ ap (λ (e : List Post). posts_in first gauss likes ++ e) (sym (map-append post c.found (x ∷ [])));
       }
 
   -- none is left
@@ -118,7 +118,7 @@ ranked_more k largest ps p =
 module _ (k : ℕ) (cutoff : Option Float) (largest : Float) (ls : List Float) where
   -- what is met first
   -- nothing is held, and nothing is looked at
-  pub few_none : (gauss : List ℕ) (likes : List Float) → held 0 gauss likes ≡ gathered k cutoff largest ls 0
+  pub few_none : (gauss : List ℕ) (likes : List Float) → posts_in 0 gauss likes ≡ gathered k cutoff largest ls 0
   unfolding ranked sorted those
   few_none gauss likes = held_none gauss likes ∙ sym (take-nil k)
 
@@ -136,16 +136,16 @@ module _ (k : ℕ) (cutoff : Option Float) (largest : Float) (ls : List Float) w
       (λ i l s. let same : i ≡ g = omega (arith, l, s) in ap (λ (j : ℕ). passes cutoff (at ls j)) same ∙ t)))
 
   -- what is held falls
-  pub few_fall : (g n : ℕ) (gauss : List ℕ) (posts : List Float) → n ≤ length gauss → n ≤ length posts → held n gauss posts ≡ gathered k cutoff largest ls g → Falling n posts
+  pub few_fall : (g n : ℕ) (gauss : List ℕ) (posts : List Float) → n ≤ length gauss → n ≤ length posts → posts_in n gauss posts ≡ gathered k cutoff largest ls g → Falling n posts
   unfolding ranked
   few_fall g n gauss posts h l e =
-      let o : Ordered (held n gauss posts) = rw e (take_ordered k (sort_ordered (likelihoods largest (those (λ p. passes cutoff p.1) (take g (every ls)))))) in
+      let o : Ordered (posts_in n gauss posts) = rw e (take_ordered k (sort_ordered (likelihoods largest (those (λ p. passes cutoff p.1) (take g (every ls)))))) in
       let m = length_held n gauss posts h l in
       record { behind = λ i j s t. rw (held_at n gauss posts h l (0, nan) i (omega arith), held_at n gauss posts h l (0, nan) j t) at (behind_any (0, nan) i j o s (omega arith)) }
 
   -- what is met first
   pub first_met : {r n : ℕ} {gauss gauss₁ : List ℕ} {likes likes₁ : List Float} → Collects cutoff (λ l. exp_of (l -₃₂ largest)) ls 0 0 r n gauss likes gauss₁ likes₁
-      → held n gauss₁ likes₁ ≡ likelihoods largest (those (λ p. passes cutoff p.1) (take r (every ls)))
+      → posts_in n gauss₁ likes₁ ≡ likelihoods largest (those (λ p. passes cutoff p.1) (take r (every ls)))
   unfolding those
   first_met {gauss = gauss} {likes = likes} c =
       c.here ∙ ap (λ (e : List Post). e ++ likelihoods largest c.found) (held_none gauss likes) ∙ ap (likelihoods largest) (sym c.more)
@@ -158,18 +158,18 @@ module _ (k : ℕ) (cutoff : Option Float) (largest : Float) (ls : List Float) w
   -- more are met, of which those that stay are kept
   pub gather_turn : (bound : Option Float) (l : List Post) (j : ℕ) (gauss₂ : List ℕ) (likes₂ : List Float) {g r m n : ℕ} {gauss gauss₁ : List ℕ} {likes likes₁ : List Float} → Ordered l → m ≤ n → n ≤ length gauss₁ → n ≤ length likes₁
       → m ≤ length gauss → m ≤ length likes
-      → IfSome bound (λ v. k ≤ length (those (stays (Some v)) (held m gauss likes))) → take k (into l (held m gauss likes)) ≡ gathered k cutoff largest ls g
+      → IfSome bound (λ v. k ≤ length (those (stays (Some v)) (posts_in m gauss likes))) → take k (into l (posts_in m gauss likes)) ≡ gathered k cutoff largest ls g
       → Collects cutoff (λ x. exp_of (x -₃₂ largest)) ls g m r n gauss likes gauss₁ likes₁
-      → held j gauss₂ likes₂ ≡ held m gauss₁ likes₁ ++ those (stays bound) (drop m (held n gauss₁ likes₁))
-      → (take k (into l (held j gauss₂ likes₂)) ≡ gathered k cutoff largest ls r) × IfSome bound (λ v. k ≤ length (those (stays (Some v)) (held j gauss₂ likes₂)))
+      → posts_in j gauss₂ likes₂ ≡ posts_in m gauss₁ likes₁ ++ those (stays bound) (drop m (posts_in n gauss₁ likes₁))
+      → (take k (into l (posts_in j gauss₂ likes₂)) ≡ gathered k cutoff largest ls r) × IfSome bound (λ v. k ≤ length (those (stays (Some v)) (posts_in j gauss₂ likes₂)))
   gather_turn bound l j gauss₂ likes₂ {m = m} {n = n} {gauss = gauss} {gauss₁ = gauss₁} {likes = likes} {likes₁ = likes₁} o h l1 l2 h1 h2 enough now c e =
-      let ps : List Post = held m gauss likes in
+      let ps : List Post = posts_in m gauss likes in
       let new : List Post = likelihoods largest c.found in
       let long : length ps ≡ m = length_held m gauss likes h1 h2 in
-      let low : held m gauss₁ likes₁ ≡ ps = sym (held_take n gauss₁ likes₁ l1 l2 m h) ∙ ap (take m) c.here ∙ take_at ps new m long in
-      let high : drop m (held n gauss₁ likes₁) ≡ new = ap (drop m) c.here ∙ drop_at ps new m long in
-      let s : held j gauss₂ likes₂ ≡ ps ++ those (stays bound) new =
-      e ∙ ap (λ (r : List Post). r ++ those (stays bound) (drop m (held n gauss₁ likes₁))) low ∙ ap (λ (r : List Post). ps ++ those (stays bound) r) high in (
+      let low : posts_in m gauss₁ likes₁ ≡ ps = sym (held_take n gauss₁ likes₁ l1 l2 m h) ∙ ap (take m) c.here ∙ take_at ps new m long in
+      let high : drop m (posts_in n gauss₁ likes₁) ≡ new = ap (drop m) c.here ∙ drop_at ps new m long in
+      let s : posts_in j gauss₂ likes₂ ≡ ps ++ those (stays bound) new =
+      e ∙ ap (λ (r : List Post). r ++ those (stays bound) (drop m (posts_in n gauss₁ likes₁))) low ∙ ap (λ (r : List Post). ps ++ those (stays bound) r) high in (
         ap (λ (r : List Post). take k (into l r)) s ∙ sieved_more k bound ps new o enough ∙ gather_more k largest l ps _ c.found c.more now,
         rw s (enough_more k bound ps (those (stays bound) new) enough),
       )

@@ -3,62 +3,33 @@ use mathlib.Core.Path.{◌≡◌, refl, sym, ap, ◌∙◌}
 use mathlib.Core.List.{List, [], ◌∷◌, ◌++◌, map}
 use Prim.Native.Nat.{ℕ, ◌+◌, ◌-◌, ◌≤◌, ◌<◌}
 use native.Mathlib.Omega.{arith}
-use borrow.Author.Tests.{ltb-true, ltb-false, eqb-true, eqb-false}
 use Rattle.std.specs.Prelude.{Option}
-use Rattle.std.proofs.lemmas.List.{get_or-set_same, get_or-set_other}
-use lib.Dec.{ltb, eqb}
 use lib.ListN.{length, get_or, set, take, drop}
 use lib.Seq.{take_at, drop_at}
-use lib.Ieee.{Float, nan}
+use lib.Ieee.{Float}
 use Rattle.loops.specs.Lists.{build}
-use Rattle.loops.proofs.Choose.{by-test}
 use Rattle.loops.proofs.Build.{build_add, build_ext, drop_build, map-build}
 use Rattle.floats.specs.Operators.{◌-₃₂◌, at}
 use Rattle.floats.specs.Exp.{exp_of}
 use Rattle.definition.specs.Posteriors.{Post}
-use Rattle.gmm.specs.Inner.Leading.{held}
+use Rattle.gmm.specs.Inner.Leading.{posts_in}
 use Rattle.gmm.proofs.Rooms.{held_build, length_held, held_take, held_next, held_put}
 use Rattle.gmm.specs.Inner.PosteriorsRooms.{Collects, Likely}
 
-pub likely_none : (first : ℕ) (a : List Float) → Likely first first a a
-likely_none first a = record { made = λ k h l. absurd (omega arith); before = λ k h. refl; past = λ k h. refl }
-
--- one more place
-pub likely_turn : (first j : ℕ) (a b : List Float) (x : Float) → first ≤ j → j < length b → x ≡ exp_of (at b j) → Likely first j a b → Likely first (j + 1) a (set b j x)
-likely_turn first j a b x h l e c =
-    record {
-      made = λ k s t. by-test (eqb k j)
-          (λ u. let q = eqb-true k j u in rw q (get_or-set_same b j x nan l ∙ e ∙ ap exp_of (c.past j (omega arith))))
-          (λ u. let q = eqb-false k j u in get_or-set_other b j k x nan q ∙ c.made k s (omega (arith, t, q)));
-      before = λ k s. get_or-set_other b j k x nan (omega (arith, s, h)) ∙ c.before k s;
-      past = λ k s. get_or-set_other b j k x nan (omega (arith, s)) ∙ c.past k (omega (arith, s));
-    }
-
--- one part after another
-pub likely_join : (first m n : ℕ) (a b c : List Float) → first ≤ m → m ≤ n → Likely first m a b → Likely m n b c → Likely first n a c
-likely_join first m n a b c h l d e =
-    record {
-      made = λ k s t. by-test (ltb k m)
-          (λ u. let q = ltb-true k m u in e.before k q ∙ d.made k s q)
-          (λ u. let q = ltb-false k m u in e.made k q t ∙ ap exp_of (d.past k q));
-      before = λ k s. e.before k (omega arith) ∙ d.before k s;
-      past = λ k s. e.past k s ∙ d.past k (omega arith);
-    }
-
 -- the candidates, with the likelihoods in the place of the differences
 module _ (first n : ℕ) (gauss : List ℕ) (likes likes₁ : List Float) (h : first ≤ n) (l : n ≤ length gauss) (l1 : n ≤ length likes) (l2 : n ≤ length likes₁) where
-  likely_held : Likely first n likes likes₁ → held n gauss likes₁ ≡ held first gauss likes ++ map (λ p. (p.0, exp_of p.1)) (drop first (held n gauss likes))
+  likely_held : Likely first n likes likes₁ → posts_in n gauss likes₁ ≡ posts_in first gauss likes ++ map (λ p. (p.0, exp_of p.1)) (drop first (posts_in n gauss likes))
   likely_held c =
       let m : ℕ = n - first in
       let e : n ≡ first + m = omega arith in
       let before : ℕ → Post = λ k. (get_or gauss k 0, at likes k) in
       let after : ℕ → Post = λ k. (get_or gauss k 0, at likes₁ k) in
       let post : Post → Post = λ p. (p.0, exp_of p.1) in
-      let high : drop first (held n gauss likes) ≡ build m (λ k. before (first + k)) = ap (drop first) (held_build n gauss likes l l1) ∙ drop_build first n before h in
+      let high : drop first (posts_in n gauss likes) ≡ build m (λ k. before (first + k)) = ap (drop first) (held_build n gauss likes l l1) ∙ drop_build first n before h in
       held_build n gauss likes₁ l l2 ∙ ap (λ (k : ℕ). build k after) e ∙ build_add first m after
       ∙ ap (λ (r : List Post). r ++ build m (λ k. after (first + k)))
       (build_ext first after before (λ k s. ap (λ (x : Float). (get_or gauss k 0, x)) (c.before k s)) ∙ sym (held_build first gauss likes (omega arith) (omega arith)))
-      ∙ ap (λ (r : List Post). held first gauss likes ++ r)
+      ∙ ap (λ (r : List Post). posts_in first gauss likes ++ r)
       (build_ext m (λ k. after (first + k)) (λ k. post (before (first + k))) (λ k s. ap (λ (x : Float). (get_or gauss (first + k) 0, x)) (c.made (first + k) (omega arith) (omega arith)))
       ∙ sym (ap (map post) high ∙ map-build post m (λ k. before (first + k))))
 
@@ -70,21 +41,21 @@ pub likely_collects : (cutoff : Option Float) (largest : Float) (ls : List Float
     → n ≤ length gauss₁ → n ≤ length likes₁ → n ≤ length likes₂ → Collects cutoff (λ l. l -₃₂ largest) ls g first r n gauss likes gauss₁ likes₁ → Likely first n likes₁ likes₂
     → Collects cutoff (λ l. exp_of (l -₃₂ largest)) ls g first r n gauss likes gauss₁ likes₂
 likely_collects cutoff largest ls g first r n gauss gauss₁ likes likes₁ likes₂ h f1 f2 l l1 l2 c d =
-    let ps : List Post = held first gauss likes in
+    let ps : List Post = posts_in first gauss likes in
     let new : List Post = map {B = Post} (λ (p : Post). (p.0, p.1 -₃₂ largest)) c.found in
     let long : length ps ≡ first = length_held first gauss likes f1 f2 in
-    let low : held first gauss₁ likes₁ ≡ ps = sym (held_take n gauss₁ likes₁ l l1 first h) ∙ ap (take first) c.here ∙ take_at ps new first long in
-    let high : drop first (held n gauss₁ likes₁) ≡ new = ap (drop first) c.here ∙ drop_at ps new first long in
+    let low : posts_in first gauss₁ likes₁ ≡ ps = sym (held_take n gauss₁ likes₁ l l1 first h) ∙ ap (take first) c.here ∙ take_at ps new first long in
+    let high : drop first (posts_in n gauss₁ likes₁) ≡ new = ap (drop first) c.here ∙ drop_at ps new first long in
     record {
       found = c.found;
       more = c.more;
-      here = likely_held first n gauss₁ likes₁ likes₂ h l l1 l2 d ∙ ap (λ (r : List Post). r ++ map {B = Post} (λ (p : Post). (p.0, exp_of p.1)) (drop first (held n gauss₁ likes₁))) low
+      here = likely_held first n gauss₁ likes₁ likes₂ h l l1 l2 d ∙ ap (λ (r : List Post). r ++ map {B = Post} (λ (p : Post). (p.0, exp_of p.1)) (drop first (posts_in n gauss₁ likes₁))) low
           ∙ ap (λ (r : List Post). ps ++ map {B = Post} (λ (p : Post). (p.0, exp_of p.1)) r) high ∙ ap (λ (r : List Post). ps ++ r) (map_twice largest c.found);
     }
 
 -- one candidate more copied
 pub copy_turn : (j : ℕ) (from_gauss gauss : List ℕ) (from_likes likes : List Float) → j < length from_gauss → j < length from_likes → j < length gauss → j < length likes
-    → held j gauss likes ≡ held j from_gauss from_likes → held (j + 1) (set gauss j (get_or from_gauss j 0)) (set likes j (at from_likes j)) ≡ held (j + 1) from_gauss from_likes
+    → posts_in j gauss likes ≡ posts_in j from_gauss from_likes → posts_in (j + 1) (set gauss j (get_or from_gauss j 0)) (set likes j (at from_likes j)) ≡ posts_in (j + 1) from_gauss from_likes
 copy_turn j from_gauss gauss from_likes likes h l h1 l1 e =
     let x : Post = (get_or from_gauss j 0, at from_likes j) in
     held_put j gauss likes h1 l1 (get_or from_gauss j 0) (at from_likes j) ∙ ap (λ (r : List Post). r ++ (x ∷ [])) e ∙ sym (held_next j from_gauss from_likes h l)

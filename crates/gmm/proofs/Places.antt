@@ -12,13 +12,13 @@ moved : (ℕ → ℕ) → ℕ → ℕ → ℕ → ℕ
 moved f j n k = if eqb (f k) n then f j else f k
 
 -- numbers below n, none of them twice, are at most n
-few : (n r : ℕ) (f : ℕ → ℕ) → ((k : ℕ) → k < r → f k < n) → ((j k : ℕ) → j < k → k < r → f j ≡ f k → ⊥) → r ≤ n
+pigeonhole : (n r : ℕ) (f : ℕ → ℕ) → ((k : ℕ) → k < r → f k < n) → ((j k : ℕ) → j < k → k < r → f j ≡ f k → ⊥) → r ≤ n
 unfolding moved
-few n zero f below once = omega arith
-few zero (suc r) f below once = absurd (not-suc-le-zero (below 0 (omega arith)))
-few (suc n) (suc r) f below once =
+pigeonhole n zero f below once = omega arith
+pigeonhole zero (suc r) f below once = absurd (not-suc-le-zero (below 0 (omega arith)))
+pigeonhole (suc n) (suc r) f below once =
     let last : (k : ℕ) → k < r → f k ≡ f r → ⊥ = λ k l. once k r l (omega arith) in
-    let h = few n r (moved f r n)
+    let h = pigeonhole n r (moved f r n)
     (λ k l. by-test (eqb (f k) n)
     (λ t. let e = eqb-true (f k) n t in let u = below r (omega arith) in let q : f r ≡ n → ⊥ = λ e'. last k l (e ∙ sym e') in rw t (omega arith))
     (λ t. let q = eqb-false (f k) n t in let u = below k (omega arith) in rw t (omega arith)))
@@ -48,7 +48,7 @@ module _ (n m g : ℕ) (gs : List ℕ) (fair : Fair n m gs) (low : g < n) (r : �
       let f : ℕ → ℕ = λ k. if ltb k m then get_or gs k 0 else g in
       let last : f m ≡ g = rw (le-ltb m m (omega arith)) in
       let same : (k : ℕ) → k < m → f k ≡ get_or gs k 0 = λ k l. rw (lt-ltb k m l) in
-      let h = few n (m + 1) f (below_more f last same) (once_more f last same) in
+      let h = pigeonhole n (m + 1) f (below_more f last same) (once_more f last same) in
       omega arith
 
   pub fair_more : {gs' : List ℕ} → m < length gs → gs' ≡ set gs m g → Fair n (m + 1) gs'

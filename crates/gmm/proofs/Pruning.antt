@@ -9,7 +9,7 @@ use lib.ListN.{length, get_or}
 use lib.Ieee.{Float, nan, lt}
 use Rattle.floats.specs.Operators.{◌-₃₂◌, at}
 use Rattle.definition.specs.Posteriors.{Post, pruned}
-use Rattle.gmm.specs.Inner.Leading.{held}
+use Rattle.gmm.specs.Inner.Leading.{posts_in}
 use Rattle.gmm.proofs.Rooms.{held_at}
 
 module _ (ps : List Post) (cut tot last : Float) where
@@ -39,8 +39,8 @@ prune_end ps cut tot (suc (suc m)) h = absurd (not-suc-le-zero (le_of_suc-le-suc
 
 -- over the rooms
 module _ (n : ℕ) (chosen : List ℕ) (posts : List Float) (cut tot : Float) (m : ℕ) (l : n ≤ length posts) (g : m ≤ n) (o : 1 < m) (h : n ≤ length chosen) where
-  pub prune_turn : lt (at posts (m - 1)) cut ≡ true → pruned (held n chosen posts) cut (m - 1) (tot -₃₂ at posts (m - 1)) ≡ pruned (held n chosen posts) cut m tot
-  prune_turn t = turn (held n chosen posts) cut tot _ m o (rw (held_at n chosen posts h l (0, nan) (m - 1) (omega arith))) t
+  pub prune_turn : lt (at posts (m - 1)) cut ≡ true → pruned (posts_in n chosen posts) cut (m - 1) (tot -₃₂ at posts (m - 1)) ≡ pruned (posts_in n chosen posts) cut m tot
+  prune_turn t = turn (posts_in n chosen posts) cut tot _ m o (rw (held_at n chosen posts h l (0, nan) (m - 1) (omega arith))) t
 
-  pub prune_keep : lt (at posts (m - 1)) cut ≡ false → (m, tot) ≡ pruned (held n chosen posts) cut m tot
-  prune_keep t = keep (held n chosen posts) cut tot _ m o (rw (held_at n chosen posts h l (0, nan) (m - 1) (omega arith))) t
+  pub prune_keep : lt (at posts (m - 1)) cut ≡ false → (m, tot) ≡ pruned (posts_in n chosen posts) cut m tot
+  prune_keep t = keep (posts_in n chosen posts) cut tot _ m o (rw (held_at n chosen posts h l (0, nan) (m - 1) (omega arith))) t

@@ -15,7 +15,7 @@ use Rattle.loops.proofs.Choose.{by-test}
 use Rattle.loops.proofs.Parts.{zip_at, zip_long}
 use Rattle.floats.specs.Operators.{at}
 use Rattle.definition.specs.Posteriors.{Post, ahead, insert}
-use Rattle.gmm.specs.Inner.Leading.{post, held, slid, Falling, Place}
+use Rattle.gmm.specs.Inner.Leading.{post, posts_in, slid, Falling, Place}
 use Rattle.gmm.proofs.Sorting.{length-insert}
 use Rattle.gmm.proofs.Ordered.{not-ahead_trans}
 
@@ -163,8 +163,8 @@ falls_less m n posts h f = record { behind = λ i j s t. f.behind i j s (omega a
 -- as `insert` has it: a room for k that holds n
 module _ (g : ℕ) (p : Float) (r n k : ℕ) (chosen : List ℕ) (posts : List Float) (low : n ≤ k) (fits : k ≤ length chosen) (fits2 : k ≤ length posts) where
   -- m are held after it
-  held_slid : {c : List ℕ} {q : List Float} (m : ℕ) → m ≤ k → m ≤ n + 1 → Place p n posts r → c ≡ slid r m g chosen → q ≡ slid r m p posts → held m c q ≡ take m (insert (g, p) (held n chosen posts))
-  unfolding held
+  held_slid : {c : List ℕ} {q : List Float} (m : ℕ) → m ≤ k → m ≤ n + 1 → Place p n posts r → c ≡ slid r m g chosen → q ≡ slid r m p posts → posts_in m c q ≡ take m (insert (g, p) (posts_in n chosen posts))
+  unfolding posts_in
   held_slid {c} {q} m l o w e f =
       let z : List Post = zip_with post chosen posts in
       let at-z : (i : ℕ) → i < n → get_or z i (0, p) ≡ (get_or chosen i 0, at posts i) = λ i s. zip_at post 0 nan (0, p) chosen posts i (omega arith) (omega arith) in
@@ -173,22 +173,22 @@ module _ (g : ℕ) (p : Float) (r n k : ℕ) (chosen : List ℕ) (posts : List F
       ∙ slid-insert (g, p) (0, p) r n m z h (omega arith) (zip_long post chosen posts m (omega arith) (omega arith))
       (λ i s. rw (at-z i (omega arith)) (w.front i s)) (λ s. rw (at-z r s) (w.here s))
 
-  length_inserted : length (insert (g, p) (held n chosen posts)) ≡ suc n
-  unfolding held
-  length_inserted = omega (arith, length-insert (g, p) (held n chosen posts), length-take-le n (zip_with post chosen posts) (zip_long post chosen posts n (omega arith) (omega arith)))
+  length_inserted : length (insert (g, p) (posts_in n chosen posts)) ≡ suc n
+  unfolding posts_in
+  length_inserted = omega (arith, length-insert (g, p) (posts_in n chosen posts), length-take-le n (zip_with post chosen posts) (zip_long post chosen posts n (omega arith) (omega arith)))
 
   -- one more
-  pub insert_more : {c : List ℕ} {q : List Float} → n < k → Place p n posts r → c ≡ slid r (n + 1) g chosen → q ≡ slid r (n + 1) p posts → held (n + 1) c q ≡ take k (insert (g, p) (held n chosen posts))
+  pub insert_more : {c : List ℕ} {q : List Float} → n < k → Place p n posts r → c ≡ slid r (n + 1) g chosen → q ≡ slid r (n + 1) p posts → posts_in (n + 1) c q ≡ take k (insert (g, p) (posts_in n chosen posts))
   insert_more l w e f =
       held_slid (n + 1) (omega arith) (omega arith) w e f ∙ take_all (n + 1) _ (omega (arith, length_inserted)) ∙ sym (take_all k _ (omega (arith, length_inserted)))
 
   -- as many as before
-  insert_full : {c : List ℕ} {q : List Float} → k ≤ n → Place p n posts r → c ≡ slid r n g chosen → q ≡ slid r n p posts → held n c q ≡ take k (insert (g, p) (held n chosen posts))
-  insert_full l w e f = let s : n ≡ k = omega arith in held_slid n (omega arith) (omega arith) w e f ∙ ap (λ (i : ℕ). take i (insert (g, p) (held n chosen posts))) s
+  insert_full : {c : List ℕ} {q : List Float} → k ≤ n → Place p n posts r → c ≡ slid r n g chosen → q ≡ slid r n p posts → posts_in n c q ≡ take k (insert (g, p) (posts_in n chosen posts))
+  insert_full l w e f = let s : n ≡ k = omega arith in held_slid n (omega arith) (omega arith) w e f ∙ ap (λ (i : ℕ). take i (insert (g, p) (posts_in n chosen posts))) s
 
   -- ahead of the last, which falls off
   pub insert_last : {c : List ℕ} {q : List Float} → k ≤ n → 0 < n → ahead (0, p) (0, at posts (n - 1)) ≡ true → Place p (n - 1) posts r
-      → c ≡ slid r (n - 1 + 1) g chosen → q ≡ slid r (n - 1 + 1) p posts → held n c q ≡ take k (insert (g, p) (held n chosen posts))
+      → c ≡ slid r (n - 1 + 1) g chosen → q ≡ slid r (n - 1 + 1) p posts → posts_in n c q ≡ take k (insert (g, p) (posts_in n chosen posts))
   insert_last l h a w e f =
       let o : n - 1 + 1 ≡ n = omega arith in
       let m = w.most in
@@ -198,6 +198,6 @@ module _ (g : ℕ) (p : Float) (r n k : ℕ) (chosen : List ℕ) (posts : List F
 
 -- ahead of none: it falls off itself
 pub insert-none : (g : ℕ) (p : Float) (n k : ℕ) (chosen : List ℕ) (posts : List Float) → n ≤ k → k ≤ length chosen → k ≤ length posts → k ≤ n
-    → ((i : ℕ) → i < n → ahead (0, p) (0, at posts i) ≡ false) → held n chosen posts ≡ take k (insert (g, p) (held n chosen posts))
+    → ((i : ℕ) → i < n → ahead (0, p) (0, at posts i) ≡ false) → posts_in n chosen posts ≡ take k (insert (g, p) (posts_in n chosen posts))
 insert-none g p n k chosen posts low fits fits2 l f =
     insert_full g p n n k chosen posts low fits fits2 l (record { most = omega arith; front = f; here = λ s. absurd (omega arith) }) (sym (slid_past n n g chosen (omega arith))) (sym (slid_past n n p posts (omega arith)))

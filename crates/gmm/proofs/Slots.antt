@@ -99,15 +99,15 @@ module _ (n d m g : ℕ) (w : Float) (x : List Float) (gs : List ℕ) (tot sum :
       at_none (eqb g) 0 (seen es)
       (λ k l. let p : k < m = omega (arith, length_seen) in ne_eqb g (get_or (seen es) k 0) (λ e. ne k (omega arith) (sym (seen_at k p) ∙ sym e)))
 
-  held : Held d es m gs tot sum
-  held = record { weight_is = h.weight_is; features_are = h.features_are }
+  sums_held : Held d es m gs tot sum
+  sums_held = record { weight_is = h.weight_is; features_are = h.features_are }
 
   pub entered_again : (k : ℕ) {tot' sum' : List Float} → k < m → get_or gs k 0 ≡ g
       → tot' ≡ set tot k (at tot k +₆₄ w) → sum' ≡ put (k * d) (build d (λ a. at sum (k * d + a) +₆₄ w *₆₄ at x a)) sum
       → Sums d (es ++ (entry_of x (g, w) ∷ [])) m gs tot' sum'
   entered_again k l own e f =
       let q : k < n = omega (arith, z.room) in
-      let r = held_give d es m gs tot sum held n k g w x z.fair l own (slot_tot n d m gs tot sum z k q) (slot_sum n d m gs tot sum z k q) e f in
+      let r = held_give d es m gs tot sum sums_held n k g w x z.fair l own (slot_tot n d m gs tot sum z k q) (slot_sum n d m gs tot sum z k q) e f in
       record { in_order = h.in_order ∙ sym (seen_again es (entry_of x (g, w)) (was_seen k l own)); weight_is = r.weight_is; features_are = r.features_are }
 
   -- slot m is begun, then given to
@@ -122,7 +122,7 @@ module _ (n d m g : ℕ) (w : Float) (x : List Float) (gs : List ℕ) (tot sum :
       let p = slot_tot n d m gs tot sum z m place in
       let q = slot_sum n d m gs tot sum z m place in
       let own : get_or gs' m 0 ≡ g = ap (λ (s : List ℕ). get_or s m 0) e ∙ get_or-set_same gs m g 0 l in
-      let b = held_begin d es m gs tot sum held g unseen l p q e f i in
+      let b = held_begin d es m gs tot sum sums_held g unseen l p q e f i in
       let r = held_give d es (m + 1) gs' tot' sum' b n m g w x fair (omega arith) own (omega arith) (omega arith) e' f' in
       record {
         in_order =

@@ -1,4 +1,4 @@
--- Words of inner contracts.
+-- Words of inner contracts; no promise rests on them.
 pub mod Inner
 -- table_sums: what a closure gives of a number, and a row of a table.
 pub mod Factor

@@ -9,8 +9,8 @@ ghost use Rattle.floats.specs.Operators.{◌+₆₄◌, ◌*₆₄◌, zero₆�
 ghost use Rattle.definition.specs.Posteriors.{posteriors, nans_of};
 ghost use Rattle.definition.specs.Statistics.{Entry};
 ghost use Rattle.gmm.specs.Inner.DiagGmmRooms.{likes_of, SameLikes};
-ghost use Rattle.gmm.specs.Inner.LeadingRooms.{Places};
-ghost use Rattle.gmm.specs.Inner.Leading.{held};
+ghost use Rattle.gmm.specs.Inner.LeadingRooms.{HasPlaces};
+ghost use Rattle.gmm.specs.Inner.Leading.{posts_in};
 ghost use Rattle.gmm.specs.Batch.{entry_of, scaled_entry, Logged};
 ghost use Rattle.gmm.specs.Inner.BatchSumsRooms.{SlotsIn, Grown, SameSums};
 
@@ -41,7 +41,7 @@ pub struct LentFeatures<'a> {
 }
 
 // The slot of Gaussian g, or `count` where it has none.
-fn slot(g: usize, sums: &RunningSums<'_>) -> usize
+fn slot_of(g: usize, sums: &RunningSums<'_>) -> usize
     requires { sums.now.count ≤ length sums.now.seen.now }
     ensures most { result ≤ sums.now.count }
     ensures none_before { (k : ℕ) → k < result → slice_index sums.now.seen.now k ≢ g }
@@ -63,12 +63,15 @@ fn add_features(w: f64, x: &[f32], row: &mut [f64])
 }
 
 // Opens the next slot, for Gaussian g, with no weight yet.
-fn begin(g: usize, d: usize, sums: &mut RunningSums<'_>)
-    requires { (sums.old.count < length sums.old.seen.now) × (sums.old.count < length sums.old.tot.now) × (sums.old.count * d + d ≤ length sums.old.sum.now) }
+fn open_slot(g: usize, d: usize, sums: &mut RunningSums<'_>)
+    requires { (sums.old.count < length sums.old.seen.now)
+        × (sums.old.count < length sums.old.tot.now)
+        × (sums.old.count * d + d ≤ length sums.old.sum.now) }
     ensures count { sums.new.count ≡ sums.old.count + 1 }
     ensures seen { sums.new.seen.now ≡ slice_set sums.old.seen.now sums.old.count g }
     ensures tot { sums.new.tot.now ≡ slice_set sums.old.tot.now sums.old.count zero₆₄ }
-    ensures sum { sums.new.sum.now ≡ put (sums.old.count * d) (replicate d zero₆₄) sums.old.sum.now }
+    ensures sum { sums.new.sum.now
+        ≡ put (sums.old.count * d) (replicate d zero₆₄) sums.old.sum.now }
     ensures loans { SameSums sums.old sums.new }
 {
     let k = sums.count;
@@ -81,12 +84,15 @@ fn begin(g: usize, d: usize, sums: &mut RunningSums<'_>)
 }
 
 // Adds the weight w, and w times the features x, to slot k.
-fn give(k: usize, w: f64, x: &[f32], d: usize, sums: &mut RunningSums<'_>)
-    requires { (k < length sums.old.tot.now) × (d ≤ length x.now) × (k * d + d ≤ length sums.old.sum.now) }
+fn add_to_slot(k: usize, w: f64, x: &[f32], d: usize, sums: &mut RunningSums<'_>)
+    requires { (k < length sums.old.tot.now) × (d ≤ length x.now)
+        × (k * d + d ≤ length sums.old.sum.now) }
     ensures count { sums.new.count ≡ sums.old.count }
     ensures seen { sums.new.seen.now ≡ sums.old.seen.now }
     ensures tot { sums.new.tot.now ≡ slice_set sums.old.tot.now k (at sums.old.tot.now k +₆₄ w) }
-    ensures sum { sums.new.sum.now ≡ put (k * d) (build d (λ a. at sums.old.sum.now (k * d + a) +₆₄ w *₆₄ at x.now a)) sums.old.sum.now }
+    ensures sum { sums.new.sum.now
+        ≡ put (k * d) (build d (λ a. at sums.old.sum.now (k * d + a) +₆₄ w *₆₄ at x.now a))
+        sums.old.sum.now }
     ensures loans { SameSums sums.old sums.new }
 {
     sums.tot[k] += w;
@@ -97,7 +103,14 @@ fn give(k: usize, w: f64, x: &[f32], d: usize, sums: &mut RunningSums<'_>)
 
 // Adds a posterior w of Gaussian g, at a frame of raw features x, to the Gaussian's slot. A
 // Gaussian not seen before gets the next slot.
-fn enter(g: usize, w: f64, x: &[f32], d: usize, num_gauss: usize, sums: &mut RunningSums<'_>)
+fn add_posterior(
+    g: usize,
+    w: f64,
+    x: &[f32],
+    d: usize,
+    num_gauss: usize,
+    sums: &mut RunningSums<'_>,
+)
     requires below { g < num_gauss }
     requires x_long { d ≤ length x.now }
     requires slots { SlotsIn num_gauss d sums.old }
@@ -105,13 +118,13 @@ fn enter(g: usize, w: f64, x: &[f32], d: usize, num_gauss: usize, sums: &mut Run
     ensures loans { SameSums sums.old sums.new }
 {
     let m = sums.count;
-    let k = slot(g, sums);
+    let k = slot_of(g, sums);
     if k < m {
-        give(k, w, x, d, sums);
+        add_to_slot(k, w, x, d, sums);
         return;
     }
-    begin(g, d, sums);
-    give(m, w, x, d, sums);
+    open_slot(g, d, sums);
+    add_to_slot(m, w, x, d, sums);
 }
 
 // Adds the first n chosen posteriors of a frame, each times `scale`, to their Gaussians' slots.
@@ -125,17 +138,19 @@ fn acc_posteriors(
     num_gauss: usize,
     sums: &mut RunningSums<'_>,
 )
-    requires places { Places n chosen.now }
+    requires places { HasPlaces n chosen.now }
     requires below { (k : ℕ) → k < n → slice_index chosen.now.gauss.now k < num_gauss }
     requires raw_long { d ≤ length raw.now }
     requires slots { SlotsIn num_gauss d sums.old }
-    ensures grown { Grown num_gauss d (map (scaled_entry scale raw.now) (held n chosen.now.gauss.now chosen.now.posts.now)) sums.old sums.new }
+    ensures grown { Grown num_gauss d
+        (map (scaled_entry scale raw.now) (posts_in n chosen.now.gauss.now chosen.now.posts.now))
+        sums.old sums.new }
     ensures loans { SameSums sums.old sums.new }
 {
     // by index: a posterior stands in two lists
     for i in 0..n {
         let w = std::num::f32_to_f64_with_nan(chosen.posts[i] * scale);
-        enter(chosen.gauss[i], w, raw, d, num_gauss, sums);
+        add_posterior(chosen.gauss[i], w, raw, d, num_gauss, sums);
     }
 }
 
@@ -151,12 +166,17 @@ pub fn acc_frame(
     rooms: &mut LikeRooms<'_>,
     sums: &mut RunningSums<'_>,
 ) -> usize
-    requires features_long { (gmm.dim ≤ length features.normalized.now) × (gmm.dim ≤ length features.raw.now) }
-    requires rooms_long { (length rooms.old.likes.now ≡ gmm.num_gauss) × (length rooms.old.squares.now ≡ gmm.num_gauss) }
+    requires features_long { (gmm.dim ≤ length features.normalized.now)
+        × (gmm.dim ≤ length features.raw.now) }
+    requires rooms_long { (length rooms.old.likes.now ≡ gmm.num_gauss)
+        × (length rooms.old.squares.now ≡ gmm.num_gauss) }
     requires few { num_gselect ≤ 32 }
     requires slots { SlotsIn gmm.num_gauss gmm.dim sums.old }
     requires log { Logged weight ln }
-    ensures grown { Grown gmm.entry.num_gauss gmm.entry.dim (map (entry_of features.entry.raw.now) (posteriors num_gselect weight (likes_of gmm.entry features.entry.normalized.now))) sums.old sums.new }
+    ensures grown { Grown gmm.entry.num_gauss gmm.entry.dim
+        (map (entry_of features.entry.raw.now)
+        (posteriors num_gselect weight (likes_of gmm.entry features.entry.normalized.now)))
+        sums.old sums.new }
     ensures nans { result ≡ nans_of weight (likes_of gmm.entry features.entry.normalized.now) }
     ensures loans { SameSums sums.old sums.new }
     ensures like_loans { SameLikes rooms.old rooms.new }

@@ -1,7 +1,6 @@
-// The posteriors of the most likely Gaussians, from the log-likelihoods of all. The chosen and their posteriors go as `Chosen`; each function that is lent it
-// says by a word that its rooms are long enough, and by another that they are still those that were lent. In the struct's type these would be no plainer: a
-// ghost field beside a `&mut` is not covered. That `ln` is the logarithm of the floor is said where each is taken: a struct of the two would be made for that.
-// That at most num_gselect are held is one comparison of each count: a name for it would be no shorter.
+//! The posteriors of the most likely Gaussians, from the log-likelihoods of all. `ln` is the
+//! logarithm of the prune floor. Rooms go with the number of places in use, since more is lent than
+//! that (limit: loans).
 
 ghost use Rattle.std.specs.Prelude.{◌≡◌, IfSome, List, ℕ, ◌+◌, ◌-◌, ◌<◌, ◌≤◌, length, take};
 ghost use Rattle.std.specs.Float.Ieee.{lt, neg};
@@ -11,15 +10,16 @@ ghost use Rattle.floats.specs.Operators.{◌-₃₂◌, ◌*₃₂◌, f32, zero
 ghost use Rattle.floats.specs.Exp.{exp_of};
 ghost use Rattle.floats.specs.Ln.{ln_narrow};
 ghost use Rattle.definition.specs.Posteriors.{pruned, every, max_like, ranked, best_of, renormalised, nan_count};
-ghost use Rattle.gmm.specs.Inner.Leading.{held};
-ghost use Rattle.gmm.specs.Inner.LeadingRooms.{Places, SameChosen};
+ghost use Rattle.gmm.specs.Inner.Leading.{posts_in};
+ghost use Rattle.gmm.specs.Inner.LeadingRooms.{HasPlaces, SameChosen};
 ghost use Rattle.gmm.specs.Inner.PosteriorsRooms.{Selected, Collects, Likely};
 ghost use Rattle.gmm.specs.Inner.Posteriors.{Next, likelihoods as likelihoods_of, passes, place_or};
 
 use crate::leading::{self, Chosen, Holding};
 
-// The likelihood of a difference d from the largest log-likelihood; the largest itself has one of the two zeros. In the loop of its caller its constants would be
-// put down first, also where there is but one likelihood.
+// The likelihood of a difference d from the largest log-likelihood; the largest itself has one of
+// the two zeros. Not inlined: the caller's loop would begin with its constants, also for one
+// likelihood.
 #[inline(never)]
 fn likelihood(d: f32) -> f32
     ensures { result ≡ exp_of d }
@@ -52,11 +52,12 @@ fn first_of_four(cutoff: f32, k: usize, loglikes: &[f32]) -> Option<usize>
 // The first from g on that is above the cutoff.
 fn next_above(cutoff: f32, g: usize, loglikes: &[f32]) -> Option<usize>
     requires { g ≤ length loglikes.now }
-    ensures first { Next (λ k. lt cutoff (at loglikes.now k)) g (length loglikes.now) (place_or (length loglikes.now) result) }
+    ensures first { Next (λ k. lt cutoff (at loglikes.now k)) g (length loglikes.now)
+        (place_or (length loglikes.now) result) }
     ensures in_list { IfSome result (λ k. k < length loglikes.now) }
 {
     let mut k = g;
-    // No `for`: eight at a time, since one at a time is slower.
+    // No `for`: eight at a time.
     while loglikes.len() - k >= 8 {
         if let Some(i) = first_of_four(cutoff, k, loglikes) {
             return Some(i);
@@ -78,7 +79,8 @@ fn next_above(cutoff: f32, g: usize, loglikes: &[f32]) -> Option<usize>
 // The first from g on that is above the cutoff, or g itself where there is no cutoff.
 fn next(cutoff: Option<f32>, g: usize, loglikes: &[f32]) -> Option<usize>
     requires { g ≤ length loglikes.now }
-    ensures first { Next (λ k. passes cutoff (at loglikes.now k)) g (length loglikes.now) (place_or (length loglikes.now) result) }
+    ensures first { Next (λ k. passes cutoff (at loglikes.now k)) g (length loglikes.now)
+        (place_or (length loglikes.now) result) }
     ensures in_list { IfSome result (λ k. k < length loglikes.now) }
 {
     let Some(cutoff) = cutoff else {
@@ -94,8 +96,9 @@ struct Collected {
     next: usize,
 }
 
-// The Gaussians from g on that are above the cutoff, or all where there is none, put down as candidates from place `first` on, until the lists are full: each
-// with its log-likelihood's difference from the largest. The lists are as long as each other.
+// The Gaussians from g on that are above the cutoff, or all where there is none, put down as
+// candidates from place `first` on, until the lists, which are equally long, are full: each with
+// its log-likelihood's difference from the largest.
 fn collect(
     cutoff: Option<f32>,
     max_like: f32,
@@ -105,14 +108,17 @@ fn collect(
     gauss: &mut [usize],
     likes: &mut [f32],
 ) -> Collected
-    requires { (first ≤ length gauss.old) × (length likes.old ≡ length gauss.old) × (g ≤ length loglikes.now) }
-    ensures collected { Collects cutoff (λ l. l -₃₂ max_like) loglikes.now g first result.next result.count gauss.old likes.old gauss.new likes.new }
-    ensures places { (first ≤ result.count) × (result.count ≤ length gauss.old) × (result.next ≤ length loglikes.now) }
+    requires { (first ≤ length gauss.old) × (length likes.old ≡ length gauss.old)
+        × (g ≤ length loglikes.now) }
+    ensures collected { Collects cutoff (λ l. l -₃₂ max_like) loglikes.now g first result.next
+        result.count gauss.old likes.old gauss.new likes.new }
+    ensures places { (first ≤ result.count) × (result.count ≤ length gauss.old)
+        × (result.next ≤ length loglikes.now) }
     ensures on { first < length gauss.old → g < length loglikes.now → g < result.next }
 {
     let mut n = first;
     let mut k = g;
-    // No `for`: the walk ends where the lists are full or none is left, and where it ends is the answer.
+    // No `for`: where the walk ends is the answer.
     while n < gauss.len() {
         let Some(found) = next(cutoff, k, loglikes) else {
             return Collected {
@@ -128,7 +134,8 @@ fn collect(
     Collected { count: n, next: k }
 }
 
-// The likelihoods of the differences from place `first` up to `end`, sixteen at most. In three loops, so that the one that computes is compiled to vector instructions.
+// The likelihoods of the differences from place `first` up to `end`, sixteen at most. In three
+// loops, so that the one that computes is compiled to vector instructions.
 fn some_likelihoods(first: usize, end: usize, likes: &mut [f32])
     requires { (first ≤ end) × (end ≤ first + 16) × (end ≤ length likes.old) }
     ensures { Likely first end likes.old likes.new }
@@ -146,7 +153,8 @@ fn some_likelihoods(first: usize, end: usize, likes: &mut [f32])
     }
 }
 
-// The likelihoods of the differences from place `first` up to `end`. Of fewer than four each is made alone, the largest with no exponential.
+// The likelihoods of the differences from place `first` up to `end`. Of fewer than four each is
+// made alone, the largest with no exponential.
 fn make_likely(first: usize, end: usize, likes: &mut [f32])
     requires { (first ≤ end) × (end ≤ length likes.old) }
     ensures { Likely first end likes.old likes.new }
@@ -176,9 +184,12 @@ fn candidates(
     gauss: &mut [usize],
     likes: &mut [f32],
 ) -> Collected
-    requires { (first ≤ length gauss.old) × (length likes.old ≡ length gauss.old) × (g ≤ length loglikes.now) }
-    ensures collected { Collects cutoff (λ l. exp_of (l -₃₂ max_like)) loglikes.now g first result.next result.count gauss.old likes.old gauss.new likes.new }
-    ensures places { (first ≤ result.count) × (result.count ≤ length gauss.old) × (result.next ≤ length loglikes.now) }
+    requires { (first ≤ length gauss.old) × (length likes.old ≡ length gauss.old)
+        × (g ≤ length loglikes.now) }
+    ensures collected { Collects cutoff (λ l. exp_of (l -₃₂ max_like)) loglikes.now g first
+        result.next result.count gauss.old likes.old gauss.new likes.new }
+    ensures places { (first ≤ result.count) × (result.count ≤ length gauss.old)
+        × (result.next ≤ length loglikes.now) }
     ensures on { first < length gauss.old → g < length loglikes.now → g < result.next }
 {
     let more = collect(cutoff, max_like, g, loglikes, first, gauss, likes);
@@ -188,8 +199,9 @@ fn candidates(
 
 // The first n candidates of two lists, put into two others.
 fn copy(n: usize, from_gauss: &[usize], from_likes: &[f32], gauss: &mut [usize], likes: &mut [f32])
-    requires { (n ≤ length from_gauss.now) × (n ≤ length from_likes.now) × (n ≤ length gauss.old) × (n ≤ length likes.old) }
-    ensures { held n gauss.new likes.new ≡ held n from_gauss.now from_likes.now }
+    requires { (n ≤ length from_gauss.now) × (n ≤ length from_likes.now) × (n ≤ length gauss.old)
+        × (n ≤ length likes.old) }
+    ensures { posts_in n gauss.new likes.new ≡ posts_in n from_gauss.now from_likes.now }
 {
     for j in 0..n {
         gauss[j] = from_gauss[j];
@@ -197,8 +209,8 @@ fn copy(n: usize, from_gauss: &[usize], from_likes: &[f32], gauss: &mut [usize],
     }
 }
 
-// The most likely where there are more candidates than the few that were met first. They are held unordered, 64 at most, and the leading ones are chosen among them
-// where room is wanted.
+// The most likely where there are more candidates than the few that were met first. They are held
+// unordered, 64 at most, and the leading ones are chosen among them where room is wanted.
 fn gather_many(
     cutoff: Option<f32>,
     max_like: f32,
@@ -209,10 +221,14 @@ fn gather_many(
     few_likes: &[f32],
     chosen: &mut Chosen<'_>,
 ) -> usize
-    requires places { Places num_gselect chosen.old }
-    requires few { (few.count ≤ 16) × (few.count ≤ length few_gauss.now) × (few.count ≤ length few_likes.now) × (few.next ≤ length loglikes.now) }
-    requires met { held few.count few_gauss.now few_likes.now ≡ likelihoods_of max_like (those (λ p. passes cutoff p.1) (take few.next (every loglikes.now))) }
-    ensures gathered { held result chosen.new.gauss.now chosen.new.posts.now ≡ ranked num_gselect max_like (those (λ p. passes cutoff p.1) (every loglikes.now)) }
+    requires places { HasPlaces num_gselect chosen.old }
+    requires few { (few.count ≤ 16) × (few.count ≤ length few_gauss.now)
+        × (few.count ≤ length few_likes.now) × (few.next ≤ length loglikes.now) }
+    requires met { posts_in few.count few_gauss.now few_likes.now
+        ≡ likelihoods_of max_like
+        (those (λ p. passes cutoff p.1) (take few.next (every loglikes.now))) }
+    ensures gathered { posts_in result chosen.new.gauss.now chosen.new.posts.now
+        ≡ ranked num_gselect max_like (those (λ p. passes cutoff p.1) (every loglikes.now)) }
     ensures most { result ≤ num_gselect }
     ensures loans { SameChosen chosen.old chosen.new }
 {
@@ -264,7 +280,8 @@ fn is_above(cutoff: Option<f32>, l: f32) -> bool
     }
 }
 
-// The most likely of few Gaussians: there is nothing to choose among them, so those that pass are put in order at once, and no room for candidates is cleared.
+// The most likely of few Gaussians: those that pass are put in order at once, and no room for
+// candidates is cleared.
 fn gather_few(
     cutoff: Option<f32>,
     max_like: f32,
@@ -272,8 +289,9 @@ fn gather_few(
     num_gselect: usize,
     chosen: &mut Chosen<'_>,
 ) -> usize
-    requires { Places num_gselect chosen.old }
-    ensures gathered { held result chosen.new.gauss.now chosen.new.posts.now ≡ ranked num_gselect max_like (those (λ p. passes cutoff p.1) (every loglikes.now)) }
+    requires { HasPlaces num_gselect chosen.old }
+    ensures gathered { posts_in result chosen.new.gauss.now chosen.new.posts.now
+        ≡ ranked num_gselect max_like (those (λ p. passes cutoff p.1) (every loglikes.now)) }
     ensures most { result ≤ num_gselect }
     ensures loans { SameChosen chosen.old chosen.new }
 {
@@ -288,8 +306,8 @@ fn gather_few(
     n
 }
 
-// The most likely of the Gaussians above the cutoff, or of all where there is none. Where they are sixteen at most there is nothing to choose: they are put in order
-// in less than it takes to choose among them, and the room that is cleared for candidates is small.
+// The most likely of the Gaussians above the cutoff, or of all where there is none. Sixteen at most
+// are put in order with no choice among them, and the room that is cleared for them is small.
 fn gather(
     cutoff: Option<f32>,
     max_like: f32,
@@ -297,8 +315,9 @@ fn gather(
     num_gselect: usize,
     chosen: &mut Chosen<'_>,
 ) -> usize
-    requires { Places num_gselect chosen.old }
-    ensures gathered { held result chosen.new.gauss.now chosen.new.posts.now ≡ ranked num_gselect max_like (those (λ p. passes cutoff p.1) (every loglikes.now)) }
+    requires { HasPlaces num_gselect chosen.old }
+    ensures gathered { posts_in result chosen.new.gauss.now chosen.new.posts.now
+        ≡ ranked num_gselect max_like (those (λ p. passes cutoff p.1) (every loglikes.now)) }
     ensures most { result ≤ num_gselect }
     ensures loans { SameChosen chosen.old chosen.new }
 {
@@ -323,14 +342,14 @@ fn gather(
     )
 }
 
-// The largest, a NaN passed over: the last that is above all in front of it. So of equal ones the first is the answer.
+// The largest, a NaN passed over: the last that is above all in front of it. So of equal ones the
+// first is the answer.
 fn largest(loglikes: &[f32]) -> f32
     ensures { result ≡ max_like loglikes.now }
 {
     let mut m = -1.0 / 0.0;
     let mut k = 0;
-    // No `for`: a turn goes on behind the next that is above the largest so far. That is seldom, and the others are passed over in fewer instructions than eight parts
-    // of the list side by side, with no branch, would take.
+    // No `for`: a turn goes on behind the next that is above the largest so far, which is seldom.
     while let Some(j) = next_above(m, k, loglikes) {
         m = loglikes[j];
         k = j + 1;
@@ -338,7 +357,7 @@ fn largest(loglikes: &[f32]) -> f32
     m
 }
 
-// The most likely Gaussians, before they are pruned; ln: the logarithm of min_post.
+// The most likely Gaussians, before they are pruned.
 fn best(
     loglikes: &[f32],
     num_gselect: usize,
@@ -346,9 +365,10 @@ fn best(
     ln: f32,
     chosen: &mut Chosen<'_>,
 ) -> usize
-    requires places { Places num_gselect chosen.old }
+    requires places { HasPlaces num_gselect chosen.old }
     requires log { ln ≡ ln_narrow min_post }
-    ensures best { held result chosen.new.gauss.now chosen.new.posts.now ≡ best_of loglikes.now num_gselect min_post }
+    ensures best { posts_in result chosen.new.gauss.now chosen.new.posts.now
+        ≡ best_of loglikes.now num_gselect min_post }
     ensures most { result ≤ num_gselect }
     ensures loans { SameChosen chosen.old chosen.new }
 {
@@ -363,6 +383,7 @@ fn best(
     gather(None, max_like, loglikes, num_gselect, chosen)
 }
 
+// Their sum, from -0.0 on.
 fn total(posts: &[f32]) -> f32
     ensures { result ≡ sum₃₂ (neg zero₃₂) (length posts.now) (at posts.now) }
 {
@@ -376,15 +397,17 @@ struct Left {
     tot: f32,
 }
 
-// The last of the first n are left out while they are below the cutoff, and their total with them. The room goes with n, as in `renormalize`, which says why a
-// part of it is no plainer.
+// The last of the first n are left out while they are below the cutoff, but for the first, and
+// taken off the total.
 fn prune(n: usize, posts: &[f32], cutoff: f32, tot: f32) -> Left
     requires { n ≤ length posts.now }
-    ensures { ((chosen : List ℕ) → n ≤ length chosen → (result.count, result.tot) ≡ pruned (held n chosen posts.now) cutoff n tot) × (result.count ≤ n) }
+    ensures { ((chosen : List ℕ) → n ≤ length chosen
+        → (result.count, result.tot) ≡ pruned (posts_in n chosen posts.now) cutoff n tot)
+        × (result.count ≤ n) }
 {
     let mut count = n;
     let mut left = tot;
-    // No `for`, which would be no plainer: how many are left is the answer.
+    // No `for`: how many are left is the answer.
     while count > 1 {
         let last = posts[count - 1];
         if last < cutoff {
@@ -406,11 +429,12 @@ fn scale(v: f32, posts: &mut [f32])
     }
 }
 
-// Of the first n likelihoods those of at least min_post of their total, renormalised to one; the answer is how many they are. Here and above the room goes with
-// n: what is held in the first places of the whole is what is spoken of, and a part of it would be no plainer.
+// Of the first n likelihoods those of at least min_post of their total, renormalised to one; the
+// answer is how many they are.
 fn renormalize(n: usize, min_post: f32, posts: &mut [f32]) -> usize
     requires { n ≤ length posts.old }
-    ensures scaled { (chosen : List ℕ) → n ≤ length chosen → held result chosen posts.new ≡ renormalised min_post (held n chosen posts.old) }
+    ensures scaled { (chosen : List ℕ) → n ≤ length chosen
+        → posts_in result chosen posts.new ≡ renormalised min_post (posts_in n chosen posts.old) }
     ensures most { result ≤ n }
 {
     let tot = total(&posts[..n]);
@@ -419,8 +443,8 @@ fn renormalize(n: usize, min_post: f32, posts: &mut [f32]) -> usize
     left.count
 }
 
-// The num_gselect most likely Gaussians as posteriors, pruned below min_post of the total, renormalised to one. The rooms hold as many as
-// the answer says.
+// The num_gselect most likely Gaussians as posteriors, pruned below min_post of the total,
+// renormalised to one. The rooms hold as many as the answer says.
 fn select(
     loglikes: &[f32],
     num_gselect: usize,
@@ -428,7 +452,7 @@ fn select(
     ln: f32,
     chosen: &mut Chosen<'_>,
 ) -> usize
-    requires places { Places num_gselect chosen.old }
+    requires places { HasPlaces num_gselect chosen.old }
     requires log { ln ≡ ln_narrow min_post }
     ensures selected { Selected loglikes.now num_gselect min_post result chosen.new }
     ensures loans { SameChosen chosen.old chosen.new }
@@ -437,8 +461,7 @@ fn select(
     renormalize(n, min_post, chosen.posts)
 }
 
-// How many of the log-likelihoods are NaN. One pass of its own with no branch in it: some six instructions for each, and no vector ones, which the compiler uses for no
-// comparison of floats. By index: with a filter and its count, which was tried, a selection among 512 takes up to 7 in a hundred more instructions.
+// How many of the log-likelihoods are NaN: a pass of its own. By index, with no branch.
 fn count_nans(loglikes: &[f32]) -> usize
     ensures { result ≡ nan_count loglikes.now }
 {
@@ -450,14 +473,16 @@ fn count_nans(loglikes: &[f32]) -> usize
     nans
 }
 
-// A selection: how many posteriors there are, and how many of the log-likelihoods that it was made from were NaN.
+/// A selection in lent rooms.
 #[derive(Clone, Copy)]
 pub struct Selection {
+    /// How many posteriors there are.
     pub count: usize,
+    /// How many of the log-likelihoods that it was made from were NaN.
     pub nans: usize,
 }
 
-// `select_posteriors` where the logarithm of min_post is known: frames of a batch share it.
+/// [`select_posteriors`] where the logarithm of min_post is known: frames of a batch share it.
 pub fn select_by(
     loglikes: &[f32],
     num_gselect: usize,
@@ -465,7 +490,7 @@ pub fn select_by(
     ln: f32,
     chosen: &mut Chosen<'_>,
 ) -> Selection
-    requires places { Places num_gselect chosen.old }
+    requires places { HasPlaces num_gselect chosen.old }
     requires log { ln ≡ ln_narrow min_post }
     ensures selected { Selected loglikes.now num_gselect min_post result.count chosen.new }
     ensures nans { result.nans ≡ nan_count loglikes.now }
@@ -476,14 +501,14 @@ pub fn select_by(
     Selection { count, nans }
 }
 
-// A selection: the most likely Gaussians as posteriors, and the count of NaN.
+/// The most likely Gaussians as posteriors, into `chosen`.
 pub fn select_posteriors(
     loglikes: &[f32],
     num_gselect: usize,
     min_post: f32,
     chosen: &mut Chosen<'_>,
 ) -> Selection
-    requires { Places num_gselect chosen.old }
+    requires { HasPlaces num_gselect chosen.old }
     ensures selected { Selected loglikes.now num_gselect min_post result.count chosen.new }
     ensures nans { result.nans ≡ nan_count loglikes.now }
     ensures loans { SameChosen chosen.old chosen.new }

@@ -22,7 +22,8 @@ fn add_one(row: &[f32], v: f32, sum: &mut [f32])
 #[tactic(auto, using(loops::proofs::Fill::fills))]
 fn add_two(r0: &[f32], r1: &[f32], v0: f32, v1: f32, sum: &mut [f32])
     requires { (length r0.now ≡ length sum.old) × (length r1.now ≡ length sum.old) }
-    ensures { sum.new ≡ fill (length sum.old) (λ m. at sum.old m +₃₂ at r0.now m *₃₂ v0 +₃₂ at r1.now m *₃₂ v1) sum.old }
+    ensures { sum.new ≡ fill (length sum.old)
+        (λ m. at sum.old m +₃₂ at r0.now m *₃₂ v0 +₃₂ at r1.now m *₃₂ v1) sum.old }
 {
     for m in 0..sum.len() {
         sum[m] = sum[m] + r0[m] * v0 + r1[m] * v1;
@@ -32,8 +33,11 @@ fn add_two(r0: &[f32], r1: &[f32], v0: f32, v1: f32, sum: &mut [f32])
 // Adds three.
 #[tactic(auto, using(loops::proofs::Fill::fills))]
 fn add_three(r0: &[f32], r1: &[f32], r2: &[f32], v0: f32, v1: f32, v2: f32, sum: &mut [f32])
-    requires { (length r0.now ≡ length sum.old) × (length r1.now ≡ length sum.old) × (length r2.now ≡ length sum.old) }
-    ensures { sum.new ≡ fill (length sum.old) (λ m. at sum.old m +₃₂ at r0.now m *₃₂ v0 +₃₂ at r1.now m *₃₂ v1 +₃₂ at r2.now m *₃₂ v2) sum.old }
+    requires { (length r0.now ≡ length sum.old) × (length r1.now ≡ length sum.old)
+        × (length r2.now ≡ length sum.old) }
+    ensures { sum.new ≡ fill (length sum.old)
+        (λ m. at sum.old m +₃₂ at r0.now m *₃₂ v0 +₃₂ at r1.now m *₃₂ v1 +₃₂ at r2.now m
+        *₃₂ v2) sum.old }
 {
     for m in 0..sum.len() {
         sum[m] = sum[m] + r0[m] * v0 + r1[m] * v1 + r2[m] * v2;
@@ -53,8 +57,11 @@ fn add_four(
     v3: f32,
     sum: &mut [f32],
 )
-    requires { (length r0.now ≡ length sum.old) × (length r1.now ≡ length sum.old) × (length r2.now ≡ length sum.old) × (length r3.now ≡ length sum.old) }
-    ensures { sum.new ≡ fill (length sum.old) (λ m. at sum.old m +₃₂ at r0.now m *₃₂ v0 +₃₂ at r1.now m *₃₂ v1 +₃₂ at r2.now m *₃₂ v2 +₃₂ at r3.now m *₃₂ v3) sum.old }
+    requires { (length r0.now ≡ length sum.old) × (length r1.now ≡ length sum.old)
+        × (length r2.now ≡ length sum.old) × (length r3.now ≡ length sum.old) }
+    ensures { sum.new ≡ fill (length sum.old)
+        (λ m. at sum.old m +₃₂ at r0.now m *₃₂ v0 +₃₂ at r1.now m *₃₂ v1 +₃₂ at r2.now m *₃₂ v2
+        +₃₂ at r3.now m *₃₂ v3) sum.old }
 {
     for m in 0..sum.len() {
         sum[m] = sum[m] + r0[m] * v0 + r1[m] * v1 + r2[m] * v2 + r3[m] * v3;
@@ -89,7 +96,9 @@ fn add_next<F: Fn(f32) -> f32>(
     ensures onward { k < result }
     ensures within { result ≤ d }
     ensures sums { (f : Float → Float) → Gives (F.post times.now) f
-        → sum.new ≡ fill (length sum.old) (λ m. from k result (λ i a. a +₃₂ at table.now (i * length sum.old + m) *₃₂ f (at x.now i)) (at sum.old m)) sum.old }
+        → sum.new ≡ fill (length sum.old)
+        (λ m. from k result (λ i a. a +₃₂ at table.now (i * length sum.old + m) *₃₂ f (at x.now i))
+        (at sum.old m)) sum.old }
 {
     let n = sum.len();
     let r0 = row_at(table, n, k);
@@ -124,7 +133,9 @@ pub fn add_rows<F: Fn(f32) -> f32>(table: &[f32], x: &[f32], times: F, d: usize,
     requires in_table { d * length sum.old ≤ length table.now }
     requires in_x { d ≤ length x.now }
     ensures { (f : Float → Float) → Gives (F.post times) f
-        → sum.new ≡ fill (length sum.old) (λ m. sum₃₂ (at sum.old m) d (λ k. at table.now (k * length sum.old + m) *₃₂ f (at x.now k))) sum.old }
+        → sum.new ≡ fill (length sum.old)
+        (λ m. sum₃₂ (at sum.old m) d
+        (λ k. at table.now (k * length sum.old + m) *₃₂ f (at x.now k))) sum.old }
 {
     // no for: a pass takes up to four rows
     let mut k = 0;

@@ -100,8 +100,10 @@ fn add_diagonal(s: usize, v: f64, quadratic: &mut [f64])
 /// The statistics before any frame, which are the prior's: `linear` has `dim` numbers, `quadratic`
 /// `dim * (dim + 1) / 2`. Their frame count is 0.
 pub fn new(dim: usize, prior_offset: f64, linear: &mut [f64], quadratic: &mut [f64])
-    requires { (0 < dim) × (dim ≤ 128) × (length linear.old ≡ dim) × (length quadratic.old ≡ triangle dim) }
-    ensures { (linear.new ≡ (new_stats dim prior_offset).linear) × (quadratic.new ≡ (new_stats dim prior_offset).quadratic) }
+    requires { (0 < dim) × (dim ≤ 128) × (length linear.old ≡ dim)
+        × (length quadratic.old ≡ triangle dim) }
+    ensures { (linear.new ≡ (new_stats dim prior_offset).linear)
+        × (quadratic.new ≡ (new_stats dim prior_offset).quadratic) }
 {
     linear.fill(0.0);
     linear[0] += prior_offset;
@@ -140,11 +142,20 @@ fn acc_gauss(
     stats: &mut Statistics<'_>,
     row: &mut [f64],
 )
-    requires rows_in { g * (length x.now * length row.old) + length x.now * length row.old ≤ length sigma_inv_m.now }
-    requires terms_in { g * length stats.old.quadratic.now + length stats.old.quadratic.now ≤ length u.now }
+    requires rows_in { g * (length x.now * length row.old) + length x.now * length row.old
+        ≤ length sigma_inv_m.now }
+    requires terms_in { g * length stats.old.quadratic.now + length stats.old.quadratic.now
+        ≤ length u.now }
     requires linear_long { length stats.old.linear.now ≡ length row.old }
-    ensures linear { stats.new.linear.now ≡ fill (length row.old) (λ c. at stats.old.linear.now c +₆₄ linear_term (length x.now) (length row.old) sigma_inv_m.now g (at x.now) c) stats.old.linear.now }
-    ensures quadratic { stats.new.quadratic.now ≡ fill (length stats.old.quadratic.now) (λ i. at stats.old.quadratic.now i +₆₄ w *₆₄ at u.now (g * length stats.old.quadratic.now + i)) stats.old.quadratic.now }
+    ensures linear { stats.new.linear.now
+        ≡ fill (length row.old)
+        (λ c. at stats.old.linear.now c
+        +₆₄ linear_term (length x.now) (length row.old) sigma_inv_m.now g (at x.now) c)
+        stats.old.linear.now }
+    ensures quadratic { stats.new.quadratic.now
+        ≡ fill (length stats.old.quadratic.now)
+        (λ i. at stats.old.quadratic.now i +₆₄ w
+        *₆₄ at u.now (g * length stats.old.quadratic.now + i)) stats.old.quadratic.now }
     ensures num_frames { stats.new.num_frames ≡ stats.old.num_frames }
     ensures loans { SameStats stats.old stats.new }
 {
@@ -175,8 +186,13 @@ fn acc_batch(
     requires terms_in { num_gauss * length stats.old.quadratic.now ≤ length u.now }
     requires linear_long { length stats.old.linear.now ≡ length row.old }
     requires slots { Slots num_gauss d sums.count sums.seen.now sums.tot.now sums.sum.now }
-    ensures linear { stats.new.linear.now ≡ linear_over d (length row.old) sigma_inv_m.now sums.entry.seen.now sums.entry.sum.now stats.old.linear.now sums.entry.count }
-    ensures quadratic { stats.new.quadratic.now ≡ quadratic_over (length stats.old.quadratic.now) u.now sums.entry.seen.now sums.entry.tot.now stats.old.quadratic.now sums.entry.count }
+    ensures linear { stats.new.linear.now
+        ≡ linear_over d (length row.old) sigma_inv_m.now sums.entry.seen.now sums.entry.sum.now
+        stats.old.linear.now sums.entry.count }
+    ensures quadratic { stats.new.quadratic.now
+        ≡ quadratic_over
+        (length stats.old.quadratic.now) u.now sums.entry.seen.now sums.entry.tot.now
+        stats.old.quadratic.now sums.entry.count }
     ensures weight { result ≡ sum₆₄ zero₆₄ sums.entry.count (at sums.entry.tot.now) }
     ensures num_frames { stats.new.num_frames ≡ stats.old.num_frames }
     ensures loans { SameStats stats.old stats.new }
@@ -217,7 +233,8 @@ fn rescale(
 )
     requires dim { (0 < dim) × (dim ≤ 128) }
     requires stats { StatsFit dim stats.old }
-    ensures rescaled { stats_of stats.new ≡ rescaled dim prior_offset max_count tot_weight (stats_of stats.old) }
+    ensures rescaled { stats_of stats.new
+        ≡ rescaled dim prior_offset max_count tot_weight (stats_of stats.old) }
     ensures loans { SameStats stats.old stats.new }
 {
     let old = stats.num_frames;
@@ -245,11 +262,17 @@ pub fn acc(
 )
     requires dim { (0 < info.dims.ivector_dim) × (info.dims.ivector_dim ≤ 128) }
     requires stats { StatsFit info.dims.ivector_dim stats.old }
-    requires rows_in { info.dims.num_gauss * (info.dims.feat_dim * info.dims.ivector_dim) ≤ length sigma_inv_m.now }
+    requires rows_in { info.dims.num_gauss * (info.dims.feat_dim * info.dims.ivector_dim)
+        ≤ length sigma_inv_m.now }
     requires terms_in { info.dims.num_gauss * triangle info.dims.ivector_dim ≤ length u.now }
-    requires slots { Slots info.dims.num_gauss info.dims.feat_dim sums.count sums.seen.now sums.tot.now sums.sum.now }
-    ensures added { (es : List Entry) → Sums info.dims.feat_dim es sums.entry.count sums.entry.seen.now sums.entry.tot.now sums.entry.sum.now
-        → stats_of stats.new ≡ acc_of info.dims.feat_dim info.dims.ivector_dim sigma_inv_m.now u.now info.prior_offset info.opts.max_count es (stats_of stats.old) }
+    requires slots { Slots info.dims.num_gauss info.dims.feat_dim sums.count sums.seen.now
+        sums.tot.now sums.sum.now }
+    ensures added { (es : List Entry)
+        → Sums info.dims.feat_dim es sums.entry.count sums.entry.seen.now sums.entry.tot.now
+        sums.entry.sum.now
+        → stats_of stats.new
+        ≡ acc_of info.dims.feat_dim info.dims.ivector_dim sigma_inv_m.now u.now info.prior_offset
+        info.opts.max_count es (stats_of stats.old) }
     ensures loans { SameStats stats.old stats.new }
 {
     let dim = info.dims.ivector_dim;
@@ -276,7 +299,8 @@ pub fn acc(
 // Element 0 becomes the prior where it is 0.
 fn raise(prior: f64, ivector: &mut [f64])
     requires { 0 < length ivector.old }
-    ensures { ivector.new ≡ (if eq (at ivector.old 0) zero₆₄ then set ivector.old 0 prior else ivector.old) }
+    ensures { ivector.new ≡ (if eq (at ivector.old 0) zero₆₄ then set ivector.old 0 prior
+        else ivector.old) }
 {
     if ivector[0] == 0.0 {
         ivector[0] = prior;
@@ -297,7 +321,8 @@ pub fn get_ivector(
     requires quadratic { length stats.quadratic.now ≡ triangle info.dims.ivector_dim }
     requires current { length ivector.old ≡ info.dims.ivector_dim }
     requires scratch { info.dims.ivector_dim * info.dims.ivector_dim ≤ length scratch.old }
-    ensures { ivector.new ≡ get_ivector info.dims.ivector_dim info.prior_offset info.opts.num_cg_iters (stats_lent stats.entry) ivector.old }
+    ensures { ivector.new ≡ get_ivector info.dims.ivector_dim info.prior_offset
+        info.opts.num_cg_iters (stats_lent stats.entry) ivector.old }
 {
     let dim = info.dims.ivector_dim;
     if stats.num_frames > 0.0 {

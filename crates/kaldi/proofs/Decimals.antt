@@ -10,14 +10,6 @@ use Rattle.std.proofs.Common.{add-one}
 use Rattle.std.proofs.Math.Seq.{drop-cons}
 use Rattle.definition.specs.Text.{digits_value}
 
-pub decimal_nil : (m : ℕ) → digits_value m [] ≡ m
-unfolding digits_value
-decimal_nil m = refl
-
-pub decimal_cons : (m b : ℕ) (l : List ℕ) → digits_value m (b ∷ l) ≡ digits_value (m * 10 + (b - 48)) l
-unfolding digits_value
-decimal_cons m b l = refl
-
 pub decimal_append : (m : ℕ) (a b : List ℕ) → digits_value m (a ++ b) ≡ digits_value (digits_value m a) b
 unfolding digits_value
 decimal_append m [] b = refl

@@ -13,7 +13,7 @@ use lib.Dec.{leb, ltb, lit≤}
 use lib.ListN.{length, length-append}
 use lib.Ieee.{Float, Format, binary32, binary64, prec}
 use Rattle.loops.proofs.Choose.{by-test}
-use Rattle.floats.specs.Decimal.{scaled, tens}
+use Rattle.floats.specs.Decimal.{tens}
 use Rattle.definition.specs.Reader.{Got, Parser, after, refused, read}
 use Rattle.definition.specs.Text.{sign, digits, fraction, digits_value, Power, exponent, to_nearest, number}
 use Rattle.kaldi.proofs.Chain.{not-read, same-value, same_place, same_refusal}
@@ -48,10 +48,6 @@ module _ (f : Format) (minus : Bool) (m u d : ℕ) (s : List ℕ) (next : ℕ) w
       pub finished_low : u + tens f < d → refused 7 ≡ to_nearest f minus m u d s next
       unfolding to_nearest
       finished_low h = simp (lt-ltb m (2 ^ prec f) few, le-leb u (d + tens f) low, lt-leb d (u + tens f) h)
-
-      pub finished_yes : d ≤ u + tens f → read (scaled f minus m u d) next ≡ to_nearest f minus m u d s next
-      unfolding to_nearest
-      finished_yes h = simp (lt-ltb m (2 ^ prec f) few, le-leb u (d + tens f) low, le-leb d (u + tens f) h)
 
   -- a power too high or too low is refused, whatever the digits
   out_of_reach : (d + 22 < u) ⊎ (u + 22 < d) → to_nearest f minus m u d s next ≡ refused 7

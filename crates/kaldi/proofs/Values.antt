@@ -1,6 +1,6 @@
 -- Numbers in bytes, from low to high.
-use Rattle.std.proofs.Common.{◌≡◌, ℕ, zero, suc, ◌+◌, ◌*◌, ◌/◌, ◌%◌, ◌<◌, ◌≤◌, Bool, true, false, not, nat_eq, List, [], ◌∷◌, length, get_or, take, drop, sym, ap, refl, ◌∙◌, arith, add_assoc, length-drop, drop-drop, not-suc-le-zero, le_of_suc-le-suc, suc-mul, from_bits}
-use Rattle.std.proofs.lemmas.List.{length-take-le, same_lists, get_or_default}
+use Rattle.std.proofs.Common.{◌≡◌, ℕ, zero, suc, ◌+◌, ◌*◌, ◌/◌, ◌%◌, ◌<◌, ◌≤◌, Bool, true, false, not, nat_eq, List, [], ◌∷◌, length, get_or, take, drop, sym, ap, refl, ◌∙◌, arith, add_assoc, drop-drop, not-suc-le-zero, le_of_suc-le-suc, suc-mul, from_bits}
+use Rattle.std.proofs.lemmas.List.{same_lists, get_or_default}
 use Rattle.std.proofs.Math.Seq.{take-length}
 use Rattle.std.specs.Int.{Width, w32, w64, byte_len, from_le_bytes}
 use Rattle.std.specs.Float.{Format, binary32, binary64}
@@ -53,14 +53,6 @@ pub read_8 : (s : List ℕ) → length s ≡ 8 → from_le_bytes w64 s ≡ littl
 read_8 s h = read_bytes w64 binary64 s refl h
 
 pub ruleset reads = (read_4, read_8)
-
--- the bytes of number i: n of them, from a place on
-pub number_bytes : (w : Width) (f : Format) (s : List ℕ) (i n from : ℕ) → byte_len w ≡ byte_width f → n ≡ byte_width f → from ≡ i * byte_width f → from + n ≤ length s
-    → from_le_bytes w (take n (drop from s)) ≡ little_endian (take (byte_width f) (drop (i * byte_width f) s))
-number_bytes w f s i n from word size start inside =
-    let long : n ≤ length (drop from s) = omega (arith, length-drop from s) in
-    read_bytes w f (take n (drop from s)) word (length-take-le n (drop from s) long ∙ size)
-    ∙ rw (size, start) refl
 
 -- whether a number is finite, by the bits of its exponent
 pub finite_32 : (s : List ℕ) (n : ℕ) → n ≡ little_endian s → not (nat_eq (n % 2147483648 / 8388608) 255) ≡ finite (from_bits binary32 (little_endian s))

@@ -1,8 +1,8 @@
--- What contracts of inner functions say; no reader needs it.
+-- Words of inner contracts. A reader needs `given` alone, which the contract of `read_settings` names.
 pub mod Inner
--- kaldi_io: what the contracts of this crate need besides the definitions.
+-- kaldi_io: the format of a width, and what a run of numbers in bytes is.
 pub mod Widths
--- kaldi_files: what the contracts of this crate need besides the definitions.
+-- kaldi_files: what the checked files hold, and the ends of the definition's parsers.
 pub mod Parts
 -- settings: the options from the maker's settings texts.
 pub mod Settings

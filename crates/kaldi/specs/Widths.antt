@@ -1,3 +1,4 @@
+-- The format of a width, and what a run of numbers in bytes is.
 use Rattle.std.specs.Prelude.{◌≡◌, ℕ, ◌*◌, true, List, length}
 use Rattle.std.specs.Float.{Format, binary32, binary64}
 use Rattle.std.specs.Float.Ieee.Scale.{finite}

@@ -1,5 +1,6 @@
-// The text matrix of the global CMVN statistics: as `parse_text_matrix` in the Rust, but the numbers are read again once everything is
-// checked. `TextReader` goes through a text; what it reads is what the definition's parsers read at the same place.
+//! The text matrix of the global CMVN statistics: as `parse_text_matrix` in the Rust, but the
+//! numbers are read again once everything is checked. `TextReader` goes through a text; what it
+//! reads is what the definition's parsers read at the same place.
 
 ghost use Rattle.std.specs.Prelude.{◌≡◌, ℕ, if◌then◌else◌, List, IfOk, not, ◌&&◌, ◌||◌, ◌+◌, ◌-◌, ◌^◌, ◌≤◌, ◌<◌, min, length, drop, eqb, leb};
 ghost use Rattle.std.specs.Float.{Format, binary64};
@@ -7,7 +8,7 @@ ghost use Rattle.floats.specs.Operators.{zero₆₄};
 ghost use Rattle.definition.specs.Options.{within};
 ghost use Rattle.definition.specs.Reader.{read, run, here};
 ghost use Rattle.definition.specs.Text.{sign, digits, fraction, digits_value, exponent, to_nearest, number, space, stop, skip, row, line, bracket, ending, cmvn_rows, cmvn};
-ghost use Rattle.kaldi.specs.Inner.KaldiTextGot.{got, given, peeked};
+ghost use Rattle.kaldi.specs.Inner.KaldiTextGot.{parsed, given, peeked};
 ghost use Rattle.kaldi.specs.Inner.KaldiTextAnswers.{cmvn_of, cmvn_in, RowIn, cells};
 ghost use Rattle.kaldi.specs.Inner.KaldiText.{is_digit, is_sign, is_minus, is_point, is_exponent, is_blank, gap, capped, power_of, nearest_of, Outlines};
 
@@ -55,13 +56,14 @@ fn kind_of(b: u8) -> Kind
     }
 }
 
-// Runs of digits and of blanks are counted by tests of their own: by `kind_of` a byte of a run takes up to six instructions more (measured).
+// Runs of digits and of blanks are counted by tests of their own, which are faster than `kind_of`.
 fn is_digit(b: u8) -> bool
     ensures { result ≡ within 48 57 b }
 {
     matches!(b, b'0'..=b'9')
 }
 
+/// What a digit stands for.
 pub fn digit_value(b: u8) -> u64
     ensures value { result ≡ b - 48 }
     ensures small { result < 256 }
@@ -69,6 +71,7 @@ pub fn digit_value(b: u8) -> u64
     u64::from(b.saturating_sub(b'0'))
 }
 
+/// A blank: a space, or a byte from 9 to 13.
 #[tactic(auto, unfolding(definition::specs::Text::space))]
 pub fn is_space(b: u8) -> bool
     ensures { result ≡ space b }
@@ -99,9 +102,9 @@ fn is_end(b: u8) -> bool
 }
 
 // ---- counts of bytes in front
-// Each of these says that its count is in the text, by which callers cut: a count of a type of its own would be no plainer.
+// Each of these says that its count is in the text, by which callers cut.
 
-// How many bytes in front are digits.
+/// How many bytes in front are digits.
 pub fn digits_len(s: &[u8]) -> usize
     ensures value { result ≡ run (within 48 57) s.now }
     ensures in_bounds { result ≤ length s.now }
@@ -109,7 +112,7 @@ pub fn digits_len(s: &[u8]) -> usize
     s.iter().take_while(|b| is_digit(**b)).count()
 }
 
-// How many are blanks.
+/// How many are blanks.
 pub fn spaces_len(s: &[u8]) -> usize
     ensures value { result ≡ run space s.now }
     ensures in_bounds { result ≤ length s.now }
@@ -127,7 +130,7 @@ fn gaps_len(s: &[u8]) -> usize
 
 // ---- the value of digits
 
-// The whole number that digits stand for, after m: at most `cap`.
+/// The whole number that digits stand for, after m: at most `cap`.
 pub fn value_of(digits: &[u8], m: u64, cap: u64) -> u64
     requires m_le_cap { m ≤ cap }
     requires cap_bound { cap ≤ 2 ^ 53 }
@@ -153,7 +156,8 @@ impl Decimal {
     // The nearest f64, where the limits are kept.
     #[tactic(auto, unfolding(definition::specs::Text::to_nearest, loops::specs::Refusal::first_of))]
     fn nearest(self) -> Result<f64, Refusal>
-        ensures { (s : List ℕ) (at : ℕ) → given result at ≡ to_nearest binary64 self.minus self.m self.up self.down s at }
+        ensures { (s : List ℕ) (at : ℕ)
+            → given result at ≡ to_nearest binary64 self.minus self.m self.up self.down s at }
     {
         need(self.m < MOST_DIGITS, Refusal::CmvnForm)?;
         need(self.up <= self.down + 22, Refusal::CmvnForm)?;
@@ -171,9 +175,10 @@ pub struct Row {
     pub last: f64,
 }
 
-// Each method that moves says that the bytes stay the same ones: a fact of the fields speaks of one state, and not of the one before. That a text has at most
-// 65,536 bytes is asked where numbers are read: as a fact of the fields it would bind the readers of longer texts, so no form is plainer.
+// Each method that moves says that the bytes stay the same ones (limit: same bytes). That a text
+// has at most 65,536 bytes is asked where numbers are read: readers of longer texts read none.
 impl<'a> TextReader<'a> {
+    /// At the first byte.
     pub fn new(src: &'a [u8]) -> TextReader<'a>
         ensures bytes { result.src.now ≡ src.now }
         ensures front { result.at ≡ 0 }
@@ -199,10 +204,12 @@ impl<'a> TextReader<'a> {
     #[tactic(auto, unfolding(definition::specs::Reader::here))]
     fn kind(&self) -> Kind
         ensures digit { is_digit result ≡ here (within 48 57) self.now.src.now self.now.at }
-        ensures sign { is_sign result ≡ here (λ b. eqb b 43 || eqb b 45) self.now.src.now self.now.at }
+        ensures sign { is_sign result ≡ here
+            (λ b. eqb b 43 || eqb b 45) self.now.src.now self.now.at }
         ensures minus { is_minus result ≡ here (eqb 45) self.now.src.now self.now.at }
         ensures point { is_point result ≡ here (eqb 46) self.now.src.now self.now.at }
-        ensures exponent { is_exponent result ≡ here (λ b. eqb b 69 || eqb b 101) self.now.src.now self.now.at }
+        ensures exponent { is_exponent result
+            ≡ here (λ b. eqb b 69 || eqb b 101) self.now.src.now self.now.at }
         ensures blank { is_blank result ≡ here space self.now.src.now self.now.at }
     {
         self.peek().map_or(Kind::Other, kind_of)
@@ -226,7 +233,8 @@ impl<'a> TextReader<'a> {
 
     /// Whether nothing is left but blanks.
     pub fn is_done(&self) -> bool
-        ensures { result ≡ leb (length self.now.src.now) (self.now.at + run space (drop self.now.at self.now.src.now)) }
+        ensures { result ≡ leb (length self.now.src.now)
+            (self.now.at + run space (drop self.now.at self.now.src.now)) }
     {
         self.src.len() <= self.at + spaces_len(self.rest())
     }
@@ -252,7 +260,8 @@ impl<'a> TextReader<'a> {
     /// Past a byte, where it comes next.
     #[tactic(auto, unfolding(definition::specs::Reader::here))]
     pub fn skip_byte(&mut self, b: u8)
-        ensures value { self.new.at ≡ (if here (eqb b) self.old.src.now self.old.at then self.old.at + 1 else self.old.at) }
+        ensures value { self.new.at ≡ (if here (eqb b) self.old.src.now self.old.at
+            then self.old.at + 1 else self.old.at) }
         ensures same_bytes { self.new.src.now ≡ self.old.src.now }
     {
         if self.peek() == Some(b) {
@@ -270,7 +279,6 @@ impl<'a> TextReader<'a> {
         let rest = self.rest();
         let n = digits_len(rest);
         self.at += n;
-        // cut where the digits were counted to: `split_at` gives the rest too, which nothing reads, so it is no plainer
         &rest[..n]
     }
 
@@ -308,7 +316,8 @@ impl<'a> TextReader<'a> {
     // An exponent, if any. A magnitude above 100,000 is given as that: it is refused all the same.
     #[tactic(auto, unfolding(definition::specs::Text::exponent, definition::specs::Text::signed_digits, definition::specs::Reader::here, loops::specs::Refusal::first_of))]
     fn exponent(&mut self) -> Result<Power, Refusal>
-        ensures value { got power_of result self.new.at ≡ capped (exponent self.old.src.now self.old.at) }
+        ensures value { parsed power_of result self.new.at
+            ≡ capped (exponent self.old.src.now self.old.at) }
         ensures same_bytes { self.new.src.now ≡ self.old.src.now }
         ensures bound { IfOk result (λ p. p.magnitude ≤ 100000) }
     {
@@ -330,7 +339,8 @@ impl<'a> TextReader<'a> {
     /// The digits and the power of a number, for either format.
     pub fn decimal(&mut self) -> Result<Decimal, Refusal>
         requires { length self.old.src.now ≤ 65536 }
-        ensures value { (f : Format) → nearest_of f result self.new.at ≡ number f self.old.src.now self.old.at }
+        ensures value { (f : Format) → nearest_of f result self.new.at
+            ≡ number f self.old.src.now self.old.at }
         ensures same_bytes { self.new.src.now ≡ self.old.src.now }
     {
         let minus = self.sign();
@@ -356,6 +366,7 @@ impl<'a> TextReader<'a> {
         })
     }
 
+    // A number, as the nearest f64.
     fn number(&mut self) -> Result<f64, Refusal>
         requires { length self.old.src.now ≤ 65536 }
         ensures value { given result self.new.at ≡ number binary64 self.old.src.now self.old.at }
@@ -387,12 +398,13 @@ impl<'a> TextReader<'a> {
     // A row of at most 65 numbers.
     fn row(&mut self) -> Result<Row, Refusal>
         requires { length self.old.src.now ≤ 65536 }
-        ensures value { got (λ r. cells (row 66 self.old.src.now self.old.at)) result self.new.at ≡ row 66 self.old.src.now self.old.at }
+        ensures value { parsed (λ r. cells (row 66 self.old.src.now self.old.at)) result self.new.at
+            ≡ row 66 self.old.src.now self.old.at }
         ensures outline { IfOk result (Outlines (cells (row 66 self.old.src.now self.old.at))) }
         ensures same_bytes { self.new.src.now ≡ self.old.src.now }
     {
         let mut last = 0.0;
-        // a range: how many numbers are read is the answer, so no iterator is plainer
+        // how many numbers are read is the answer
         for len in 0..66 {
             self.skip_gaps();
             if self.stops() {
@@ -408,7 +420,8 @@ impl<'a> TextReader<'a> {
     #[tactic(auto, unfolding(definition::specs::Text::line))]
     fn line(&mut self) -> Result<Row, Refusal>
         requires { length self.old.src.now ≤ 65536 }
-        ensures value { got (λ r. cells (line self.old.src.now self.old.at)) result self.new.at ≡ line self.old.src.now self.old.at }
+        ensures value { parsed (λ r. cells (line self.old.src.now self.old.at)) result self.new.at
+            ≡ line self.old.src.now self.old.at }
         ensures outline { IfOk result (Outlines (cells (line self.old.src.now self.old.at))) }
         ensures same_bytes { self.new.src.now ≡ self.old.src.now }
     {
@@ -419,11 +432,14 @@ impl<'a> TextReader<'a> {
 
 // ---- the matrix
 
-/// The first row of a text that was checked: how many numbers, where it is looked for, and where the text ends.
+/// The first row of a text that was checked.
 #[derive(Clone, Copy, Debug, PartialEq, Eq)]
 pub struct Cmvn {
+    /// How many numbers.
     pub len: usize,
+    /// Where it is looked for.
     pub from: usize,
+    /// Where the text ends, but for blanks.
     pub next: usize,
 }
 
@@ -468,7 +484,7 @@ pub fn fill_row(s: &[u8], from: usize, out: &mut [f64])
 {
     let mut r = TextReader { src: s, at: from };
     r.skip_spaces();
-    // By index: a turn may end the fill, which leaves the places from i on as they were, so a loop over the places, that knows no i, is no plainer.
+    // By index: a turn may end the fill, which leaves the places from i on as they were.
     for i in 0..out.len() {
         r.skip_gaps();
         match r.number() {

@@ -1,4 +1,5 @@
-// Kaldi's files, binary and text, and the maker's settings texts: read and checked as they stand in memory.
+//! Kaldi's files, binary and text, and the maker's settings texts: read and checked as they stand
+//! in memory.
 #![tactic(auto)]
 
 pub mod kaldi_files;

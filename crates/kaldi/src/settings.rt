@@ -1,6 +1,5 @@
-// The options from the maker's settings texts, splice.conf and online_cmvn.conf: as `conf_int`, `conf_float` and the first half of
-// `IvectorInfo::open` in the Rust. Each line and each value is cut at a place that was counted: with `split_at` it is no plainer, since one of the
-// two parts alone is read.
+//! The options from the maker's settings texts, splice.conf and online_cmvn.conf: as `conf_int`,
+//! `conf_float` and the first half of `IvectorInfo::open` in the Rust.
 
 ghost use Rattle.std.specs.Prelude.{◌≡◌, true, false, MatchOption, not, List, ℕ, ◌+◌, ◌≤◌, length, take, drop, eqb, leb};
 ghost use Rattle.loops.specs.Lists.{all_of};
@@ -15,7 +14,7 @@ use crate::kaldi_text::{Decimal, TextReader, digit_value, is_space, spaces_len};
 use definition::{IvectorOptions, Refusal, need};
 
 // ---- lines
-// Each of these says that what it gives is in the text, by which callers cut: a count of a type of its own would be no plainer.
+// Each of these says that what it gives is in the text, by which callers cut.
 
 // How long the first line is: up to a byte 10, or to the end.
 fn line_len(s: &[u8]) -> usize
@@ -33,19 +32,21 @@ fn trim_end(s: &[u8]) -> usize
     s.len() - s.iter().rev().take_while(|b| is_space(**b)).count()
 }
 
+// A text without the blanks at both ends.
 fn trim(s: &[u8]) -> &[u8]
     ensures value { result.now ≡ trimmed s.now }
     ensures in_bounds { length result.now ≤ length s.now }
 {
-    // these are cut by hand: the library's `trim_ascii` leaves byte 11, which is a blank in the definition
+    // by hand: the library's `trim_ascii` leaves byte 11, which is a blank in the definition
     let t = &s[spaces_len(s)..];
     &t[..trim_end(t)]
 }
 
 // What stands behind a key, if a line begins with it.
-fn behind<'a>(line: &'a [u8], key: &[u8]) -> Option<&'a [u8]>
+fn after_key<'a>(line: &'a [u8], key: &[u8]) -> Option<&'a [u8]>
     ensures { MatchOption result (same (take (length key.now) line.now) key.now ≡ false)
-        (λ v. (same (take (length key.now) line.now) key.now ≡ true) × (v.now ≡ drop (length key.now) line.now) × (length v.now ≤ length line.now)) }
+        (λ v. (same (take (length key.now) line.now) key.now ≡ true)
+        × (v.now ≡ drop (length key.now) line.now) × (length v.now ≤ length line.now)) }
 {
     line.strip_prefix(key)
 }
@@ -56,12 +57,11 @@ fn value<'a>(s: &'a [u8], key: &[u8]) -> &'a [u8]
     ensures in_bounds { length result.now ≤ length s.now }
 {
     let mut at = 0;
-    // a `while`, and the lines cut by hand: the step is a line's length, and the invariant is over the lines from a place on; over the library's `split`
-    // the definition's lines would have to be proved its parts first, which is no plainer
+    // No `for`: the step is a line's length, and a proof is over the lines from a place on.
     while at <= s.len() {
         let end = at + line_len(&s[at..]);
         let line = trim(&s[at..end]);
-        if let Some(v) = behind(line, key) {
+        if let Some(v) = after_key(line, key) {
             return trim(v);
         }
         at = end + 1;
@@ -70,8 +70,7 @@ fn value<'a>(s: &'a [u8], key: &[u8]) -> &'a [u8]
 }
 
 // ---- values
-// Each of these that moves a reader says that its bytes stay the same ones: a fact of its fields speaks of one state, and not of the one before, so no type is
-// plainer.
+// Each of these that moves a reader says that its bytes stay the same ones (limit: same bytes).
 
 // The number that digits stand for, where it is below 2^64.
 fn below_64_bits(digits: &[u8]) -> Option<usize>
@@ -96,11 +95,11 @@ fn whole(r: &mut TextReader<'_>) -> Result<usize, Refusal>
     below_64_bits(digits).ok_or(Refusal::CmvnForm)
 }
 
-// The nearest f32, where the limits are kept: those of its format. `Decimal::nearest` has an f64's; one function for both would be told the two
-// limits, which is no plainer.
+// The nearest f32, where its format's limits are kept.
 #[tactic(auto, unfolding(definition::specs::Text::to_nearest, loops::specs::Refusal::first_of))]
 fn nearest(d: Decimal) -> Result<f32, Refusal>
-    ensures { (s : List ℕ) (at : ℕ) → given result at ≡ to_nearest binary32 d.minus d.m d.up d.down s at }
+    ensures { (s : List ℕ) (at : ℕ)
+        → given result at ≡ to_nearest binary32 d.minus d.m d.up d.down s at }
 {
     need(d.m < 16_777_216, Refusal::CmvnForm)?;
     need(d.up <= d.down + 10, Refusal::CmvnForm)?;
@@ -108,6 +107,7 @@ fn nearest(d: Decimal) -> Result<f32, Refusal>
     Ok(floats::decimal(d.minus, d.m, d.up, d.down))
 }
 
+// A number, as the nearest f32.
 fn number(r: &mut TextReader<'_>) -> Result<f32, Refusal>
     requires { length r.old.src.now ≤ 65536 }
     ensures value { given result r.new.at ≡ number binary32 r.old.src.now r.old.at }
@@ -128,6 +128,7 @@ fn all_or<T: Copy>(read: Result<T, Refusal>, at: usize, end: usize, default: T) 
 
 // ---- the options
 
+// The whole number of a key, or the default where it cannot be read.
 fn int_setting(s: &[u8], key: &[u8], default: usize) -> usize
     ensures { (
         let v : List ℕ = value_of key.now (lines s.now) in
@@ -139,6 +140,7 @@ fn int_setting(s: &[u8], key: &[u8], default: usize) -> usize
     all_or(n, r.at, v.len(), default)
 }
 
+// The float of a key, or the default.
 fn float_setting(s: &[u8], key: &[u8], default: f32) -> f32
     requires { length s.now ≤ 65536 }
     ensures { (
@@ -191,7 +193,8 @@ fn is_plain(s: &[u8]) -> bool
     s.len() <= 65536 && is_ascii(s)
 }
 
-/// The options of splice.conf and online_cmvn.conf, whether they are in their ranges or not; a missing file is an empty text.
+/// The options of splice.conf and online_cmvn.conf, whether they are in their ranges or not; a
+/// missing file is an empty text.
 #[tactic(auto, unfolding(crate::specs::Settings::settings_of, loops::specs::Refusal::first_of))]
 pub fn read_settings(splice: &[u8], online_cmvn: &[u8]) -> Result<IvectorOptions, Refusal>
     ensures { given result 0 ≡ settings_of splice.now online_cmvn.now }

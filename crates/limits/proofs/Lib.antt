@@ -3,3 +3,4 @@ pub mod Listed
 pub mod Ordered
 pub mod Records
 pub mod Rows
+pub mod Within

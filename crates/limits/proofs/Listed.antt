@@ -1,6 +1,6 @@
 -- Laws of tests in a list that is written out, as code makes them: one after the other, left at the first that fails.
 use mathlib.Core.Path.{◌≡◌, refl, sym, ◌∙◌}
-use mathlib.Core.Bool.{Bool, true, false, not}
+use mathlib.Core.Bool.{Bool, true, false, not, ◌&&◌, ◌||◌}
 use mathlib.Core.List.{List, [], ◌∷◌, zip_with}
 use Prim.Native.Nat.{ℕ, zero, suc, ◌≤◌, ◌<◌}
 use native.Mathlib.Omega.{arith}
@@ -16,6 +16,17 @@ holds {r} e h = sym e ∙ not-false r h
 
 pub fails : {r t : Bool} → r ≡ t → not r ≡ true → t ≡ false
 fails {r} e h = sym e ∙ not-true r h
+
+-- of two tests the second decides, where the first holds; and where a third holds, that or the second of the first two
+pub and_skip : (a b : Bool) → a ≡ true → (a && b) ≡ b
+and_skip a b e = rw e
+
+pub first_of_two : (a b g : Bool) → a ≡ true → g ≡ true → a ≡ ((a || b) && g)
+first_of_two a b g e h = rw (e, h) refl
+
+pub second_of_two : (a b g : Bool) → a ≡ false → g ≡ true → b ≡ ((a || b) && g)
+second_of_two a true g e h = rw (e, h) refl
+second_of_two a false g e h = rw e refl
 
 -- a test of numbers that code calls for
 pub lt_test : {a b m n : ℕ} → a ≡ m → b ≡ n → a < b → ltb m n ≡ true

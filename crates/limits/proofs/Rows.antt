@@ -13,13 +13,10 @@ module _ (a d n : ℕ) (some : 0 < d) where
   pub rows_reach : n * d ≤ a → n ≤ a / d
   rows_reach h = (le-div_iff_mul-le some).1 h
 
--- a room that holds n rows and has no place for one more, or has one
+-- a room that holds n rows and has no place for one more
 module _ (a d : ℕ) (some : 0 < d) {n held : ℕ} (e : n ≡ held) where
   pub full_rows : held ≤ a / d → a < (n + 1) * d → held ≡ a / d
   full_rows l h = omega (arith, rows_under a d (n + 1) some h)
-
-  pub more_rows : (n + 1) * d ≤ a → held ≡ a / d → ⊥
-  more_rows h g = omega (arith, rows_reach a d (n + 1) some h)
 
 -- no more frames are held than were accepted, nor rows than one more
 pub frames-few : (a m : ℕ) {n : ℕ} → n ≡ frames_held a m → n ≤ a

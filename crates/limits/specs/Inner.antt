@@ -1,4 +1,4 @@
--- What inner functions leave. Not for readers.
+-- What inner functions leave.
 use Rattle.std.specs.Prelude.{ℕ, ◌-◌, Bool, not, ◌||◌, List, ltb, drop}
 use Rattle.loops.specs.Lists.{any_of, any_true}
 use Rattle.definition.specs.declared.IvectorStream.{IvectorStream}

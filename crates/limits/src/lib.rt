@@ -1,12 +1,12 @@
-// Limits of options, dimensions and lent lengths, and what makes a record one that no call has made. Pure tests. Those that every push makes are
-// compiled into it, `#[inline(always)]`: else the model's record would be copied for each. Each asks that the dimensions are in range, or how far a
-// stream goes, in the definition's own word for it, which is short: a name for it would be no plainer.
+//! Limits of options, dimensions and lent lengths, and what makes a record one that no call has
+//! made. Pure tests. Those that every push makes are compiled into it, `#[inline(always)]`: else
+//! the model's record would be copied for each.
 #![tactic(auto)]
 
 ghost use Rattle.std.specs.Prelude.{◌≡◌, true, ◌&&◌, ◌||◌, ◌≤◌, eqb, ltb};
 ghost use Rattle.std.specs.Float.Ieee.{le, lt};
 ghost use Rattle.floats.specs.Operators.{zero₃₂, one₃₂};
-ghost use Rattle.definition.specs.Options.{within, options_in_range, dims_in_range, dims_agree};
+ghost use Rattle.definition.specs.Options.{within, max_window, max_frames, options_in_range, dims_in_range, dims_agree};
 ghost use Rattle.definition.specs.Model.{tables_fit, load_scratch};
 ghost use Rattle.definition.specs.Machine.{frames_held, rows_held, frames_ready};
 ghost use Rattle.definition.specs.Stream.{record_sound, info_sound, stream_scratch, rooms_fit, is_foreign, same_tables, same_rings, same_rooms, estimate_lengths};
@@ -20,9 +20,9 @@ use definition::{
 
 // ---- options and dimensions
 
-// A window that may be set.
+/// Whether a window may be set.
 pub fn window_in_range(n: usize) -> bool
-    ensures { result ≡ within 1 1000 n }
+    ensures { result ≡ within 1 max_window n }
 {
     (1..=1000).contains(&n)
 }
@@ -34,7 +34,7 @@ fn is_share(p: f32) -> bool
     0.0 <= p && p < 1.0
 }
 
-// Refusal 1, where false.
+/// Refusal 1, where false.
 #[inline(always)]
 #[tactic(auto, unfolding(definition::specs::Options::options_in_range, loops::specs::Lists::all_of))]
 pub fn options_in_range(o: IvectorOptions) -> bool
@@ -70,7 +70,7 @@ pub fn options_in_range(o: IvectorOptions) -> bool
     floats::is_finite(o.min_energy)
 }
 
-// Refusal 4, where false.
+/// Refusal 4, where false.
 #[inline(always)]
 #[tactic(auto, unfolding(definition::specs::Options::dims_in_range, loops::specs::Lists::all_of))]
 pub fn dims_in_range(d: Dimensions) -> bool
@@ -84,7 +84,7 @@ pub fn dims_in_range(d: Dimensions) -> bool
         && (1..=1089).contains(&d.lda_cols)
 }
 
-// Refusal 5, where false.
+/// Refusal 5, where false.
 #[inline(always)]
 #[tactic(auto, unfolding(definition::specs::Options::dims_agree))]
 pub fn dims_agree(o: IvectorOptions, d: Dimensions) -> bool
@@ -97,7 +97,7 @@ pub fn dims_agree(o: IvectorOptions, d: Dimensions) -> bool
 
 // ---- a model's record
 
-// Whether each table has room for what it keeps.
+/// Whether each table has room for what it keeps.
 #[inline(always)]
 pub fn tables_fit(o: IvectorOptions, d: Dimensions, z: TableLengths) -> bool
     requires { (options_in_range o ≡ true) × (dims_in_range d ≡ true) }
@@ -131,7 +131,7 @@ pub fn tables_fit(o: IvectorOptions, d: Dimensions, z: TableLengths) -> bool
     d.base_dim + 1 <= z.global_mean_stats
 }
 
-// Refusal 10 of a fresh stream, where false: options and dimensions that no load takes.
+/// Refusal 10 of a fresh stream, where false: options and dimensions that no load takes.
 #[inline(always)]
 #[tactic(auto, unfolding(definition::specs::Stream::record_sound, loops::specs::Lists::all_of))]
 pub fn record_sound(i: IvectorInfo) -> bool
@@ -140,7 +140,7 @@ pub fn record_sound(i: IvectorInfo) -> bool
     options_in_range(i.opts) && dims_in_range(i.dims) && dims_agree(i.opts, i.dims)
 }
 
-// Whether a model's record could come from a load.
+/// Whether a model's record could come from a load.
 #[inline(always)]
 #[tactic(auto, unfolding(definition::specs::Stream::info_sound))]
 pub fn info_sound(i: IvectorInfo) -> bool
@@ -149,7 +149,7 @@ pub fn info_sound(i: IvectorInfo) -> bool
     record_sound(i) && tables_fit(i.opts, i.dims, i.tables)
 }
 
-// The scratch that a load and a fetch are lent.
+/// How many numbers of scratch a load needs.
 pub fn load_scratch(d: Dimensions) -> usize
     requires { dims_in_range d ≡ true }
     ensures { result ≡ load_scratch d }
@@ -157,6 +157,7 @@ pub fn load_scratch(d: Dimensions) -> usize
     d.feat_dim * (d.feat_dim + 1) / 2 + d.feat_dim * d.ivector_dim
 }
 
+/// How many numbers of scratch a fetch needs.
 #[inline(always)]
 #[tactic(auto, unfolding(definition::specs::Stream::stream_scratch))]
 pub fn stream_scratch(d: Dimensions) -> usize
@@ -168,7 +169,7 @@ pub fn stream_scratch(d: Dimensions) -> usize
 
 // ---- a stream's rooms
 
-// Refusal 8, where false. How many rows a ring has is told without a division.
+/// Refusal 8, where false. How many rows a ring has is told without a division.
 #[inline(always)]
 pub fn rooms_fit(d: Dimensions, z: RoomLengths) -> bool
     requires { dims_in_range d ≡ true }
@@ -200,6 +201,7 @@ pub fn rooms_fit(d: Dimensions, z: RoomLengths) -> bool
 
 // ---- a stream's record
 
+/// The frames from the mark on.
 #[tactic(auto, unfolding(definition::specs::Machine::frames_held))]
 pub fn frames_held(accepted: usize, mark: usize) -> usize
     ensures { result ≡ frames_held accepted mark }
@@ -207,16 +209,17 @@ pub fn frames_held(accepted: usize, mark: usize) -> usize
     accepted.saturating_sub(mark)
 }
 
+/// The prefix rows that are held for the longest window.
 #[tactic(auto, unfolding(definition::specs::Machine::rows_held))]
 pub fn rows_held(longest: usize, accepted: usize, mark: usize) -> usize
-    requires { (accepted ≤ 1000000000) × (mark ≤ 1000000000) }
+    requires { (accepted ≤ max_frames) × (mark ≤ max_frames) }
     ensures { result ≡ rows_held longest accepted mark }
 {
     let first = (mark + 1).saturating_sub(longest);
     (accepted + 1).saturating_sub(first)
 }
 
-// How many frames can be fetched. `finished` is the record's flag, as C and the definition have it: an enum of two would be translated back in each clause.
+/// How many frames can be fetched.
 #[tactic(auto, unfolding(definition::specs::Machine::frames_ready))]
 pub fn frames_ready(o: IvectorOptions, finished: bool, accepted: usize) -> usize
     ensures { result ≡ frames_ready o finished accepted }
@@ -228,7 +231,8 @@ pub fn frames_ready(o: IvectorOptions, finished: bool, accepted: usize) -> usize
     }
 }
 
-// Whether the waiting changes are out of order, or one of them needs a frame below the mark. The first is the lowest.
+// Whether the waiting changes are out of order, or one of them needs a frame below the mark. The
+// first is the lowest.
 fn waiting_broken(held: &[usize], left: usize, mark: usize) -> bool
     ensures { result ≡ waiting_broken held.now left mark }
 {
@@ -243,7 +247,7 @@ fn waiting_broken(held: &[usize], left: usize, mark: usize) -> bool
 
 // Whether no call left these as the window in force and the longest.
 fn windows_broken(window: usize, longest: usize) -> bool
-    ensures { result ≡ (eqb window 0 || ltb longest window || ltb 1000 longest) }
+    ensures { result ≡ (eqb window 0 || ltb longest window || ltb max_window longest) }
 {
     window == 0 || longest < window || 1000 < longest
 }
@@ -281,11 +285,11 @@ fn counts_broken(s: &IvectorStream, waiting: &[usize]) -> bool
     if rings.waiting_frames.min(rings.waiting_weights) < s.waiting {
         return true;
     }
-    // cut to the room too, since a lent record may say more than there is: the definition's `take`
+    // cut to the room too: a lent record may say more than there is
     waiting_broken(&waiting[..s.waiting.min(waiting.len())], left, s.mark)
 }
 
-// Refusal 10, where true: no call made this record, whose waiting frames lie in `waiting`.
+/// Refusal 10, where true: no call made this record, whose waiting frames lie in `waiting`.
 #[inline(always)]
 #[tactic(auto, unfolding(definition::specs::Stream::is_foreign, definition::specs::Stream::breaks, loops::specs::Lists::any_of, crate::specs::Inner::counts_broken))]
 pub fn is_foreign(s: &IvectorStream, waiting: &[usize]) -> bool
@@ -299,9 +303,10 @@ pub fn is_foreign(s: &IvectorStream, waiting: &[usize]) -> bool
 
 // ---- the derived comparison
 
-// Of any two records of lengths the derived `==` is the definition's comparison of them, one after the other: these say so, each of one type.
-// They are for a reader of the contracts: no code calls them.
+// Of two records of lengths the derived `==` is the definition's comparison of them, one after the
+// other: these say so, each of one type. No code calls them.
 
+/// Whether tables are equally long.
 #[tactic(auto, unfolding(definition::specs::Stream::same_tables))]
 pub fn same_tables(a: TableLengths, b: TableLengths) -> bool
     ensures { result ≡ same_tables a b }
@@ -309,6 +314,7 @@ pub fn same_tables(a: TableLengths, b: TableLengths) -> bool
     a == b
 }
 
+/// Whether rings are.
 #[tactic(auto, unfolding(definition::specs::Stream::same_rings))]
 pub fn same_rings(a: RingLengths, b: RingLengths) -> bool
     ensures { result ≡ same_rings a b }
@@ -316,6 +322,7 @@ pub fn same_rings(a: RingLengths, b: RingLengths) -> bool
     a == b
 }
 
+/// Whether all rooms of a stream are.
 #[tactic(auto, unfolding(definition::specs::Stream::same_rooms, definition::specs::Stream::same_rings))]
 pub fn same_rooms(a: RoomLengths, b: RoomLengths) -> bool
     ensures { result ≡ same_rooms a b }
@@ -323,6 +330,7 @@ pub fn same_rooms(a: RoomLengths, b: RoomLengths) -> bool
     a == b
 }
 
+/// Whether the rooms of a fetch are.
 pub fn same_estimate(a: EstimateLengths, b: EstimateLengths) -> bool
     ensures { result ≡ pairwise eqb (estimate_lengths a) (estimate_lengths b) }
 {

@@ -46,9 +46,6 @@ module _ (o : IvectorOptions) (z : TableLengths) (n : ℕ) where
   follows f = by-test (options_in_range o) (λ e. rw e (in_files (reading f [] 0))) (λ e. rw e refl)
 
   module _ (f : Files) where
-    pub follows_refused : {r : ℕ} → dimensions_of o f ≡ refused r → load o f z n ≡ refused r
-    follows_refused e = subst (λ (x : Got Dimensions). Follows x (load o f z n)) e (follows f)
-
     module _ {d : Dimensions} {i : ℕ} (e : dimensions_of o f ≡ read d i) where
       pub follows_read : (fits d ≡ true → Found o d (load o f z n)) × (fits d ≡ false → load o f z n ≡ refused 8)
       follows_read = subst (λ (x : Got Dimensions). Follows x (load o f z n)) e (follows f)

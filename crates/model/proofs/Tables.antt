@@ -1,6 +1,6 @@
 -- The tables of a load: a refusal leaves them as they were, and what the eight fills say of one table each is one equation of all eight.
 -- The lengths that the judgement passed are room for each fill.
-use Rattle.std.specs.Prelude.{Ok, Err}
+use Rattle.std.specs.Prelude.{Ok}
 use mathlib.Core.Path.{◌≡◌, refl, sym, ap, ◌∙◌}
 use mathlib.Core.List.{List}
 use Prim.Native.Nat.{ℕ, ◌+◌, ◌*◌, ◌≤◌}
@@ -12,7 +12,7 @@ use Rattle.definition.specs.declared.IvectorOptions.{IvectorOptions}
 use Rattle.definition.specs.declared.Dimensions.{Dimensions}
 use Rattle.definition.specs.declared.TableLengths.{TableLengths}
 use Rattle.definition.specs.Options.{spliced}
-use Rattle.definition.specs.Reader.{Got, read, refused}
+use Rattle.definition.specs.Reader.{Got, read}
 use Rattle.definition.specs.Kaldi.{triangle}
 use Rattle.definition.specs.Text.{line}
 use Rattle.definition.specs.Model.{Tables, tables_from, tables_of, filled_tables, Model, gconst, transposed, loaded_of, loaded_tables, lda_offset_of}
@@ -25,18 +25,6 @@ use Rattle.model.specs.Load.{scratch_kept}
 use Rattle.model.specs.declared.ivector_info.Judged.{Judged}
 use Rattle.model.specs.Inner.IvectorInfo.{contents_in, judged_in, JudgedIn, LdaFits}
 use Rattle.model.proofs.Files.{dims_are}
-
--- ---- a refusal
-
-module _ {g : Got Model} {n : ℕ} (e : refused n ≡ g) where
-  pub loaded_no : Err n ≡ loaded_of g
-  loaded_no = ap loaded_of e
-
-  pub tables_same : (t : Tables) → t ≡ loaded_tables g t
-  tables_same t = ap (λ (x : Got Model). loaded_tables x t) e
-
-  pub scratch_same : (room : List Float) → scratch_kept g room room
-  scratch_same room = rw (sym e) refl
 
 -- ---- a load
 

@@ -1,10 +1,10 @@
--- What contracts of inner functions say; no reader needs it.
+-- Words of inner contracts; no promise rests on them.
 pub mod Inner
--- ivector_tables: what the contracts of this crate need besides the definitions.
+-- ivector_tables: an extractor whose readers are at the next Gaussian's blocks.
 pub mod Next
 -- ivector_info: what a load is given, in the definition's terms.
 pub mod Load
 -- memory: how much memory a model and a stream need.
 pub mod Memory
--- for the contracts of inner functions, not for readers
+-- words of inner contracts
 pub mod Answered

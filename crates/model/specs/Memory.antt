@@ -7,7 +7,7 @@ use Rattle.definition.specs.declared.Dimensions.{Dimensions}
 use Rattle.definition.specs.declared.TableLengths.{TableLengths}
 use Rattle.definition.specs.declared.IvectorInfo.{IvectorInfo}
 use Rattle.definition.specs.declared.RoomLengths.{RoomLengths}
-use Rattle.definition.specs.Options.{within, options_in_range, dims_in_range, dims_agree}
+use Rattle.definition.specs.Options.{within, options_in_range, dims_in_range, dims_agree, max_frames}
 use Rattle.definition.specs.Reader.{Got, read, refused, Parser, ◌>>=◌, ◌>>◌, give, need}
 use Rattle.definition.specs.Kaldi.{triangle}
 use Rattle.definition.specs.Model.{Files, contents_agree, dims_of, lengths_from, table_sizes, table_lengths, load_scratch, reading, load}
@@ -76,7 +76,7 @@ no_rooms n = rooms_answer n (rooms_from 0 0 0 0 0 0 0 0)
 -- a stream takes 1,000,000,000 frames at most, and a fresh one holds a row
 unfoldable pub rooms_needed : Dimensions → ℕ → ℕ → ℕ → RoomsAnswer
 rooms_needed d f r w =
-    if dims_in_range d then (if within 1 1000000000 f && within 2 2000000000 r then rooms_answer 0 (room_sizes d f r w) else no_rooms 8) else no_rooms 4
+    if dims_in_range d then (if within 1 max_frames f && within 2 2000000000 r then rooms_answer 0 (room_sizes d f r w) else no_rooms 8) else no_rooms 4
 
 -- ---- what is shown of them
 

@@ -1,4 +1,6 @@
-// Load: a model's four files judged in a first pass that writes nothing, then its tables filled. As `IvectorInfo::open` in the Rust.
+//! Load: a model's four files judged in a first pass that writes nothing, then its tables filled.
+//! As `IvectorInfo::open` in the Rust. Files, tables and scratch go one by one, as the C interface
+//! lends them.
 
 ghost use Rattle.std.specs.Prelude.{◌≡◌, ◌≤◌, ◌*◌, ◌&&◌, true, ℕ, List, IfOk, leb, length};
 ghost use Rattle.std.specs.Float.{binary32};
@@ -8,7 +10,7 @@ ghost use Rattle.definition.specs.Options.{options_in_range, dims_in_range, spli
 ghost use Rattle.definition.specs.Reader.{need};
 ghost use Rattle.definition.specs.Text.{line};
 ghost use Rattle.definition.specs.Model.{gconst, transposed, lda_offset_of, Tables, tables_from, table_lengths_of, tables_fit, load_scratch, load as load_of, loaded_of, loaded_tables};
-ghost use Rattle.kaldi.specs.Inner.KaldiIoGot.{got, itself, matrix_in};
+ghost use Rattle.kaldi.specs.Inner.KaldiIoGot.{parsed, as_read, matrix_in};
 ghost use Rattle.kaldi.specs.Parts.{gmm_in};
 ghost use Rattle.kaldi.specs.Inner.KaldiTextAnswers.{cells};
 ghost use Rattle.model.specs.Load.{files_of, scratch_kept};
@@ -33,6 +35,7 @@ pub struct Contents<'a> {
     pub gmm: Gmm<'a>,
     pub extractor: Extractor<'a>,
     pub lda: Matrix<'a>,
+    /// The first row of the CMVN text.
     pub row: Cmvn,
 }
 
@@ -51,7 +54,7 @@ impl Contents<'_> {
     }
 }
 
-// The four files one by one, here and below, as the C interface lends them to a load.
+// 2 to 7, file by file.
 #[tactic(auto, unfolding(crate::specs::Inner::IvectorInfo::contents))]
 fn check_files<'a>(
     gmm: &'a [u8],
@@ -59,7 +62,8 @@ fn check_files<'a>(
     lda: &'a [u8],
     cmvn: &'a [u8],
 ) -> Result<Contents<'a>, Refusal>
-    ensures value { got (contents_in cmvn.now) result 0 ≡ contents (files_of gmm.now extractor.now lda.now cmvn.now) }
+    ensures value { parsed (contents_in cmvn.now) result 0
+        ≡ contents (files_of gmm.now extractor.now lda.now cmvn.now) }
     ensures stands { IfOk result (ContentsIn cmvn.now) }
 {
     let gmm = check_gmm(&mut KaldiReader::new(gmm))?;
@@ -83,7 +87,8 @@ fn need_agreeing(
 ) -> Result<(), Refusal>
     requires options { options_in_range opts ≡ true }
     requires dims_in { dims_in_range dims ≡ true }
-    ensures { (s : List ℕ) (at : ℕ) → got itself result at ≡ need (agreeing opts dims files.now) 5 s at }
+    ensures { (s : List ℕ) (at : ℕ)
+        → parsed as_read result at ≡ need (agreeing opts dims files.now) 5 s at }
 {
     need(dims_agree(opts, dims), Refusal::Disagree)?;
     need(
@@ -106,7 +111,9 @@ fn need_room(
 ) -> Result<(), Refusal>
     requires options { options_in_range opts ≡ true }
     requires dims_in { dims_in_range dims ≡ true }
-    ensures { (s : List ℕ) (at : ℕ) → got itself result at ≡ need (tables_fit opts dims z && leb (load_scratch dims) scratch) 8 s at }
+    ensures { (s : List ℕ) (at : ℕ)
+        → parsed as_read result at
+        ≡ need (tables_fit opts dims z && leb (load_scratch dims) scratch) 8 s at }
 {
     need(tables_fit(opts, dims, z), Refusal::ShortRoom)?;
     need(load_scratch(dims) <= scratch, Refusal::ShortRoom)
@@ -119,7 +126,6 @@ pub struct Judged<'a> {
     pub files: Contents<'a>,
 }
 
-// The files one by one, as the C interface lends them.
 /// 1 to 8, with z the lengths of the lent tables and `scratch` that of scratch.
 #[tactic(auto, unfolding(loops::specs::Refusal::first_of, definition::specs::Model::load, definition::specs::Model::loading, definition::specs::Model::judged, crate::specs::Inner::IvectorInfo::contents))]
 pub fn judge<'a>(
@@ -131,7 +137,8 @@ pub fn judge<'a>(
     z: TableLengths,
     scratch: usize,
 ) -> Result<Judged<'a>, Refusal>
-    ensures value { got (judged_in opts cmvn.now z) result 0 ≡ load_of opts (files_of gmm.now extractor.now lda.now cmvn.now) z scratch }
+    ensures value { parsed (judged_in opts cmvn.now z) result 0
+        ≡ load_of opts (files_of gmm.now extractor.now lda.now cmvn.now) z scratch }
     ensures stands { IfOk result (JudgedIn opts cmvn.now z scratch) }
 {
     need(options_in_range(opts), Refusal::OptionRange)?;
@@ -144,14 +151,19 @@ pub fn judge<'a>(
 
 // ---- the second pass
 
-// The tables one by one, here and in `load`, as the C interface lends them.
+// The tables of the GMM's file.
 fn fill_gmm(gmm: &Gmm<'_>, gconsts: &mut [f32], means_invvars_t: &mut [f32], inv_vars_t: &mut [f32])
     requires gconsts_fit { gmm.now.inv_vars.rows ≤ length gconsts.old }
-    requires means_fit { gmm.now.inv_vars.cols * gmm.now.inv_vars.rows ≤ length means_invvars_t.old }
+    requires means_fit { gmm.now.inv_vars.cols * gmm.now.inv_vars.rows
+        ≤ length means_invvars_t.old }
     requires vars_fit { gmm.now.inv_vars.cols * gmm.now.inv_vars.rows ≤ length inv_vars_t.old }
-    ensures gconsts_after { gconsts.new ≡ over (build gmm.now.inv_vars.rows (gconst (gmm_in gmm.now))) gconsts.old }
-    ensures means_after { means_invvars_t.new ≡ over (transposed gmm.now.inv_vars.cols (matrix_in binary32 gmm.now.means_invvars)) means_invvars_t.old }
-    ensures vars_after { inv_vars_t.new ≡ over (transposed gmm.now.inv_vars.cols (matrix_in binary32 gmm.now.inv_vars)) inv_vars_t.old }
+    ensures gconsts_after { gconsts.new ≡ over
+        (build gmm.now.inv_vars.rows (gconst (gmm_in gmm.now))) gconsts.old }
+    ensures means_after { means_invvars_t.new
+        ≡ over (transposed gmm.now.inv_vars.cols (matrix_in binary32 gmm.now.means_invvars))
+        means_invvars_t.old }
+    ensures vars_after { inv_vars_t.new ≡ over
+        (transposed gmm.now.inv_vars.cols (matrix_in binary32 gmm.now.inv_vars)) inv_vars_t.old }
 {
     let dim = gmm.inv_vars.cols;
     fill_gconsts(gmm, gconsts);
@@ -159,6 +171,7 @@ fn fill_gmm(gmm: &Gmm<'_>, gconsts: &mut [f32], means_invvars_t: &mut [f32], inv
     fill_transposed(&gmm.inv_vars, dim, inv_vars_t);
 }
 
+// The tables of the LDA's file and of the CMVN text.
 fn fill_lda(
     opts: IvectorOptions,
     judged: &Judged<'_>,
@@ -167,10 +180,17 @@ fn fill_lda(
     lda_offset: &mut [f32],
     global_mean_stats: &mut [f64],
 )
-    requires { LdaFits opts cmvn.now judged.now (length lda_t.old) (length lda_offset.old) (length global_mean_stats.old) }
-    ensures lda_after { lda_t.new ≡ over (transposed (spliced opts judged.now.dims) (matrix_in binary32 judged.now.files.lda)) lda_t.old }
-    ensures offset_after { lda_offset.new ≡ over (build judged.now.dims.feat_dim (lda_offset_of (spliced opts judged.now.dims) (matrix_in binary32 judged.now.files.lda))) lda_offset.old }
-    ensures global_after { global_mean_stats.new ≡ over (cells (line cmvn.now judged.now.files.row.from)) global_mean_stats.old }
+    requires { LdaFits opts cmvn.now judged.now (length lda_t.old) (length lda_offset.old)
+        (length global_mean_stats.old) }
+    ensures lda_after { lda_t.new ≡ over
+        (transposed (spliced opts judged.now.dims)
+        (matrix_in binary32 judged.now.files.lda)) lda_t.old }
+    ensures offset_after { lda_offset.new ≡ over
+        (build judged.now.dims.feat_dim
+        (lda_offset_of (spliced opts judged.now.dims) (matrix_in binary32 judged.now.files.lda)))
+        lda_offset.old }
+    ensures global_after { global_mean_stats.new
+        ≡ over (cells (line cmvn.now judged.now.files.row.from)) global_mean_stats.old }
 {
     let lda = &judged.files.lda;
     let row = judged.files.row;
@@ -182,7 +202,8 @@ fn fill_lda(
 
 // ---- the load
 
-// The files, the tables and the scratch one by one, as the C interface lends them: it is what is called there, and a struct of them would be no plainer.
+/// Loads a model from the bytes of its four files into lent tables, and returns its record. A
+/// refusal writes nothing.
 pub fn load(
     opts: IvectorOptions,
     gmm: &[u8],
@@ -201,11 +222,12 @@ pub fn load(
 ) -> Result<IvectorInfo, Refusal>
     ensures { (
         let t : Tables = tables_from gconsts.old means_invvars_t.old inv_vars_t.old sigma_inv_m.old u.old lda_t.old lda_offset.old global_mean_stats.old in
-        let got = load_of opts (files_of gmm.now extractor.now lda.now cmvn.now) (table_lengths_of t) (length scratch.old) in
-        (numbered result ≡ loaded_of got)
-        × (tables_from gconsts.new means_invvars_t.new inv_vars_t.new sigma_inv_m.new u.new lda_t.new lda_offset.new global_mean_stats.new
-        ≡ loaded_tables got t)
-        × scratch_kept got scratch.old scratch.new) }
+        let model_read = load_of opts (files_of gmm.now extractor.now lda.now cmvn.now) (table_lengths_of t) (length scratch.old) in
+        (numbered result ≡ loaded_of model_read)
+        × (tables_from gconsts.new means_invvars_t.new inv_vars_t.new sigma_inv_m.new u.new
+        lda_t.new lda_offset.new global_mean_stats.new
+        ≡ loaded_tables model_read t)
+        × scratch_kept model_read scratch.old scratch.new) }
 {
     let tables = TableLengths {
         gconsts: gconsts.len(),

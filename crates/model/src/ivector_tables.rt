@@ -1,5 +1,6 @@
-//! The tables that a model keeps, of files that were checked: what `DiagGmm::parse`, `IvectorExtractor::parse` and the LDA's part of
-//! `IvectorInfo::open` in the Rust make of the files' numbers. A table goes to the front of its room, and the places past it keep their values.
+//! The tables that a model keeps, of files that were checked: what `DiagGmm::parse`,
+//! `IvectorExtractor::parse` and the LDA's part of `IvectorInfo::open` in the Rust make of the
+//! files' numbers. A table goes to the front of its room, and the places past it keep their values.
 
 ghost use Rattle.std.specs.Prelude.{◌≡◌, ◌+◌, ◌*◌, ◌<◌, ◌≤◌, false, length};
 ghost use Rattle.std.specs.Float.{binary32, binary64};
@@ -84,7 +85,8 @@ fn fill_column<W: Real>(block: &Matrix<'_>, c: usize, out: &mut [f32])
     requires written { W.format ≡ format_of block.now.numbers.width }
     requires inside { c < block.now.cols }
     requires room { length out.old ≡ block.now.rows }
-    ensures { out.new ≡ build block.now.rows (λ r. at (matrix_in binary32 block.now).nums (r * block.now.cols + c)) }
+    ensures { out.new ≡ build block.now.rows
+        (λ r. at (matrix_in binary32 block.now).nums (r * block.now.cols + c)) }
 {
     let (bytes, n, cols) = (block.numbers.bytes, block.numbers.count, block.cols);
     for (r, x) in out.iter_mut().enumerate() {
@@ -92,7 +94,7 @@ fn fill_column<W: Real>(block: &Matrix<'_>, c: usize, out: &mut [f32])
     }
 }
 
-// The first `kept` columns. By index: `chunks_exact_mut` refuses parts of no places, and the matrix may have no rows.
+// The first `kept` columns. By index: the matrix may have no rows (limit: chunks).
 fn fill_columns<W: Real>(block: &Matrix<'_>, kept: usize, out: &mut [f32])
     requires written { W.format ≡ format_of block.now.numbers.width }
     requires kept_in { kept ≤ block.now.cols }
@@ -123,7 +125,8 @@ pub fn fill_transposed(block: &Matrix<'_>, kept: usize, out: &mut [f32])
 // The column after the spliced ones, or zeros where there is none.
 fn offset(block: &Matrix<'_>, spliced: usize, out: &mut [f32])
     requires { length out.old ≡ block.now.rows }
-    ensures { out.new ≡ build block.now.rows (lda_offset_of spliced (matrix_in binary32 block.now)) }
+    ensures { out.new ≡ build block.now.rows
+        (lda_offset_of spliced (matrix_in binary32 block.now)) }
 {
     if block.cols <= spliced {
         out.fill(0.0);
@@ -139,7 +142,8 @@ fn offset(block: &Matrix<'_>, spliced: usize, out: &mut [f32])
 #[tactic(auto, using(crate::proofs::Rows::front_over))]
 pub fn fill_offset(block: &Matrix<'_>, spliced: usize, out: &mut [f32])
     requires { block.now.rows ≤ length out.old }
-    ensures { out.new ≡ over (build block.now.rows (lda_offset_of spliced (matrix_in binary32 block.now))) out.old }
+    ensures { out.new ≡ over (build block.now.rows
+        (lda_offset_of spliced (matrix_in binary32 block.now))) out.old }
 {
     let (front, _) = out.split_at_mut(block.rows);
     offset(block, spliced, front);
@@ -147,8 +151,7 @@ pub fn fill_offset(block: &Matrix<'_>, spliced: usize, out: &mut [f32])
 
 // ---- the CMVN text's first row
 
-/// The row, of `len` numbers. Their count is a parameter: the room may be longer, and that the places past the row keep their values
-/// would be the caller's to say, were the room cut at the call, which is no plainer.
+/// The row, of `len` numbers; the places past them keep their values.
 #[tactic(auto, using(crate::proofs::Rows::front_over))]
 pub fn fill_global(s: &[u8], from: usize, len: usize, out: &mut [f64])
     requires row_in { RowIn s.now len from }
@@ -184,20 +187,23 @@ fn column_of(table: &[f64], s: usize, p: usize, x: &mut [f64])
 }
 
 impl Gaussian<'_> {
-    // Row a of Σ⁻¹ M: the rows of M, each times its element of Σ⁻¹, added up from the first to the last. x is room for column a of Σ⁻¹, which is row a.
+    // Row a of Σ⁻¹ M: the rows of M, each times its element of Σ⁻¹, added up from the first to the
+    // last. x is room for column a of Σ⁻¹, which is row a.
     fn sigma_inv_m_row(&self, a: usize, x: &mut [f64], out: &mut [f64])
         requires { (a < self.now.d) × (length x.old ≡ self.now.d) × (length out.old ≡ self.now.n) }
-        ensures { out.new ≡ build self.now.n (λ c. sum₆₄ zero₆₄ self.now.d (λ b. at self.now.sigma_inv.now (packed a b) *₆₄ at self.now.m.now (b * self.now.n + c))) }
+        ensures { out.new ≡ build self.now.n (λ c. sum₆₄ zero₆₄ self.now.d
+            (λ b. at self.now.sigma_inv.now (packed a b) *₆₄ at self.now.m.now (b * self.now.n + c))) }
     {
         let start = a * (a + 1) / 2;
         column(self.sigma_inv, start, a, x);
         weighted_rows(self.m, self.n, x, out);
     }
 
-    // Σ⁻¹ M, into a room that it fills. By index: `chunks_exact_mut` refuses parts of no places, and M may have no columns.
+    // Σ⁻¹ M, into a room that it fills. By index: M may have no columns (limit: chunks).
     fn sigma_inv_m(&self, out: &mut [f64])
         requires { length out.old ≡ self.now.d * self.now.n }
-        ensures { out.new ≡ sigma_inv_m_of self.now.d self.now.n self.now.sigma_inv.now self.now.m.now }
+        ensures { out.new ≡ sigma_inv_m_of self.now.d self.now.n self.now.sigma_inv.now
+            self.now.m.now }
     {
         let mut room = [0.0f64; 64];
         let (x, _) = room.split_at_mut(self.d);
@@ -208,19 +214,25 @@ impl Gaussian<'_> {
         }
     }
 
-    // Row p of Mᵗ Σ⁻¹ M, up to the diagonal: the rows of Σ⁻¹ M, each times its element of column p of M, added up from the first to the last. x is
-    // room for that column.
+    // Row p of Mᵗ Σ⁻¹ M, up to the diagonal: the rows of Σ⁻¹ M, each times its element of column p
+    // of M, added up from the first to the last. x is room for that column.
     fn quadratic_row(&self, sigma_inv_m: &[f64], p: usize, x: &mut [f64], out: &mut [f64])
-        requires { (p < self.now.n) × (length sigma_inv_m.now ≡ self.now.d * self.now.n) × (length x.old ≡ self.now.d) × (length out.old ≡ p + 1) }
-        ensures { out.new ≡ build (p + 1) (λ q. sum₆₄ zero₆₄ self.now.d (λ b. at self.now.m.now (b * self.now.n + p) *₆₄ at sigma_inv_m.now (b * self.now.n + q))) }
+        requires { (p < self.now.n) × (length sigma_inv_m.now ≡ self.now.d * self.now.n)
+            × (length x.old ≡ self.now.d) × (length out.old ≡ p + 1) }
+        ensures { out.new ≡ build (p + 1)
+            (λ q. sum₆₄ zero₆₄ self.now.d
+            (λ b. at self.now.m.now (b * self.now.n + p)
+            *₆₄ at sigma_inv_m.now (b * self.now.n + q))) }
     {
         column_of(self.m, self.n, p, x);
         weighted_rows(sigma_inv_m, self.n, x, out);
     }
 
-    // Mᵗ Σ⁻¹ M, packed, into a room that it fills. By index: each row is one place longer than the row before it.
+    // Mᵗ Σ⁻¹ M, packed, into a room that it fills: each row is one place longer than the row before
+    // it.
     fn quadratic_term(&self, sigma_inv_m: &[f64], out: &mut [f64])
-        requires { (length sigma_inv_m.now ≡ self.now.d * self.now.n) × (length out.old ≡ triangle self.now.n) }
+        requires { (length sigma_inv_m.now ≡ self.now.d * self.now.n)
+            × (length out.old ≡ triangle self.now.n) }
         ensures { out.new ≡ quadratic_term_of self.now.d self.now.n self.now.m.now sigma_inv_m.now }
     {
         let mut room = [0.0f64; 64];
@@ -244,11 +256,16 @@ fn fill_tables(
 )
     requires alike { sigma_block.now.dim ≡ m_block.now.rows }
     requires few { (m_block.now.rows ≤ 64) × (m_block.now.cols ≤ 128) }
-    requires scratch_room { triangle m_block.now.rows + m_block.now.rows * m_block.now.cols ≤ length scratch.old }
-    requires table_rooms { (length sigma_inv_m.old ≡ m_block.now.rows * m_block.now.cols) × (length u.old ≡ triangle m_block.now.cols) }
-    ensures sigma_inv_m_after { sigma_inv_m.new ≡ sigma_inv_m_of m_block.now.rows m_block.now.cols (numbers_in binary64 sigma_block.now.numbers) (numbers_in binary64 m_block.now.numbers) }
-    ensures u_after { u.new ≡ quadratic_term_of m_block.now.rows m_block.now.cols (numbers_in binary64 m_block.now.numbers)
-        (sigma_inv_m_of m_block.now.rows m_block.now.cols (numbers_in binary64 sigma_block.now.numbers) (numbers_in binary64 m_block.now.numbers)) }
+    requires scratch_room { triangle m_block.now.rows + m_block.now.rows * m_block.now.cols
+        ≤ length scratch.old }
+    requires table_rooms { (length sigma_inv_m.old ≡ m_block.now.rows * m_block.now.cols)
+        × (length u.old ≡ triangle m_block.now.cols) }
+    ensures sigma_inv_m_after { sigma_inv_m.new ≡ sigma_inv_m_of m_block.now.rows m_block.now.cols
+        (numbers_in binary64 sigma_block.now.numbers) (numbers_in binary64 m_block.now.numbers) }
+    ensures u_after { u.new ≡ quadratic_term_of m_block.now.rows m_block.now.cols
+        (numbers_in binary64 m_block.now.numbers)
+        (sigma_inv_m_of m_block.now.rows m_block.now.cols
+        (numbers_in binary64 sigma_block.now.numbers) (numbers_in binary64 m_block.now.numbers)) }
 {
     let (first, rest) = scratch.split_at_mut(sigma_block.numbers.count);
     let (second, _) = rest.split_at_mut(m_block.numbers.count);
@@ -264,22 +281,30 @@ fn fill_tables(
     gaussian.quadratic_term(sigma_inv_m, u);
 }
 
-// The Gaussian whose blocks are next, by an extractor whose readers are at them: its tables. The readers go behind its blocks.
+// The Gaussian whose blocks are next, by an extractor whose readers are at them: its tables. The
+// readers go behind its blocks.
 fn fill_gaussian(
     next: &mut Extractor<'_>,
     scratch: &mut [f64],
     sigma_inv_m: &mut [f64],
     u: &mut [f64],
 )
-    requires m_stands { MAt next.old.feat_dim next.old.ivector_dim next.old.m.src.now next.old.m.at }
-    requires sigma_stands { SigmaAt next.old.feat_dim next.old.sigma_inv.src.now next.old.sigma_inv.at }
+    requires m_stands { MAt next.old.feat_dim next.old.ivector_dim next.old.m.src.now
+        next.old.m.at }
+    requires sigma_stands { SigmaAt next.old.feat_dim next.old.sigma_inv.src.now
+        next.old.sigma_inv.at }
     requires few { (next.old.feat_dim ≤ 64) × (next.old.ivector_dim ≤ 128) }
-    requires scratch_room { triangle next.old.feat_dim + next.old.feat_dim * next.old.ivector_dim ≤ length scratch.old }
-    requires table_rooms { (length sigma_inv_m.old ≡ next.old.feat_dim * next.old.ivector_dim) × (length u.old ≡ triangle next.old.ivector_dim) }
+    requires scratch_room { triangle next.old.feat_dim + next.old.feat_dim * next.old.ivector_dim
+        ≤ length scratch.old }
+    requires table_rooms { (length sigma_inv_m.old ≡ next.old.feat_dim * next.old.ivector_dim)
+        × (length u.old ≡ triangle next.old.ivector_dim) }
     ensures behind { Behind next.old next.new }
-    ensures sigma_inv_m_after { sigma_inv_m.new ≡ sigma_inv_m_of next.old.feat_dim next.old.ivector_dim (sigma_next next.old) (m_next next.old) }
-    ensures u_after { u.new ≡ quadratic_term_of next.old.feat_dim next.old.ivector_dim (m_next next.old)
-        (sigma_inv_m_of next.old.feat_dim next.old.ivector_dim (sigma_next next.old) (m_next next.old)) }
+    ensures sigma_inv_m_after { sigma_inv_m.new ≡ sigma_inv_m_of next.old.feat_dim
+        next.old.ivector_dim (sigma_next next.old) (m_next next.old) }
+    ensures u_after { u.new ≡ quadratic_term_of next.old.feat_dim next.old.ivector_dim
+        (m_next next.old)
+        (sigma_inv_m_of next.old.feat_dim next.old.ivector_dim (sigma_next next.old)
+        (m_next next.old)) }
 {
     let m_block = next.m.matrix::<f64>(false, MAX_FEAT, MAX_IVECTOR);
     let sigma_block = next.sigma_inv.packed();
@@ -289,20 +314,24 @@ fn fill_gaussian(
     }
 }
 
-/// Σ⁻¹ M and Mᵗ Σ⁻¹ M of all Gaussians, one after the other. By index: two rooms are written in step, and of what a loop over a `zip` writes an
-/// invariant names nothing (tried).
+/// Σ⁻¹ M and Mᵗ Σ⁻¹ M of all Gaussians, one after the other. By index: two rooms are written in
+/// step (limit: zip).
 pub fn fill_gaussians(
     e: &Extractor<'_>,
     sigma_inv_m: &mut [f64],
     u: &mut [f64],
     scratch: &mut [f64],
 )
-    requires stands { ExtractorIn e.now.m.src.now e.now.num_gauss e.now.feat_dim e.now.ivector_dim e.now.m.at e.now.sigma_inv.at }
+    requires stands { ExtractorIn e.now.m.src.now e.now.num_gauss e.now.feat_dim e.now.ivector_dim
+        e.now.m.at e.now.sigma_inv.at }
     requires same_source { e.now.sigma_inv.src.now ≡ e.now.m.src.now }
-    requires sigma_inv_m_room { e.now.num_gauss * (e.now.feat_dim * e.now.ivector_dim) ≤ length sigma_inv_m.old }
+    requires sigma_inv_m_room { e.now.num_gauss * (e.now.feat_dim * e.now.ivector_dim)
+        ≤ length sigma_inv_m.old }
     requires u_room { e.now.num_gauss * triangle e.now.ivector_dim ≤ length u.old }
-    requires scratch_room { triangle e.now.feat_dim + e.now.feat_dim * e.now.ivector_dim ≤ length scratch.old }
-    ensures sigma_inv_m_after { sigma_inv_m.new ≡ over (sigma_inv_ms (extractor_in e.now)) sigma_inv_m.old }
+    requires scratch_room { triangle e.now.feat_dim + e.now.feat_dim * e.now.ivector_dim
+        ≤ length scratch.old }
+    ensures sigma_inv_m_after { sigma_inv_m.new ≡ over
+        (sigma_inv_ms (extractor_in e.now)) sigma_inv_m.old }
     ensures u_after { u.new ≡ over (quadratic_terms (extractor_in e.now)) u.old }
 {
     let size = e.feat_dim * e.ivector_dim;

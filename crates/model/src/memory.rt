@@ -1,8 +1,8 @@
-// How much memory a model and a stream need. Each answer is a record with the refusal's number, 0 where the call was taken; beside a refusal stand
-// zeros.
+//! How much memory a model and a stream need. Each answer is a record for C with the refusal's
+//! number, 0 where the call was taken; beside a refusal stand zeros.
 
 ghost use Rattle.std.specs.Prelude.{◌≡◌, true, ◌≤◌};
-ghost use Rattle.definition.specs.Options.{options_in_range, dims_in_range};
+ghost use Rattle.definition.specs.Options.{max_frames, options_in_range, dims_in_range};
 ghost use Rattle.definition.specs.Model.{table_sizes};
 ghost use Rattle.model.specs.Load.{files_of};
 ghost use Rattle.model.specs.Memory.{dimensions_of, dimensions_answer, tables_needed, room_sizes, rooms_needed};
@@ -17,7 +17,7 @@ use limits::{dims_agree, dims_in_range, load_scratch, options_in_range, stream_s
 
 // ---- a model's dimensions
 
-// A refusal by its number, in this record and the two below: C gets them.
+/// A model's dimensions.
 #[repr(C)]
 #[derive(Clone, Copy, Debug, Default, PartialEq)]
 pub struct DimensionsAnswer {
@@ -37,7 +37,8 @@ const LONGEST: TableLengths = TableLengths {
     global_mean_stats: usize::MAX,
 };
 
-// The load's own judgement, with lengths that no table needs. The files are given one by one, as C lends them.
+/// The dimensions of a model's files: the load's own judgement, with lengths that are enough for
+/// every table.
 pub fn model_dimensions(
     opts: IvectorOptions,
     gmm: &[u8],
@@ -45,7 +46,8 @@ pub fn model_dimensions(
     lda: &[u8],
     cmvn: &[u8],
 ) -> DimensionsAnswer
-    ensures { result ≡ dimensions_answer (dimensions_of opts (files_of gmm.now extractor.now lda.now cmvn.now)) }
+    ensures { result ≡ dimensions_answer
+        (dimensions_of opts (files_of gmm.now extractor.now lda.now cmvn.now)) }
 {
     match judge(opts, gmm, extractor, lda, cmvn, LONGEST, usize::MAX) {
         Ok(judged) => DimensionsAnswer {
@@ -61,16 +63,17 @@ pub fn model_dimensions(
 
 // ---- tables
 
+/// How many numbers a model's tables keep.
 #[repr(C)]
 #[derive(Clone, Copy, Debug, Default, PartialEq)]
 pub struct TablesAnswer {
-    // a number, as the C interface needs it
     pub refusal: usize,
     pub tables: TableLengths,
+    /// How many numbers of scratch its load needs.
     pub scratch: usize,
 }
 
-// The limits, here and in `room_sizes`, are clauses: the call just above each has tested them, and a type that carries them would be made for these two alone, and no plainer.
+// How many numbers each table keeps.
 fn table_sizes(o: IvectorOptions, d: Dimensions) -> TableLengths
     requires { (options_in_range o ≡ true) × (dims_in_range d ≡ true) }
     ensures { result ≡ table_sizes o d }
@@ -92,6 +95,7 @@ fn table_sizes(o: IvectorOptions, d: Dimensions) -> TableLengths
     }
 }
 
+// [`tables_needed`], or why not.
 #[tactic(auto, unfolding(loops::specs::Refusal::first_of, crate::specs::Memory::tables_needed))]
 fn tables_of(opts: IvectorOptions, dims: Dimensions) -> Result<TablesAnswer, Refusal>
     ensures { tables_or result ≡ tables_needed opts dims }
@@ -106,6 +110,7 @@ fn tables_of(opts: IvectorOptions, dims: Dimensions) -> Result<TablesAnswer, Ref
     })
 }
 
+/// The lengths of the tables and of the scratch that a load of such a model is lent.
 pub fn tables_needed(opts: IvectorOptions, dims: Dimensions) -> TablesAnswer
     ensures { result ≡ tables_needed opts dims }
 {
@@ -120,17 +125,17 @@ pub fn tables_needed(opts: IvectorOptions, dims: Dimensions) -> TablesAnswer
 
 // ---- rooms
 
+/// How many numbers a stream's rooms have.
 #[repr(C)]
 #[derive(Clone, Copy, Debug, Default, PartialEq)]
 pub struct RoomsAnswer {
-    // a number, as the C interface needs it
     pub refusal: usize,
     pub lengths: RoomLengths,
 }
 
-// The limits are clauses, as of `table_sizes`: a type for them is no plainer.
+// The lengths of rooms for so many frames, prefix rows and waiting changes.
 fn room_sizes(d: Dimensions, frames: usize, rows: usize, changes: usize) -> RoomLengths
-    requires { (dims_in_range d ≡ true) × (frames ≤ 1000000000) × (rows ≤ 2000000000) }
+    requires { (dims_in_range d ≡ true) × (frames ≤ max_frames) × (rows ≤ 2000000000) }
     ensures { result ≡ room_sizes d frames rows changes }
 {
     let b = d.base_dim;
@@ -153,6 +158,7 @@ fn room_sizes(d: Dimensions, frames: usize, rows: usize, changes: usize) -> Room
     }
 }
 
+// [`rooms_needed`], or why not.
 #[tactic(auto, unfolding(loops::specs::Refusal::first_of, crate::specs::Memory::rooms_needed))]
 fn rooms_of(
     dims: Dimensions,
@@ -171,6 +177,7 @@ fn rooms_of(
     })
 }
 
+/// The lengths of the rooms of a stream that holds so many frames, prefix rows and waiting changes.
 pub fn rooms_needed(dims: Dimensions, frames: usize, rows: usize, changes: usize) -> RoomsAnswer
     ensures { result ≡ rooms_needed dims frames rows changes }
 {

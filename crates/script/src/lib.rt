@@ -1,5 +1,5 @@
-// Reads a script: its bytes from a reader, then its numbers, lists and lines, and the floats whose bits it writes. Every program that plays scripts reads with it.
-// Each room and text is cut at a place that was counted: with `split_at` it is no plainer.
+//! Reads a script: its bytes from a reader, then its numbers, lists and lines, and the floats whose
+//! bits it writes. Every program that plays scripts reads with it.
 #![tactic(auto)]
 
 ghost use Rattle.std.specs.Prelude.{◌≡◌, ◌<◌, ◌≤◌, ◌%◌, length, take, drop, get_or, IfOk, ◌+◌, ◌*◌};
@@ -23,14 +23,14 @@ use std::num::{
 };
 pub use words::{Item, Words, front, lend};
 
-// A number, and the place after the byte that ends it.
+/// A number, and the place after the byte that ends it.
 #[derive(Clone, Copy)]
 pub struct Scan {
     pub value: usize,
     pub next: usize,
 }
 
-// The same of a number that may have a minus sign.
+/// The same of a number that may have a minus sign.
 #[derive(Clone, Copy)]
 pub struct Signed {
     pub minus: bool,
@@ -40,15 +40,16 @@ pub struct Signed {
 
 // ---- input
 
-// Reads until the room is full or the input ends; how many bytes that are. A read that fails ends it with that error: some bytes may be in the room by
-// then, and nothing is said of how many.
+/// Reads until the room is full or the input ends; how many bytes that are. A read that fails ends
+/// it with that error: some bytes may be in the room by then, and nothing is said of how many.
 pub fn read_full<R: Read>(reader: &mut R, room: &mut [u8]) -> io::Result<usize>
     ensures bound { IfOk result (λ n. n ≤ length room.new) }
-    ensures bytes { IfOk result (λ n. Consumes (R.remaining reader.old) (R.remaining reader.new) (take n room.new)) }
+    ensures bytes { IfOk result (λ n. Consumes (R.remaining reader.old) (R.remaining reader.new)
+        (take n room.new)) }
     ensures end { IfOk result (λ n. n < length room.new → IsAtEnd (R.remaining reader.new)) }
 {
     let mut n = 0;
-    // a `while`, and the room cut at its place: what a read took is the step, so a range is no plainer
+    // No `for`: what a read took is the step.
     while n < room.len() {
         let read = reader.read(&mut room[n..])?;
         if read == 0 {
@@ -61,14 +62,14 @@ pub fn read_full<R: Read>(reader: &mut R, room: &mut [u8]) -> io::Result<usize>
 
 // ---- bytes
 
-// The byte at a place, 0 behind the text.
+/// The byte at a place, 0 behind the text.
 pub fn byte_at(text: &[u8], at: usize) -> u8
     ensures { result ≡ get_or text.now at 0 }
 {
     text.get(at).copied().unwrap_or(0)
 }
 
-// The place after, in the text.
+/// The place after, in the text.
 #[tactic(auto, using(crate::proofs::Scanning::step_in, crate::proofs::Scanning::step_behind))]
 pub fn step(text: &[u8], at: usize) -> usize
     ensures { result ≡ step_at text.now at }
@@ -91,7 +92,8 @@ fn digit(b: u8) -> Option<usize>
 
 // A number with one digit more, where the byte is a digit of the base, and the number fits.
 fn with_digit(value: usize, base: usize, b: u8) -> Option<usize>
-    ensures { MatchOption result (Ends base value b) (λ n. GoesOn base value b × (n ≡ value * base + digit_of b)) }
+    ensures { MatchOption result (Ends base value b) (λ n. GoesOn base value b
+        × (n ≡ value * base + digit_of b)) }
 {
     let d = digit(b).unwrap_or(16);
     if base <= d {
@@ -100,12 +102,12 @@ fn with_digit(value: usize, base: usize, b: u8) -> Option<usize>
     value.checked_mul(base)?.checked_add(d)
 }
 
-// The number at a place, in a base of at most 16.
+/// The number at a place, in a base of at most 16.
 pub fn number(text: &[u8], at: usize, base: usize) -> Scan
     ensures { result ≡ number_at base 0 (drop at text.now) at }
 {
     let mut value = 0;
-    // by index: the number so far is carried, and the place where a byte ends it is the answer; a fold says it no plainer
+    // By index: the place where a byte ends the number is in the answer.
     for i in at..text.len() {
         match with_digit(value, base, text[i]) {
             Some(more) => value = more,
@@ -118,7 +120,7 @@ pub fn number(text: &[u8], at: usize, base: usize) -> Scan
     }
 }
 
-// The decimal number at a place, which may have a minus sign.
+/// The decimal number at a place, which may have a minus sign.
 pub fn signed_number(text: &[u8], at: usize) -> Signed
     ensures { result ≡ signed_at text.now at }
 {
@@ -138,7 +140,8 @@ pub fn signed_number(text: &[u8], at: usize) -> Signed
     }
 }
 
-// n places more, or less where there is a minus sign; not below 0, and n where the sum is no usize.
+/// n places more, or less where there is a minus sign; not below 0, and n where the sum is no
+/// usize.
 #[tactic(auto, unfolding(crate::specs::Scan::moved_by), using(crate::proofs::Scanning::moved_up, crate::proofs::Scanning::moved_not))]
 pub fn moved(n: usize, by: Signed) -> usize
     ensures { result ≡ moved_by n by }
@@ -151,13 +154,13 @@ pub fn moved(n: usize, by: Signed) -> usize
 
 // ---- lines
 
-// Where the line after a place begins.
+/// Where the line after a place begins.
 pub fn next_line(text: &[u8], at: usize) -> usize
     ensures line { result ≡ line_at (drop at text.now) at }
     ensures bound { at ≤ length text.now → result ≤ length text.now }
     ensures further { at < length text.now → at < result }
 {
-    // by index: the place is the answer, also behind the text; a `position` with two defaults says it no plainer
+    // By index: the place is the answer, also behind the text.
     for i in at..text.len() {
         if text[i] == 10 {
             return i + 1;
@@ -166,8 +169,8 @@ pub fn next_line(text: &[u8], at: usize) -> usize
     at.max(text.len())
 }
 
-// How many of the n bytes that were read into a room are lines to play: all where the room has places left, else those up to the end of the
-// last whole line. The room counts too, so n in a cut of it would be no plainer.
+/// How many of the n bytes that were read into a room are lines to play: all where the room has
+/// places left, else those up to the end of the last whole line.
 pub fn whole_lines(text: &[u8], n: usize) -> usize
     ensures { (result ≡ whole_lines text.now n) × (result ≤ length text.now) }
 {
@@ -187,28 +190,30 @@ fn lines_end(text: &[u8]) -> usize
         .map_or(0, |last| last + 1)
 }
 
-// ---- floats and their bits: these are one for each type, by the library's function for it; a trait would want an impl for each all the same
+// ---- floats and their bits
 
-// The float of a pattern.
+/// The f32 of a pattern, its lowest 32 bits.
 pub fn float(bits: usize) -> f32
     ensures { result ≡ of_bits binary32 (bits % 0x1_0000_0000) }
 {
     f32_from_bits_with_nan((bits % 0x1_0000_0000) as u32)
 }
 
+/// The f64 of a pattern.
 pub fn double(bits: usize) -> f64
     ensures { result ≡ of_bits binary64 bits }
 {
     f64_from_bits_with_nan(bits as u64)
 }
 
-// The pattern of a float; of a NaN always the same.
+/// The pattern of an f32; of a NaN always the same.
 pub fn float_bits(x: f32) -> u64
     ensures { result ≡ to_bits binary32 x }
 {
     u64::from(f32_to_bits_with_nan(x))
 }
 
+/// The pattern of an f64; of a NaN always the same.
 pub fn double_bits(x: f64) -> u64
     ensures { result ≡ to_bits binary64 x }
 {

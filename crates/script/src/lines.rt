@@ -1,4 +1,5 @@
-// A script and its lines. Each text is cut at a place that was counted: with `split_at` it is no plainer, since one of the two parts alone is read.
+//! A script and its lines.
+
 ghost use Rattle.std.specs.Prelude.{◌≡◌, ◌<◌, ℕ, List, Bool, length, take, drop, nat_lt, not, IfOk, OnOk};
 ghost use Rattle.std.specs.Io.KnownBytes.{Consumes, Appends};
 ghost use Rattle.std.specs.Iterator.{at_most};
@@ -24,7 +25,10 @@ pub struct Lines<'a> {
 impl<'a> Script<'a> {
     /// Reads a script into the room for it.
     pub fn read<R: Read>(reader: &mut R, room: &'a mut [u8]) -> io::Result<Script<'a>>
-        ensures { IfOk result (λ s. (bytes : List ℕ) × (n : ℕ) × (length bytes ≡ length room.old) × Consumes (R.remaining reader.old) (R.remaining reader.new) (take n bytes) × (s.text.now ≡ take (whole_lines bytes n) bytes) × (s.cut ≡ not (nat_lt n (length bytes)))) }
+        ensures { IfOk result (λ s. (bytes : List ℕ) × (n : ℕ) × (length bytes ≡ length room.old)
+            × Consumes (R.remaining reader.old) (R.remaining reader.new) (take n bytes)
+            × (s.text.now ≡ take (whole_lines bytes n) bytes)
+            × (s.cut ≡ not (nat_lt n (length bytes)))) }
     {
         let n = read_full(reader, room)?;
         let cut = n == room.len();
@@ -35,6 +39,7 @@ impl<'a> Script<'a> {
         })
     }
 
+    /// Its lines, from the first on.
     pub fn lines(&self) -> Lines<'a>
         ensures { result.rest.now ≡ self.now.text.now }
     {
@@ -43,7 +48,8 @@ impl<'a> Script<'a> {
 
     /// Ends the answers: a line more where the script is longer than the room for it.
     pub fn end<W: Write>(&self, writer: &mut W) -> io::Result<()>
-        ensures { OnOk result (Appends (W.contents writer.old) (W.contents writer.new) (closing self.now.cut)) }
+        ensures { OnOk result (Appends (W.contents writer.old) (W.contents writer.new)
+            (closing self.now.cut)) }
     {
         if !self.cut {
             return Ok(());

@@ -1,5 +1,5 @@
-// What the answers to a script print of floats: the hexadecimal digits of their bits. These are functions: a `Display` prints a float by its value, and a type
-// around each float, with a `Display` of its own, would be no plainer.
+//! What the answers to a script print of floats: the hexadecimal digits of their bits.
+
 ghost use Rattle.std.specs.Prelude.{◌≡◌, ◌∷◌, ℕ, List, length, OnOk};
 ghost use Rattle.std.specs.Io.KnownBytes.{Appends};
 ghost use Rattle.std.specs.Float.{binary32, binary64};
@@ -13,8 +13,10 @@ use std::io::{self, Write};
 pub trait Pattern: Copy {
     ghost bits: { Self → ℕ };
 
+    /// How many digits are printed.
     const DIGITS: usize;
 
+    /// Its bits.
     fn pattern(self) -> u64
         ensures { result ≡ bits self };
 }
@@ -52,7 +54,8 @@ impl Pattern for u32 {
 
 /// A space, and the digits.
 pub fn print<W: Write, T: Pattern>(writer: &mut W, x: T) -> io::Result<()>
-    ensures { OnOk result ((digits : List ℕ) × Appends (W.contents writer.old) (W.contents writer.new) (32 ∷ digits)) }
+    ensures { OnOk result ((digits : List ℕ)
+        × Appends (W.contents writer.old) (W.contents writer.new) (32 ∷ digits)) }
 {
     let digits = T::DIGITS;
     let bits = x.pattern();
@@ -61,7 +64,8 @@ pub fn print<W: Write, T: Pattern>(writer: &mut W, x: T) -> io::Result<()>
 
 /// Each of them, behind a space.
 pub fn print_list<W: Write, T: Pattern>(writer: &mut W, items: &[T]) -> io::Result<()>
-    ensures { OnOk result ((all : List (List ℕ)) × (length all ≡ length items.now) × Appends (W.contents writer.old) (W.contents writer.new) (spaced all)) }
+    ensures { OnOk result ((all : List (List ℕ)) × (length all ≡ length items.now)
+        × Appends (W.contents writer.old) (W.contents writer.new) (spaced all)) }
 {
     for x in items {
         print(writer, *x)?;

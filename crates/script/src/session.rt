@@ -1,4 +1,6 @@
-// What the programs that play load and stream calls share: the options that a line sets, a model's files, what is open, how an answer is printed.
+//! What the programs that play load and stream calls share: the options that a line sets, a model's
+//! files, what is open, how an answer is printed.
+
 ghost use Rattle.std.specs.Prelude.{◌≡◌, OnOk};
 ghost use Rattle.std.specs.Io.KnownBytes.{Appends};
 ghost use Rattle.script.specs.Session.{options_at, behind_options, model_of, answer_text, no_such_line};
@@ -7,7 +9,7 @@ use super::{Item, Words};
 use definition::{IvectorInfo, IvectorOptions, IvectorStream, StreamAnswer};
 use std::io::{self, Write};
 
-/// What is open: nothing, a model, or a stream over it. Three states: an Option of a Result is no plainer.
+/// What is open: nothing, a model, or a stream over it.
 #[derive(Clone, Copy)]
 pub enum Held {
     Nothing,
@@ -67,9 +69,10 @@ impl Item for IvectorOptions {
     }
 }
 
-/// The number of an answer, and what is held. 10 stands alone. The record's type is the library's, so a `Display` would need a type around it, and be no plainer.
+/// The number of an answer, and what is held. 10 stands alone.
 pub fn print_answer<W: Write>(writer: &mut W, answer: StreamAnswer) -> io::Result<()>
-    ensures { OnOk result (Appends (W.contents writer.old) (W.contents writer.new) (answer_text answer)) }
+    ensures { OnOk result (Appends (W.contents writer.old) (W.contents writer.new)
+        (answer_text answer)) }
 {
     let refusal = answer.refusal;
     let frames = answer.frames_held;

@@ -1,5 +1,6 @@
-// What is left to read of a script, and the items that are read from its front: numbers, floats by their bits, phones, lists of them. Each part of a
-// text or a room is cut at a place that was counted, as `take` and `drop` say it: with `split_at` it is no plainer.
+//! What is left to read of a script, and the items that are read from its front: numbers, floats by
+//! their bits, phones, lists of them.
+
 ghost use Rattle.std.specs.Prelude.{[], ◌∷◌, ◌++◌, Contains, ◌≡◌, ◌<◌, ◌*◌, ◌%◌, ◌^◌, ℕ, List, length, min, take, drop, get_or, set, slice_index};
 ghost use Rattle.std.specs.Float.{binary32, binary64};
 ghost use Rattle.std.specs.Float.Ieee.{of_bits};
@@ -103,11 +104,14 @@ impl<'a> Words<'a> {
         letter
     }
 
-    /// The word here, which a space ends; the space is passed. Where none follows there is no word, and nothing is left.
+    /// The word here, which a space ends; the space is passed. Where none follows there is no word,
+    /// and nothing is left.
     pub fn word(&mut self) -> &'a [u8]
-        ensures word { Contains self.old.rest.now 32 → self.old.rest.now ≡ result.now ++ (32 ∷ self.new.rest.now) }
+        ensures word { Contains self.old.rest.now 32
+            → self.old.rest.now ≡ result.now ++ (32 ∷ self.new.rest.now) }
         ensures no_space { ¬ (Contains result.now 32) }
-        ensures none { ¬ (Contains self.old.rest.now 32) → (result.now ≡ []) × (self.new.rest.now ≡ []) }
+        ensures none { ¬ (Contains self.old.rest.now 32)
+            → (result.now ≡ []) × (self.new.rest.now ≡ []) }
     {
         let text = self.rest;
         match text.iter().position(|b| *b == b' ') {
@@ -132,7 +136,8 @@ impl<'a> Words<'a> {
         n.value
     }
 
-    /// The decimal number here, which may have a minus sign; its place is that behind it in what was left.
+    /// The decimal number here, which may have a minus sign; its place is that behind it in what
+    /// was left.
     pub fn signed(&mut self) -> Signed
         ensures value { result ≡ signed_at_front self.old.rest.now }
         ensures behind { self.new.rest.now ≡ behind_signed self.old.rest.now }
@@ -147,32 +152,41 @@ impl<'a> Words<'a> {
         ensures items { room.new ≡ items_read T.item T.behind self.old.rest.now n room.old }
         ensures behind { self.new.rest.now ≡ behind_items T.behind self.old.rest.now n }
     {
-        // by index: what is past the end of the room is read too, so no chain over the room says it
+        // What is past the end of the room is read too.
         for i in 0..n {
             let x = T::read(self);
             put(room, i, x);
         }
     }
 
-    /// A list, which is a decimal number and so many items: as many of them as the room has places for.
+    /// A list, which is a decimal number and so many items: as many of them as the room has places
+    /// for.
     pub fn list<'r, T: Item>(&mut self, room: &'r mut [T]) -> &'r [T]
-        ensures items { result.now ≡ take (value_at_front 10 self.old.rest.now) (items_read T.item T.behind (behind_number 10 self.old.rest.now) (value_at_front 10 self.old.rest.now) room.old) }
-        ensures behind { self.new.rest.now ≡ behind_items T.behind (behind_number 10 self.old.rest.now) (value_at_front 10 self.old.rest.now) }
+        ensures items { result.now ≡ take (value_at_front 10 self.old.rest.now)
+            (items_read T.item T.behind (behind_number 10 self.old.rest.now)
+            (value_at_front 10 self.old.rest.now) room.old) }
+        ensures behind { self.new.rest.now
+            ≡ behind_items T.behind (behind_number 10 self.old.rest.now)
+            (value_at_front 10 self.old.rest.now) }
     {
         let n = self.number(10);
         self.fill(n, room);
         front(room, n)
     }
 
-    /// Bytes by two hexadecimal digits each behind a decimal number of them: as many as the room has places for.
+    /// Bytes by two hexadecimal digits each behind a decimal number of them: as many as the room
+    /// has places for.
     pub fn bytes<'r>(&mut self, room: &'r mut [u8]) -> &'r [u8]
-        ensures length { length result.now ≡ min (value_at_front 10 self.old.rest.now) (length room.old) }
-        ensures bytes { (i : ℕ) → i < length result.now → slice_index result.now i ≡ hex_at (behind_number 10 self.old.rest.now) i }
-        ensures behind { self.new.rest.now ≡ drop (2 * length result.now) (behind_number 10 self.old.rest.now) }
+        ensures length { length result.now
+            ≡ min (value_at_front 10 self.old.rest.now) (length room.old) }
+        ensures bytes { (i : ℕ) → i < length result.now
+            → slice_index result.now i ≡ hex_at (behind_number 10 self.old.rest.now) i }
+        ensures behind { self.new.rest.now
+            ≡ drop (2 * length result.now) (behind_number 10 self.old.rest.now) }
     {
         let n = self.number(10).min(room.len());
         let digits = self.rest;
-        // by index: byte k has digits 2 k and 2 k + 1, and the text may end before them, so no chain of pairs says it
+        // By index: byte k has digits 2 k and 2 k + 1, and the text may end before them.
         for k in 0..n {
             room[k] = half(byte_at(digits, 2 * k)) * 16 + half(byte_at(digits, 2 * k + 1));
         }

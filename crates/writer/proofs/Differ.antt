@@ -43,11 +43,11 @@ blocks_apart (suc n) B C P s t each e =
 times : {a b c d : ℕ} → a ≡ c → b ≡ d → a * b ≡ c * d
 times e h = rw (e, h)
 
-four : (a b c d u : List ℕ) → (a ++ (b ++ (c ++ d))) ++ u ≡ a ++ (b ++ (c ++ (d ++ u)))
-four a b c d u = simp append_assoc
+regroup_four : (a b c d u : List ℕ) → (a ++ (b ++ (c ++ d))) ++ u ≡ a ++ (b ++ (c ++ (d ++ u)))
+regroup_four a b c d u = simp append_assoc
 
-eight : (h k a b c d n l u : List ℕ) → ((h ++ k) ++ (a ++ (b ++ (c ++ (d ++ (n ++ l)))))) ++ u ≡ h ++ (k ++ (a ++ (b ++ (c ++ (d ++ (n ++ (l ++ u)))))))
-eight h k a b c d n l u = simp append_assoc
+regroup_eight : (h k a b c d n l u : List ℕ) → ((h ++ k) ++ (a ++ (b ++ (c ++ (d ++ (n ++ l)))))) ++ u ≡ h ++ (k ++ (a ++ (b ++ (c ++ (d ++ (n ++ (l ++ u)))))))
+regroup_eight h k a b c d n l u = simp append_assoc
 
 abbrev sizes_from : ℕ → ℕ → ℕ → ℕ → ℕ → ModelSizes
 sizes_from g e d s c = record { num_gauss = g; ext_gauss = e; feat_dim = d; ivector_dim = s; lda_cols = c }
@@ -121,7 +121,7 @@ module _ (f : Format) (p q : Params) where
         let x0 : List ℕ = line_bytes f (weights_head f) z.num_gauss p.weights in
         let y0 : List ℕ = line_bytes f (weights_head f) y.num_gauss q.weights in
         let shape : x0 ++ (x1 ++ (x2 ++ x3)) ≡ y0 ++ (y1 ++ (y2 ++ y3)) =
-        sym (four x0 x1 x2 (token_bytes "</DiagGMM>") u) ∙ ap (λ (l : List ℕ). l ++ u) (sym (gmm_is p f)) ∙ e ∙ ap (λ (l : List ℕ). l ++ v) (gmm_is q f) ∙ four y0 y1 y2 (token_bytes "</DiagGMM>") v in
+        sym (regroup_four x0 x1 x2 (token_bytes "</DiagGMM>") u) ∙ ap (λ (l : List ℕ). l ++ u) (sym (gmm_is p f)) ∙ e ∙ ap (λ (l : List ℕ). l ++ v) (gmm_is q f) ∙ regroup_four y0 y1 y2 (token_bytes "</DiagGMM>") v in
         let w = line_apart f (weights_head f) z.num_gauss y.num_gauss p.weights q.weights (x1 ++ (x2 ++ x3)) (y1 ++ (y2 ++ y3)) (omega (arith, sp.gauss.high)) (omega (arith, sq.gauss.high))
         (λ g. sp.weights.long ∙ g ∙ sym sq.weights.long) a.weights_fit b.weights_fit shape in
         let m = table_apart f (means_head f) z.num_gauss z.feat_dim y.num_gauss y.feat_dim p.means_invvars q.means_invvars (x2 ++ x3) (y2 ++ y3)
@@ -159,9 +159,9 @@ module _ (f : Format) (p q : Params) where
         let x2 : List ℕ = m_blocks f e d s p.m ++ (token_bytes "<SigmaInv>" ++ x3) in
         let y2 : List ℕ = m_blocks f e' d' s' q.m ++ (token_bytes "<SigmaInv>" ++ y3) in
         let shape : m_head f ++ (size_bytes e ++ x2) ≡ m_head f ++ (size_bytes e' ++ y2) =
-        sym (eight (m_head f) (size_bytes e) (m_blocks f e d s p.m) (token_bytes "<SigmaInv>") (sigma_blocks f e d p.sigma_inv) (offset_head f) (numbers_bytes f (p.prior_offset ∷ [])) end u)
+        sym (regroup_eight (m_head f) (size_bytes e) (m_blocks f e d s p.m) (token_bytes "<SigmaInv>") (sigma_blocks f e d p.sigma_inv) (offset_head f) (numbers_bytes f (p.prior_offset ∷ [])) end u)
         ∙ ap (λ (l : List ℕ). l ++ u) (sym (extractor_is p f)) ∙ eq ∙ ap (λ (l : List ℕ). l ++ v) (extractor_is q f)
-        ∙ eight (m_head f) (size_bytes e') (m_blocks f e' d' s' q.m) (token_bytes "<SigmaInv>") (sigma_blocks f e' d' q.sigma_inv) (offset_head f) (numbers_bytes f (q.prior_offset ∷ [])) end v in
+        ∙ regroup_eight (m_head f) (size_bytes e') (m_blocks f e' d' s' q.m) (token_bytes "<SigmaInv>") (sigma_blocks f e' d' q.sigma_inv) (offset_head f) (numbers_bytes f (q.prior_offset ∷ [])) end v in
         let k = size-apart e e' x2 y2 (omega (arith, sp.ext.high)) (omega (arith, sq.ext.high)) (past (m_head f) (size_bytes e ++ x2) (size_bytes e' ++ y2) shape) in
         let ms = blocks_apart e (λ i. matrix_bytes f d s (part (d * s) i p.m)) (λ i. matrix_bytes f d' s' (part (d' * s') i q.m))
         (λ i. (s ≡ s') × (part (d * s) i p.m ≡ part (d' * s') i q.m)) (token_bytes "<SigmaInv>" ++ x3) (token_bytes "<SigmaInv>" ++ y3)

@@ -1,4 +1,4 @@
--- What contracts of inner functions say; no reader needs it.
+-- Words of inner contracts; no promise rests on them.
 pub mod Inner
 -- byte_writer: what a call on a writer leaves.
 pub mod Wrote
@@ -7,5 +7,5 @@ pub mod Written
 pub mod Theorems
 -- the code's types, as the definitions speak of them
 pub mod Lent
--- for the contracts of inner functions, not for readers
+-- words of inner contracts
 pub mod Pieces

@@ -1,4 +1,4 @@
--- The files as the code writes them: what stands before each list of numbers is one text. Not for readers.
+-- The files as the code writes them: what stands before each list of numbers is one text.
 use Rattle.std.specs.Prelude.{ℕ, ◌*◌, List, [], ◌∷◌, ◌++◌, Float}
 use Rattle.std.specs.Float.{Format}
 use Rattle.loops.specs.Lists.{flat}

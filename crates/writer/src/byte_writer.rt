@@ -1,10 +1,10 @@
-// Bytes written one after the other into lent memory.
+//! Bytes written one after the other into lent memory.
 
 ghost use Rattle.std.specs.Prelude.{◌≡◌, ◌*◌, length};
 ghost use Rattle.loops.specs.Lists.{flat};
 ghost use Rattle.writer.specs.Wrote.{HasRoom, Wrote};
 
-// Lent memory, and the place that is written next.
+/// Lent memory, and the place that is written next.
 #[derive(Drop)]
 pub struct Writer<'a> {
     pub out: &'a mut [u8],
@@ -12,6 +12,7 @@ pub struct Writer<'a> {
 }
 
 impl Writer<'_> {
+    /// Writes these bytes.
     pub fn bytes(&mut self, src: &[u8])
         requires { HasRoom src.now self.old }
         ensures { Wrote src.now self.old self.new }
@@ -22,7 +23,7 @@ impl Writer<'_> {
         self.at = to;
     }
 
-    // The same bytes n times: of n turns alone, `for` over a range is what says it; a chain would be no plainer.
+    /// Writes the same bytes n times.
     pub fn repeated(&mut self, n: usize, src: &[u8])
         requires { HasRoom (flat n (λ i. src.now)) self.old }
         ensures { Wrote (flat n (λ i. src.now)) self.old self.new }

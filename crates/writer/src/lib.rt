@@ -1,4 +1,4 @@
-// A model written back as the bytes of its files.
+//! A model written back as the bytes of its files.
 #![tactic(auto)]
 
 pub mod byte_writer;

@@ -1,4 +1,4 @@
-// The types that the calls which write a model exchange. The definitions stand in specs/; the only code is how an answer becomes a record.
+//! The types that the calls which write a model exchange, and how an answer becomes a record.
 
 ghost use Rattle.std.specs.Prelude.{◌≡◌};
 ghost use Rattle.writer.specs.Written.{written_answer};
@@ -11,7 +11,9 @@ use floats::Real;
 #[repr(C)]
 #[derive(Clone, Copy, Debug, Default, PartialEq, Eq)]
 pub struct ModelSizes {
+    /// Gaussians of the GMM.
     pub num_gauss: usize,
+    /// Gaussians of the extractor.
     pub ext_gauss: usize,
     pub feat_dim: usize,
     pub ivector_dim: usize,
@@ -23,11 +25,15 @@ pub struct ModelSizes {
 pub struct LentParams<'a, W: Real> {
     pub sizes: ModelSizes,
     pub weights: &'a [W],
+    /// A row of features for each Gaussian, as of `inv_vars`.
     pub means_invvars: &'a [W],
     pub inv_vars: &'a [W],
+    /// M of each Gaussian: a row of the i-vector's length for each feature.
     pub m: &'a [W],
+    /// Σ⁻¹ of each Gaussian, packed.
     pub sigma_inv: &'a [W],
     pub prior_offset: W,
+    /// A row of columns for each feature.
     pub lda: &'a [W],
 }
 
@@ -39,7 +45,8 @@ pub struct FileLengths {
     pub lda: usize,
 }
 
-/// The answer as the record that C gets: the refusal's number, 0 where the call was taken, and the lengths, 0 beside a refusal.
+/// The answer as the record that C gets: the refusal's number, 0 where the call was taken, and the
+/// lengths, 0 beside a refusal.
 #[repr(C)]
 #[derive(Clone, Copy, Debug, Default, PartialEq, Eq)]
 pub struct WrittenAnswer {

@@ -1,4 +1,5 @@
-// What a call that writes a model refuses (request 5), before it writes a byte: a load's numbers in a load's order, then 26.
+//! What a call that writes a model refuses (request 5), before it writes a byte: a load's numbers
+//! in a load's order, then 26.
 
 ghost use Rattle.std.specs.Prelude.{◌≡◌, true, false, ◌∷◌, [], ◌++◌, ◌*◌, ◌≤◌, map, OnOk, length};
 ghost use Rattle.std.specs.Float.{binary32, binary64};
@@ -20,6 +21,7 @@ use limits::{dims_agree, options_in_range};
 
 // ---- sizes and lists
 
+// 4: a size from 1 to `most`.
 #[tactic(auto, unfolding(loops::specs::Refusal::first_of))]
 fn check_size(most: usize, n: usize) -> Result<(), Refusal>
     ensures number { refused_by result ≡ first_of (outside most n ∷ []) }
@@ -29,7 +31,7 @@ fn check_size(most: usize, n: usize) -> Result<(), Refusal>
     need((1..=most).contains(&n), Refusal::DimensionRange)
 }
 
-// `positive`, here and of a list, is the flag of the definition's `kept`; an enum of two in its place would be translated in each clause, and no plainer.
+// `positive`, here and of a list, is the flag of the definition's `kept`.
 #[tactic(auto, unfolding(definition::specs::Reader::kept))]
 fn is_kept(x: f32, positive: bool) -> bool
     ensures { result ≡ kept positive x }
@@ -37,10 +39,11 @@ fn is_kept(x: f32, positive: bool) -> bool
     Real::is_finite(x) && (!positive || x.is_above_zero())
 }
 
-// A list of a table of f32, with the flag of the definition's `kept`.
+// A list of n numbers of a table of f32.
 #[tactic(auto, unfolding(loops::specs::Refusal::first_of))]
 fn check_list<W: KeepAs<f32>>(xs: &[W], n: usize, positive: bool) -> Result<(), Refusal>
-    ensures { refused_by result ≡ first_of (list_tests W.format binary32 positive n (map W.float xs.now)) }
+    ensures { refused_by result
+        ≡ first_of (list_tests W.format binary32 positive n (map W.float xs.now)) }
 {
     need(xs.len() == n, Refusal::Disagree)?;
     for &x in xs {
@@ -49,10 +52,11 @@ fn check_list<W: KeepAs<f32>>(xs: &[W], n: usize, positive: bool) -> Result<(), 
     Ok(())
 }
 
-// A list of a table of f64.
+// A list of n numbers of a table of f64.
 #[tactic(auto, unfolding(loops::specs::Refusal::first_of))]
 fn check_wide_list<W: Real>(xs: &[W], n: usize) -> Result<(), Refusal>
-    ensures { refused_by result ≡ first_of (list_tests W.format binary64 false n (map W.float xs.now)) }
+    ensures { refused_by result
+        ≡ first_of (list_tests W.format binary64 false n (map W.float xs.now)) }
 {
     need(xs.len() == n, Refusal::Disagree)?;
     for &x in xs {
@@ -74,7 +78,7 @@ fn check_gmm<W: KeepAs<f32>>(p: &LentParams<'_, W>) -> Result<(), Refusal>
     check_list(p.inv_vars, z.num_gauss * z.feat_dim, true)
 }
 
-// The GMM's check came before, here and for the LDA: a clause of each says so, since a type of parameters that are judged in part would be no plainer.
+// Once the GMM is checked, as `check_lda`.
 fn check_extractor<W: Real>(p: &LentParams<'_, W>) -> Result<(), Refusal>
     requires { p.now.sizes.feat_dim ≤ 64 }
     ensures { refused_by result ≡ first_of (extractor_tests W.format (params_in W.float p.now)) }
@@ -90,7 +94,6 @@ fn check_extractor<W: Real>(p: &LentParams<'_, W>) -> Result<(), Refusal>
     need(p.prior_offset.is_finite(), Refusal::BadNumber)
 }
 
-// After the GMM's check; a type that says so would be no plainer.
 fn check_lda<W: KeepAs<f32>>(p: &LentParams<'_, W>) -> Result<(), Refusal>
     requires { p.now.sizes.feat_dim ≤ 64 }
     ensures { refused_by result ≡ first_of (lda_tests W.format (params_in W.float p.now)) }
@@ -109,8 +112,7 @@ fn base_of(text: &[u8]) -> Result<usize, Refusal>
     }
 }
 
-// The CMVN text, and the files against each other. That the options and the sizes are in range was judged before: a clause says so of each, in a word of its
-// own, and a type for options that were judged would be no plainer for the one call.
+// The CMVN text, and the files against each other, once the options and the sizes are in range.
 fn check_text(o: IvectorOptions, z: ModelSizes, text: &[u8]) -> Result<(), Refusal>
     requires options { options_in_range o ≡ true }
     requires sizes { InRange z }
@@ -156,7 +158,8 @@ fn lda_length(width: usize, z: ModelSizes) -> usize
 
 // ---- all of it
 
-/// What a call that writes a model refuses, in the order in which a load would meet it; an output shorter than the three files comes last.
+/// What a call that writes a model refuses, in the order in which a load would meet it; an output
+/// shorter than the three files comes last.
 pub fn check<W: KeepAs<f32>>(
     o: IvectorOptions,
     text: &[u8],

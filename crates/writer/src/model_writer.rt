@@ -1,5 +1,5 @@
-// A model written back (request 5): its three files, one after the other, from parameters that all are f32, or all f64. Everything is judged before a byte is
-// written.
+//! A model written back (request 5): its three files, one after the other, from parameters that all
+//! are f32, or all f64. Everything is judged before a byte is written.
 
 ghost use Rattle.std.specs.Prelude.{◌≡◌, ◌∷◌, [], ◌*◌, ◌≤◌, map, length};
 ghost use Rattle.definition.specs.Kaldi.{triangle};
@@ -17,7 +17,7 @@ use floats::{KeepAs, Real};
 
 // ---- sizes and numbers
 
-// A size: the byte 4, and its four bytes. The first four of eight: that a cast to `u32` loses nothing no clause says here, so it would be no plainer.
+// A size: the byte 4, and its four bytes, the first of eight.
 fn size(w: &mut Writer<'_>, n: usize)
     requires { HasRoom (size_bytes n) w.old }
     ensures { Wrote (size_bytes n) w.old w.new }
@@ -27,7 +27,7 @@ fn size(w: &mut Writer<'_>, n: usize)
     w.bytes(&bytes[..4]);
 }
 
-// A number: the first bytes of eight, as many as its width has. `to_le_bytes` of a pattern gives eight for each type; a method for each would be no plainer.
+// A number: the first bytes of its pattern's eight, as many as its width has.
 fn number<W: Real>(w: &mut Writer<'_>, x: W)
     requires { HasRoom (numbers_bytes W.format (W.float x ∷ [])) w.old }
     ensures { Wrote (numbers_bytes W.format (W.float x ∷ [])) w.old w.new }
@@ -76,8 +76,7 @@ fn packed<W: Real>(w: &mut Writer<'_>, n: usize, xs: &[W])
     numbers(w, xs);
 }
 
-// `<M>` and `<SigmaInv>`, a block for each Gaussian, in these two functions. How many is given beside the numbers: it is known, and from their length it
-// would take a division, which is no plainer.
+// `<M>`, and below `<SigmaInv>`: a block for each of `count` Gaussians.
 fn matrices<W: Real>(w: &mut Writer<'_>, count: usize, rows: usize, cols: usize, xs: &[W])
     requires rows { rows ≤ 64 }
     requires cols { cols ≤ 128 }
@@ -86,13 +85,12 @@ fn matrices<W: Real>(w: &mut Writer<'_>, count: usize, rows: usize, cols: usize,
     ensures { Wrote (m_blocks W.format count rows cols (map W.float xs.now)) w.old w.new }
 {
     let n = rows * cols;
-    // By index: over `chunks_exact`, which was tried, the invariant has no number of a block, and the proof of a turn does not close.
+    // By index, here and below (limit: parts).
     for i in 0..count {
         matrix(w, rows, cols, &xs[i * n..i * n + n]);
     }
 }
 
-// By index and with its count, as `matrices`.
 fn packeds<W: Real>(w: &mut Writer<'_>, count: usize, rows: usize, xs: &[W])
     requires rows { rows ≤ 64 }
     requires long { length xs.now ≡ count * triangle rows }
@@ -100,7 +98,6 @@ fn packeds<W: Real>(w: &mut Writer<'_>, count: usize, rows: usize, xs: &[W])
     ensures { Wrote (sigma_blocks W.format count rows (map W.float xs.now)) w.old w.new }
 {
     let n = rows * (rows + 1) / 2;
-    // By index, as in `matrices`.
     for i in 0..count {
         packed(w, rows, &xs[i * n..i * n + n]);
     }
@@ -125,13 +122,14 @@ fn gmm<W: Real>(w: &mut Writer<'_>, p: &LentParams<'_, W>)
     w.bytes(b"</DiagGMM> ");
 }
 
-// Of what the checks have seen it asks what it needs; a type of parameters that were judged is no plainer for the one call.
 #[tactic(auto, unfolding(crate::specs::Written::extractor_bytes))]
 fn extractor<W: Real>(w: &mut Writer<'_>, p: &LentParams<'_, W>)
     requires feat { p.now.sizes.feat_dim ≤ 64 }
     requires ivector { p.now.sizes.ivector_dim ≤ 128 }
-    requires m { length p.now.m.now ≡ p.now.sizes.ext_gauss * (p.now.sizes.feat_dim * p.now.sizes.ivector_dim) }
-    requires sigma_inv { length p.now.sigma_inv.now ≡ p.now.sizes.ext_gauss * triangle p.now.sizes.feat_dim }
+    requires m { length p.now.m.now
+        ≡ p.now.sizes.ext_gauss * (p.now.sizes.feat_dim * p.now.sizes.ivector_dim) }
+    requires sigma_inv { length p.now.sigma_inv.now
+        ≡ p.now.sizes.ext_gauss * triangle p.now.sizes.feat_dim }
     requires room { HasRoom (extractor_bytes W.format (params_in W.float p.now)) w.old }
     ensures { Wrote (extractor_bytes W.format (params_in W.float p.now)) w.old w.new }
 {
@@ -160,15 +158,18 @@ fn lda<W: Real>(w: &mut Writer<'_>, p: &LentParams<'_, W>)
     matrix(w, p.sizes.feat_dim, p.sizes.lda_cols, p.lda);
 }
 
-/// The GMM's, the extractor's and the LDA's file, one after the other, at the front of `out`; the answer has their lengths. A refusal writes nothing.
+/// The GMM's, the extractor's and the LDA's file, one after the other, at the front of `out`; the
+/// answer has their lengths. A refusal writes nothing.
 pub fn write<W: KeepAs<f32>>(
     opts: IvectorOptions,
     cmvn: &[u8],
     params: &LentParams<'_, W>,
     out: &mut [u8],
 ) -> Result<FileLengths, Refusal>
-    ensures answer { written_of result ≡ written W.format opts cmvn.now (params_in W.float params.now) (length out.old) }
-    ensures bytes { out.new ≡ written_out W.format opts cmvn.now (params_in W.float params.now) out.old }
+    ensures answer { written_of result
+        ≡ written W.format opts cmvn.now (params_in W.float params.now) (length out.old) }
+    ensures bytes { out.new ≡ written_out W.format opts cmvn.now
+        (params_in W.float params.now) out.old }
 {
     model_checks::check(opts, cmvn, params, out.len())?;
     let mut files = Writer { out, at: 0 };

@@ -1,4 +1,4 @@
--- What the contracts say besides the definition: `held` of the rooms that a caller lends. The rest is not for readers.
+-- What the contracts say besides the definition: `posts_in` of the rooms that a caller lends, and the order in them.
 use Rattle.std.specs.Prelude.{◌≡◌, Option, None, Some, Bool, true, false, not, ℕ, zero, suc, ◌+◌, ◌<◌, ◌≤◌, get_or, take, Float}
 use mathlib.Core.List.{List, [], ◌∷◌, foldl, zip_with}
 use Rattle.floats.specs.Operators.{at}
@@ -8,8 +8,8 @@ abbrev pub post : ℕ → Float → Post
 post g p = (g, p)
 
 -- the posteriors that the first n places of two rooms hold: Gaussians in one, values in the other
-unfoldable pub held : ℕ → List ℕ → List Float → List Post
-held n chosen posts = take n (zip_with post chosen posts)
+unfoldable pub posts_in : ℕ → List ℕ → List Float → List Post
+posts_in n chosen posts = take n (zip_with post chosen posts)
 
 -- whether a candidate stays: it is not behind the bound, if there is one
 abbrev pub stays : Option Float → Post → Bool

@@ -1,4 +1,4 @@
--- What the contracts say besides the definition: `Fair` of the rooms that a caller lends. The rest is not for readers.
+-- What the contracts say besides the definition: `Fair` of the rooms that a caller lends, and the walks over log-likelihoods.
 use Rattle.std.specs.Prelude.{◌≡◌, Option, None, Some, Bool, true, false, ℕ, ◌<◌, ◌≤◌, get_or, Float, if◌then◌else◌}
 use mathlib.Core.List.{List, map, foldl}
 use Rattle.std.specs.Float.{inf}

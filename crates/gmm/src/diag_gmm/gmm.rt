@@ -19,7 +19,8 @@ pub struct DiagGmm<'a> {
     pub means_invvars_t: &'a [f32],
     /// Inverse variances.
     pub inv_vars_t: &'a [f32],
-    pub ghost fits: { GmmFits num_gauss dim (length gconsts.now) (length means_invvars_t.now) (length inv_vars_t.now) },
+    pub ghost fits: { GmmFits num_gauss dim (length gconsts.now) (length means_invvars_t.now)
+        (length inv_vars_t.now) },
 }
 
 /// A number for each Gaussian, twice.
@@ -36,7 +37,8 @@ pub struct LikeRooms<'a> {
 #[tactic(auto, using(loops::proofs::Loop::loops))]
 fn add_constants(gconsts: &[f32], b: &mut [f32], out: &mut [f32])
     requires { (length out.old ≤ length gconsts.now) × (length b.old ≡ length out.old) }
-    ensures { out.new ≡ fill (length out.old) (λ m. at gconsts.now m +₃₂ at out.old m -₃₂ f32 0x3f00_0000 *₃₂ at b.old m) out.old }
+    ensures { out.new ≡ fill (length out.old)
+        (λ m. at gconsts.now m +₃₂ at out.old m -₃₂ f32 0x3f00_0000 *₃₂ at b.old m) out.old }
 {
     for m in 0..out.len() {
         out[m] = gconsts[m] + out[m] - 0.5 * b[m];

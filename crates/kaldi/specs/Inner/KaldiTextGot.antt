@@ -5,9 +5,10 @@ use Rattle.definition.specs.declared.refusal.Refusal.{Refusal}
 use Rattle.definition.specs.Number.{number_of}
 use Rattle.definition.specs.Reader.{Got, read, refused}
 
-abbrev pub got : {A B : Type 0} → (A → B) → Result A Refusal → ℕ → Got B
-got f (Ok a) at = read (f a) at
-got f (Err e) at = refused (number_of e)
+-- what f makes of the value, or the refusal's number
+abbrev pub parsed : {A B : Type 0} → (A → B) → Result A Refusal → ℕ → Got B
+parsed f (Ok a) at = read (f a) at
+parsed f (Err e) at = refused (number_of e)
 
 -- the value itself
 abbrev pub given : {A : Type 0} → Result A Refusal → ℕ → Got A

@@ -21,23 +21,30 @@ pub struct Gmm<'a> {
     pub ghost dim_high: { means_invvars.cols ≤ max_feat },
 }
 
-/// The extractor: its sizes, a reader at its first M and one at its first Σ⁻¹, and the prior's offset.
+/// The extractor.
 #[derive(Clone, Copy)]
 pub struct Extractor<'a> {
     pub num_gauss: usize,
     pub feat_dim: usize,
     pub ivector_dim: usize,
+    /// At the first M.
     pub m: KaldiReader<'a>,
+    /// At the first Σ⁻¹.
     pub sigma_inv: KaldiReader<'a>,
+    /// Element 0 of the prior, whose others are 0.
     pub prior_offset: f64,
 }
 
-/// The matrices M: how many, the lengths of the first, whether all have them, and a reader at the first.
+/// The matrices M.
 #[derive(Clone, Copy)]
 pub struct Means<'a> {
     pub count: usize,
+    /// Of the first one.
     pub rows: usize,
+    /// Of the first one.
     pub cols: usize,
+    /// Whether all have these lengths.
     pub alike: bool,
+    /// At the first one.
     pub m: KaldiReader<'a>,
 }

@@ -16,6 +16,7 @@ use floats::{KeepAs, Real};
 /// A run of finite numbers.
 #[derive(Clone, Copy)]
 pub struct Numbers<'a> {
+    /// They, as they are written.
     pub bytes: &'a [u8],
     pub width: Width,
     pub count: usize,
@@ -41,10 +42,9 @@ pub struct Packed<'a> {
 }
 
 // ---- numbers at a width
-// In each of these the count of numbers stands beside the bytes, since from their length it would be a division for each number; `positive` is the flag of the
-// definition's `kept`, since as a type it would make two functions of each; a part is cut by hand, since `chunks_exact` names none to a proof (tried). Where
-// the bits of a width are told apart there is a function for each of the two: through a float it takes twice the instructions. A number's bytes are a slice,
-// with its length in a clause: an array of `W::BYTES` places is no type, and one of 4 or 8 would first be made of the slice, which is no plainer.
+// In each of these the count of numbers stands beside the bytes, which spares a division for each
+// number; `positive` is the flag of the definition's `kept`; a part is cut by hand (limit: parts).
+// The bits of each width have a function of their own, which is faster than by a float.
 
 /// Whether a number is to be kept: finite, and above 0 where that is asked.
 #[tactic(auto, unfolding(definition::specs::Reader::kept))]
@@ -57,7 +57,8 @@ pub(crate) fn is_kept<K: Real>(x: K, positive: bool) -> bool
 // The bytes of number `i` of those that stand one after the other.
 fn part<W: Real>(bytes: &[u8], i: usize) -> &[u8]
     requires { i * W.BYTES + W.BYTES ≤ length bytes.now }
-    ensures value { result.now ≡ take (byte_width W.format) (drop (i * byte_width W.format) bytes.now) }
+    ensures value { result.now ≡ take (byte_width W.format)
+        (drop (i * byte_width W.format) bytes.now) }
     ensures count { length result.now ≡ byte_width W.format }
 {
     let from = i * W::BYTES;
@@ -67,12 +68,13 @@ fn part<W: Real>(bytes: &[u8], i: usize) -> &[u8]
 // The number itself.
 fn number_at<W: Real>(bytes: &[u8], i: usize) -> W
     requires { i * W.BYTES + W.BYTES ≤ length bytes.now }
-    ensures { W.float result ≡ from_bits W.format (little_endian (take (byte_width W.format) (drop (i * byte_width W.format) bytes.now))) }
+    ensures { W.float result ≡ from_bits W.format
+        (little_endian (take (byte_width W.format) (drop (i * byte_width W.format) bytes.now))) }
 {
     W::read(part::<W>(bytes, i))
 }
 
-// A finite number of four bytes, and of eight: with no test for a NaN, which would take as many instructions as the rest of a copy.
+// A finite number of four bytes: with no test for a NaN.
 #[tactic(auto, using(crate::proofs::Values::reads))]
 fn single(bytes: &[u8]) -> f32
     requires count { length bytes.now ≡ 4 }
@@ -82,6 +84,7 @@ fn single(bytes: &[u8]) -> f32
     f32::from_bits(u32::from_le_bytes([bytes[0], bytes[1], bytes[2], bytes[3]]))
 }
 
+// And of eight.
 #[tactic(auto, using(crate::proofs::Values::reads))]
 fn double(bytes: &[u8]) -> f64
     requires count { length bytes.now ≡ 8 }
@@ -111,7 +114,7 @@ where
     }
 }
 
-// Whether a number is finite, by the bits of its exponent.
+// Whether a number of four bytes is finite, by the bits of its exponent.
 #[tactic(auto, using(crate::proofs::Values::reads))]
 fn finite_single(bytes: &[u8]) -> bool
     requires { length bytes.now ≡ 4 }
@@ -121,6 +124,7 @@ fn finite_single(bytes: &[u8]) -> bool
     bits % 0x8000_0000 / 0x0080_0000 != 255
 }
 
+// And of eight.
 #[tactic(auto, using(crate::proofs::Values::reads))]
 fn finite_double(bytes: &[u8]) -> bool
     requires { length bytes.now ≡ 8 }
@@ -169,8 +173,8 @@ fn is_kept_at<W: KeepAs<K>, K: Real>(bytes: &[u8], i: usize, n: usize, positive:
     }
 }
 
-// Whether a table of `K` keeps all of `n` numbers that are written at a width. By index: of the parts that `chunks_exact` gives an invariant names none
-// (tried).
+// Whether a table of `K` keeps all of `n` numbers that are written at a width. By index (limit:
+// parts).
 fn all_kept<W: KeepAs<K>, K: Real>(bytes: &[u8], n: usize, positive: bool) -> bool
     requires { length bytes.now ≡ n * byte_width W.format }
     ensures { result ≡ all_of (kept positive) (numbers K.format W.format n bytes.now) }
@@ -218,7 +222,8 @@ impl Numbers<'_> {
         f32: KeepAs<K>,
         f64: KeepAs<K>,
         requires { i < self.now.count }
-        ensures { K.float result ≡ at (numbers K.format (format_of self.now.width) self.now.count self.now.bytes.now) i }
+        ensures { K.float result ≡ at
+            (numbers K.format (format_of self.now.width) self.now.count self.now.bytes.now) i }
     {
         match self.width {
             Width::Single => kept_at::<f32, K>(self.bytes, i, self.count),
@@ -229,7 +234,8 @@ impl Numbers<'_> {
     /// All of them, into a room of f64 that they fill.
     pub fn fill(&self, out: &mut [f64])
         requires { length out.old ≡ self.now.count }
-        ensures { out.new ≡ numbers binary64 (format_of self.now.width) self.now.count self.now.bytes.now }
+        ensures { out.new ≡ numbers binary64
+            (format_of self.now.width) self.now.count self.now.bytes.now }
     {
         match self.width {
             Width::Single => fill_kept::<f32>(self.bytes, out),

@@ -1,5 +1,7 @@
-//! The items of Kaldi's binary format. Each of these reads one from lent bytes at a place, as a parser of the definition does: it gives the item and the place
-//! behind it, or says why it cannot. A block's numbers are checked where they stand, and are read from there once everything is checked.
+//! The items of Kaldi's binary format. Each of these reads one from lent bytes at a place, as a
+//! parser of the definition does: it gives the item and the place behind it, or says why it cannot.
+//! A block's numbers are checked where they stand, and are read from there once everything is
+//! checked.
 
 ghost use Rattle.std.specs.Prelude.{◌≡◌, ◌+◌, ◌-◌, ◌<◌, ◌≤◌, not, ◌*◌, length, take, drop, IfOk, List, ℕ, from_bits};
 ghost use Rattle.std.specs.Float.{binary32, binary64};
@@ -9,7 +11,7 @@ ghost use Rattle.floats.specs.Real.{by_width, byte_width};
 ghost use Rattle.definition.specs.Reader.{bytes, little_endian, floats};
 ghost use Rattle.definition.specs.Kaldi.{binary, blank, word, dim, block_width, width_by, single, packed_matrix, vector, matrix, skipped};
 ghost use Rattle.kaldi.specs.Widths.{format_of};
-ghost use Rattle.kaldi.specs.Inner.KaldiIoGot.{got, got_at, passed, list_of, itself, numbers_in, matrix_in, packed_in};
+ghost use Rattle.kaldi.specs.Inner.KaldiIoGot.{parsed, parsed_at, passed, list_of, as_read, numbers_in, matrix_in, packed_in};
 
 use crate::kaldi_io::blocks::{Matrix, Numbers, Packed, are_kept, is_kept};
 use crate::kaldi_io::widths::Width;
@@ -29,7 +31,7 @@ fn rest(src: &[u8], at: usize) -> &[u8]
 // The next `n` bytes.
 #[tactic(auto, unfolding(loops::specs::Refusal::first_of, definition::specs::Reader::bytes))]
 fn bytes_at(src: &[u8], at: usize, n: usize) -> Result<(&[u8], usize), Refusal>
-    ensures value { got_at list_of result ≡ bytes n src.now at }
+    ensures value { parsed_at list_of result ≡ bytes n src.now at }
     ensures count { IfOk result (λ r. length r.0.now ≡ n) }
 {
     let found = rest(src, at).get(..n).ok_or(Refusal::CutShort)?;
@@ -74,11 +76,10 @@ fn letters_len(bytes: &[u8]) -> usize
 // The next word: blanks before it are skipped, and the one that ends it is read too.
 #[tactic(auto, unfolding(loops::specs::Refusal::first_of), using(crate::proofs::Words::words))]
 pub(crate) fn word_at(src: &[u8], at: usize) -> Result<(&[u8], usize), Refusal>
-    ensures { got_at list_of result ≡ word src.now at }
+    ensures { parsed_at list_of result ≡ word src.now at }
 {
     let rest = rest(src, at);
     let from = blanks_len(rest);
-    // cut where the blanks were counted to: `split_at` gives them too, which nothing reads, so it is no plainer
     let rest = &rest[from..];
     let len = letters_len(rest);
     need(len < rest.len(), Refusal::CutShort)?;
@@ -87,7 +88,7 @@ pub(crate) fn word_at(src: &[u8], at: usize) -> Result<(&[u8], usize), Refusal>
 
 // ---- numbers
 
-// Four bytes, from low to high. As `&[u8; 4]` it would be no plainer: they are cut by a number.
+// Four bytes, from low to high.
 #[tactic(auto, unfolding(definition::specs::Reader::little_endian))]
 fn u32_of(bytes: &[u8]) -> u32
     requires { length bytes.now ≡ 4 }
@@ -104,7 +105,7 @@ pub(crate) fn dim_at(
     low: usize,
     high: usize,
 ) -> Result<(usize, usize), Refusal>
-    ensures value { got_at itself result ≡ dim low high src.now at }
+    ensures value { parsed_at as_read result ≡ dim low high src.now at }
     ensures range { IfOk result (λ r. (low ≤ r.0) × (r.0 ≤ high)) }
     ensures four_bytes { IfOk result (λ r. r.0 < 4294967296) }
 {
@@ -119,7 +120,8 @@ pub(crate) fn dim_at(
 // The width whose mark it is.
 #[tactic(auto, unfolding(loops::specs::Refusal::first_of, definition::specs::Kaldi::width_by))]
 fn width_of(mark: &[u8], single: &[u8], double: &[u8]) -> Result<Width, Refusal>
-    ensures { (s : List ℕ) (at : ℕ) → got format_of result at ≡ width_by (by_width single.now double.now) mark.now s at }
+    ensures { (s : List ℕ) (at : ℕ)
+        → parsed format_of result at ≡ width_by (by_width single.now double.now) mark.now s at }
 {
     if mark == single {
         return Ok(Width::Single);
@@ -136,7 +138,7 @@ pub(crate) fn width_at(
     single: &[u8],
     double: &[u8],
 ) -> Result<(Width, usize), Refusal>
-    ensures { got_at format_of result ≡ block_width (by_width single.now double.now) src.now at }
+    ensures { parsed_at format_of result ≡ block_width (by_width single.now double.now) src.now at }
 {
     let (tag, next) = word_at(src, at)?;
     let width = width_of(tag, single, double)?;
@@ -158,7 +160,7 @@ fn f64_of(bytes: &[u8], width: Width) -> f64
 // The size byte 4 or 8, and a finite number of so many bytes.
 #[tactic(auto, unfolding(loops::specs::Refusal::first_of, definition::specs::Kaldi::single, definition::specs::Kaldi::width_by, definition::specs::Reader::kept))]
 pub(crate) fn float_at(src: &[u8], at: usize) -> Result<(f64, usize), Refusal>
-    ensures { got_at itself result ≡ single src.now at }
+    ensures { parsed_at as_read result ≡ single src.now at }
 {
     let (size, next) = bytes_at(src, at, 1)?;
     let width = width_of(size, &[4], &[8])?;
@@ -170,8 +172,8 @@ pub(crate) fn float_at(src: &[u8], at: usize) -> Result<(f64, usize), Refusal>
 
 // ---- blocks
 
-// `n` numbers, for a table of `K`: their whole extent, then each of them.
-// `positive`, here and below, is the flag of the definition's `floats`: as a type it would make two functions of each, and no call is plainer.
+// `n` numbers, for a table of `K`: their whole extent, then each of them. `positive`, here and
+// below, is the flag of the definition's `floats`.
 #[tactic(auto, unfolding(loops::specs::Refusal::first_of, definition::specs::Reader::floats))]
 fn numbers_at<K: Real>(
     src: &[u8],
@@ -184,7 +186,8 @@ where
     f32: KeepAs<K>,
     f64: KeepAs<K>,
     requires { n ≤ 1000000000000 }
-    ensures value { got_at (numbers_in K.format) result ≡ floats K.format (format_of width) positive n src.now at }
+    ensures value { parsed_at (numbers_in K.format) result
+        ≡ floats K.format (format_of width) positive n src.now at }
     ensures count { IfOk result (λ r. r.0.count ≡ n) }
 {
     let (bytes, next) = bytes_at(src, at, n * width.bytes())?;
@@ -210,7 +213,8 @@ pub(crate) fn vector_at<K: Real>(
 where
     f32: KeepAs<K>,
     f64: KeepAs<K>,
-    ensures value { got_at (numbers_in K.format) result ≡ vector K.format positive most src.now at }
+    ensures value { parsed_at (numbers_in K.format) result
+        ≡ vector K.format positive most src.now at }
     ensures range { IfOk result (λ r. (1 ≤ r.0.count) × (r.0.count ≤ most)) }
 {
     let (width, next) = width_at(src, at, b"FV", b"DV")?;
@@ -231,7 +235,8 @@ where
     f32: KeepAs<K>,
     f64: KeepAs<K>,
     requires { (most_rows ≤ 1000000) × (most_cols ≤ 1000000) }
-    ensures value { got_at (matrix_in K.format) result ≡ matrix K.format positive most_rows most_cols src.now at }
+    ensures value { parsed_at (matrix_in K.format) result
+        ≡ matrix K.format positive most_rows most_cols src.now at }
     ensures rows { IfOk result (λ r. (1 ≤ r.0.rows) × (r.0.rows ≤ most_rows)) }
     ensures cols { IfOk result (λ r. (1 ≤ r.0.cols) × (r.0.cols ≤ most_cols)) }
 {
@@ -252,7 +257,7 @@ where
 // A symmetric matrix for a table of f64: its lower triangle, row after row.
 #[tactic(auto, unfolding(definition::specs::Kaldi::packed_matrix))]
 pub(crate) fn packed_at(src: &[u8], at: usize) -> Result<(Packed<'_>, usize), Refusal>
-    ensures value { got_at packed_in result ≡ packed_matrix src.now at }
+    ensures value { parsed_at packed_in result ≡ packed_matrix src.now at }
     ensures range { IfOk result (λ r. (1 ≤ r.0.dim) × (r.0.dim ≤ max_feat)) }
 {
     let (width, next) = width_at(src, at, b"FP", b"DP")?;

@@ -2,7 +2,8 @@
 
 ghost use Rattle.std.specs.Prelude.{◌≤◌, length};
 
-/// ±m * 10^(up - down), m at most 2^53: a number's digits and its power of ten, their limits still to be tested.
+/// ±m * 10^(up - down), m at most 2^53: a number's digits and its power of ten, their limits still
+/// to be tested.
 #[derive(Clone, Copy)]
 pub struct Decimal {
     pub minus: bool,

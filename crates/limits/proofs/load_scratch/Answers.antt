@@ -1,4 +1,5 @@
 -- A load's scratch is the definition's sum; the ranges of dimensions, which are required, keep each product within a word.
+use mathlib.Core.Path.{refl}
 use native.Mathlib.Omega.{arith}
 use Rattle.definition.proofs.Ranges.{dim-ranges, dim_products}
 use Rattle.limits.proofs.load_scratch.Goals as goal
@@ -14,3 +15,6 @@ overflow_mul-result-2 c = omega (arith, dim-ranges _ (c.requires), dim_products 
 
 pub overflow_add-result-2 : goal.overflow_add-result-2
 overflow_add-result-2 c = omega (arith, dim-ranges _ (c.requires), dim_products _ (c.requires))
+
+pub returns : goal.returns
+returns c = refl

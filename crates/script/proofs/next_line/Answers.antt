@@ -1,4 +1,4 @@
--- Invariant: the line after place i is the line after the start (`line_at`); a byte 10 ends it (Scanning.antt).
+-- `next_line` meets its contract: a byte 10 ends the line (`line_found`), else a turn is `line_turn`, the end `line_done` (Scanning.antt).
 use Rattle.std.proofs.Common.{rules}
 use Rattle.script.proofs.Scanning.{line_done, line_turn, line_found}
 use Rattle.script.proofs.next_line.Goals as goal

@@ -1,4 +1,4 @@
--- Invariant: the line after place i is the line after the start (`line_at`); a byte 10 ends it (Scanning.antt).
+-- The loop's invariant of `next_line`: the line after place i is the line after the start (`line_at`).
 use Rattle.std.proofs.Common.{◌≡◌, ◌≤◌, max, length, drop}
 use Rattle.script.specs.Scan.{line_at}
 use Rattle.script.proofs.next_line.Given as goal

@@ -1,5 +1,4 @@
--- Invariant: the number from place i on, with the digits so far, is the number at the start (`number_at`). A turn, and a byte that ends the number,
--- are one law each (Scanning.antt).
+-- `number` meets its contract: a turn is `scan_turn`; a byte ends the number (`scan_end`), or the text does (`scan_done`, all in Scanning.antt).
 use Rattle.std.proofs.Common.{rules, ◌≡◌, ap, ◌∙◌}
 use Rattle.script.proofs.Scanning.{scan_done, scan_turn, scan_end}
 use Rattle.script.proofs.number.Goals as goal

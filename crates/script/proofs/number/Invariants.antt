@@ -1,5 +1,4 @@
--- Invariant: the number from place i on, with the digits so far, is the number at the start (`number_at`). A turn, and a byte that ends the number,
--- are one law each (Scanning.antt).
+-- The loop's invariant of `number`: the number from place i on, with the digits so far, is the number at the start (`number_at`).
 use Rattle.std.proofs.Common.{◌≡◌, ◌≤◌, max, length, drop}
 use Rattle.script.specs.Scan.{number_at}
 use Rattle.script.proofs.number.Given as goal

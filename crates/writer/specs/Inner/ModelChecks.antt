@@ -1,4 +1,4 @@
--- The refusal's tests file by file, and the files' lengths as code computes them. Not for readers.
+-- The refusal's tests file by file, and the files' lengths as code computes them.
 use Rattle.std.specs.Prelude.{◌≡◌, Bool, true, false, List, [], ◌∷◌, ◌++◌, ℕ, ◌+◌, ◌-◌, ◌*◌, ◌≤◌, length, Result, Ok, Err, Float}
 use Rattle.std.specs.Float.{Format, binary32, binary64}
 use Rattle.definition.specs.declared.refusal.Refusal.{Refusal}

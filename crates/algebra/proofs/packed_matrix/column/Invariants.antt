@@ -1,5 +1,5 @@
--- `packed_matrix::column` meets its contract. The loop's invariant: the first j places are filled with the column's elements; the next one stands at
--- `triangle j + i` (`packed-low` in Packing.antt). At its start they are row i up to the diagonal (`front_is` there; `held` in Rooms.antt).
+-- The loop's invariant of `packed_matrix::column`: the first j places are filled with the column's elements; the next one stands at `triangle j + i`
+-- (`packed-low` in Packing.antt). At its start they are row i up to the diagonal (`front_is` there; `held` in Rooms.antt).
 use mathlib.Core.Path.{◌≡◌}
 use Prim.Native.Nat.{◌+◌, ◌≤◌}
 use lib.ListN.{length}

@@ -1,4 +1,4 @@
--- `packed_matrix::set_four` meets its contract. The loop's invariant: the first c places are filled with the sums.
+-- The loop's invariant of `packed_matrix::set_four`: the first c places are filled with the sums.
 use mathlib.Core.Path.{◌≡◌}
 use Prim.Native.Nat.{◌-◌, ◌≤◌}
 use lib.ListN.{length}

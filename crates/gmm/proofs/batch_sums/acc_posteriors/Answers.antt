@@ -21,7 +21,7 @@ loop-i-preserved c =
     let p = c.requires.places in
     let v = l.invariant in
     let z = a.chosen.now in
-    let e = c.enter.ensures in
+    let e = c.add_posterior.ensures in
     let entry = λ (w : Float). entry_of a.raw.now (get_or z.gauss.now l.i 0, w) in
     record {
       most = omega (arith, c.loop-i-test.true);

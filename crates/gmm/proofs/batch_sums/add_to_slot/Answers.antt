@@ -1,10 +1,10 @@
--- `batch_sums::give` meets its contract: the weight is added at k, and the features times the weight from k * d on (`row_updated` in Rows.antt).
+-- `batch_sums::add_to_slot` meets its contract: the weight is added at k, and the features times the weight from k * d on (`row_updated` in Rows.antt).
 use Rattle.std.proofs.Common.{◌*◌, refl, arith}
 use lib.Ieee.{Float}
 use Rattle.loops.proofs.Parts.{length_lent}
 use Rattle.floats.specs.Operators.{◌+₆₄◌, ◌*₆₄◌, at}
 use Rattle.gmm.proofs.Rows.{row_updated}
-use Rattle.gmm.proofs.batch_sums.give.Goals as goal
+use Rattle.gmm.proofs.batch_sums.add_to_slot.Goals as goal
 
 pub add_features-requires : goal.add_features-requires
 add_features-requires c =

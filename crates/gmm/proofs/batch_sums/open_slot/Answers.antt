@@ -1,9 +1,9 @@
--- `batch_sums::begin` meets its contract: two places are set, and d zeros stand from k * d on (`row_cleared` in Rows.antt).
+-- `batch_sums::open_slot` meets its contract: two places are set, and d zeros stand from k * d on (`row_cleared` in Rows.antt).
 use Rattle.std.proofs.Common.{ℕ, ◌*◌, replicate, refl, ap, ◌∙◌}
 use Rattle.loops.proofs.Parts.{length_lent}
 use Rattle.floats.specs.Operators.{zero₆₄}
 use Rattle.gmm.proofs.Rows.{row_cleared}
-use Rattle.gmm.proofs.batch_sums.begin.Goals as goal
+use Rattle.gmm.proofs.batch_sums.open_slot.Goals as goal
 
 pub returns-clause-sum : goal.returns-clause-sum
 returns-clause-sum c =

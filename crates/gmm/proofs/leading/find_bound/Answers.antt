@@ -1,4 +1,4 @@
--- `leading::find_bound` meets its contract: what is above another is a number. The loop's invariant: so many are not behind the bound, if there is one.
+-- `leading::find_bound` meets its contract: what is above another is a number, and `staying` counts those that are not behind it.
 use Rattle.floats.proofs.Order.{lt-no_nan}
 use Rattle.gmm.proofs.leading.find_bound.Goals as goal
 

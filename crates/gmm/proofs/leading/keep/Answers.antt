@@ -1,5 +1,4 @@
--- `leading::keep` meets its contract. The loop's invariant: of the candidates from `first` up to j those that stay stand together, and from j on each place is as it was
--- (`kept_turn` in Keeping.antt).
+-- `leading::keep` meets its contract: with no bound all stay (`kept_all`); with one, a turn by `kept_turn`, from none on (`kept_none`, all in Keeping.antt).
 use Rattle.std.specs.Prelude.{Some}
 use mathlib.Core.Path.{◌≡◌, refl, ap, ◌∙◌}
 use mathlib.Core.Bool.{not}

@@ -1,5 +1,4 @@
--- `leading::keep` meets its contract. The loop's invariant: of the candidates from `first` up to j those that stay stand together, and from j on each place is as it was
--- (`kept_turn` in Keeping.antt).
+-- The loop's invariant of `leading::keep`: of the candidates from `first` up to j those that stay stand together, and from j on each place is as it was.
 use Rattle.std.specs.Prelude.{Some}
 use mathlib.Core.Path.{◌≡◌}
 use mathlib.Core.List.{◌++◌}
@@ -7,7 +6,7 @@ use Prim.Native.Nat.{ℕ, ◌≤◌}
 use lib.ListN.{length, get_or, drop}
 use Rattle.loops.specs.Lists.{those}
 use Rattle.floats.specs.Operators.{at}
-use Rattle.gmm.specs.Inner.Leading.{held, stays}
+use Rattle.gmm.specs.Inner.Leading.{posts_in, stays}
 use Rattle.gmm.proofs.leading.keep.Given as goal
 
 abbrev pub invariant-loop-j : goal.invariant-loop-j
@@ -19,5 +18,5 @@ invariant-loop-j l = record {
   long2 : length l.posts ≡ length l.initial.posts;
   rest : (k : ℕ) → l.j ≤ k → get_or l.gauss k 0 ≡ get_or l.initial.gauss k 0;
   rest2 : (k : ℕ) → l.j ≤ k → at l.posts k ≡ at l.initial.posts k;
-  kept : held l.n l.gauss l.posts ≡ held l.first l.initial.gauss l.initial.posts ++ those (stays (Some l.v)) (drop l.first (held l.j l.initial.gauss l.initial.posts));
+  kept : posts_in l.n l.gauss l.posts ≡ posts_in l.first l.initial.gauss l.initial.posts ++ those (stays (Some l.v)) (drop l.first (posts_in l.j l.initial.gauss l.initial.posts));
 }

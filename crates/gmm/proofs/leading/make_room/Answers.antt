@@ -5,7 +5,7 @@ use mathlib.Core.List.{List}
 use native.Mathlib.Omega.{arith}
 use lib.ListN.{take}
 use Rattle.definition.specs.Posteriors.{Post}
-use Rattle.gmm.specs.Inner.Leading.{held, into}
+use Rattle.gmm.specs.Inner.Leading.{posts_in, into}
 use Rattle.gmm.proofs.Sieving.{sieved_all, enough_chosen}
 use Rattle.gmm.proofs.Ordering.{falls_ordered, order_done}
 use Rattle.gmm.proofs.leading.make_room.Goals as goal
@@ -14,10 +14,10 @@ pub returns-then-choice-le48-clause-leading : goal.returns-then-choice-le48-clau
 returns-then-choice-le48-clause-leading c =
     let a = c.args in
     let q = c.requires in
-    let l : List Post = held a.holding.ordered a.chosen.now.gauss.now a.chosen.now.posts.now in
+    let l : List Post = posts_in a.holding.ordered a.chosen.now.gauss.now a.chosen.now.posts.now in
     let o = falls_ordered a.holding.ordered a.chosen.now.gauss.now a.chosen.now.posts.now (omega (arith, q.holds.few, q.places)) (omega (arith, q.holds.few, q.places)) q.holds.in_order in
     let e = c.choose-choice.ensures in
-    ap (λ (r : List Post). take a.num_gselect (into l r)) e.chosen ∙ sieved_all a.num_gselect c.choose-choice.result.bound l (held a.holding.candidates a.gauss.now a.posts.now) o e.enough
+    ap (λ (r : List Post). take a.num_gselect (into l r)) e.chosen ∙ sieved_all a.num_gselect c.choose-choice.result.bound l (posts_in a.holding.candidates a.gauss.now a.posts.now) o e.enough
 
 pub returns-then-choice-le48-clause-holds : goal.returns-then-choice-le48-clause-holds
 returns-then-choice-le48-clause-holds c =
@@ -28,15 +28,15 @@ returns-then-choice-le48-clause-holds c =
       candidates = (omega (arith, q.holds.candidates, e.fewer, c.choose-choice.auto.gauss), omega (arith, q.holds.candidates, e.fewer, c.choose-choice.auto.posts));
       few = q.holds.few;
       in_order = q.holds.in_order;
-      enough = rw e.chosen (enough_chosen a.num_gselect c.choose-choice.result.bound (held a.holding.candidates a.gauss.now a.posts.now) e.enough);
+      enough = rw e.chosen (enough_chosen a.num_gselect c.choose-choice.result.bound (posts_in a.holding.candidates a.gauss.now a.posts.now) e.enough);
     }
 
 pub returns-clause-leading : goal.returns-clause-leading
 returns-clause-leading c =
     let a = c.args in
     let q = c.requires in
-    let l : List Post = held a.holding.ordered a.chosen.now.gauss.now a.chosen.now.posts.now in
+    let l : List Post = posts_in a.holding.ordered a.chosen.now.gauss.now a.chosen.now.posts.now in
     let o = falls_ordered a.holding.ordered a.chosen.now.gauss.now a.chosen.now.posts.now (omega (arith, q.holds.few, q.places)) (omega (arith, q.holds.few, q.places)) q.holds.in_order in
     let e = c.choose-choice.ensures in
     order_done a.num_gselect _ c.choose-choice.new.gauss c.choose-choice.new.posts c.order-ordered.ensures.ordered
-    ∙ ap (λ (r : List Post). take a.num_gselect (into l r)) e.chosen ∙ sieved_all a.num_gselect c.choose-choice.result.bound l (held a.holding.candidates a.gauss.now a.posts.now) o e.enough
+    ∙ ap (λ (r : List Post). take a.num_gselect (into l r)) e.chosen ∙ sieved_all a.num_gselect c.choose-choice.result.bound l (posts_in a.holding.candidates a.gauss.now a.posts.now) o e.enough

@@ -1,8 +1,8 @@
--- `leading::fours` meets its contract. The loop's invariant is the contract's, at j; a turn is four of the walk's, in each room (`back_step` in Sliding.antt).
+-- The loop's invariant of `leading::move_up_by_fours`: its contract, at j.
 use mathlib.Core.Path.{◌≡◌}
 use lib.ListN.{length}
 use Rattle.gmm.specs.Inner.Leading.{Moved}
-use Rattle.gmm.proofs.leading.fours.Given as goal
+use Rattle.gmm.proofs.leading.move_up_by_fours.Given as goal
 
 abbrev pub invariant-loop-j : goal.invariant-loop-j
 invariant-loop-j l = (length l.chosen ≡ length l.initial.chosen) × (length l.posts ≡ length l.initial.posts) × Moved l.p l.last l.j l.initial.chosen l.initial.posts l.chosen l.posts

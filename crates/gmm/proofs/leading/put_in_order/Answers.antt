@@ -1,5 +1,5 @@
--- `leading::settle` meets its contract: at the front by `slide`; else the walk goes on where `fours` left it. The loop's invariant: whatever the rooms held
--- before `fours`, those that it had moved then, and those that the walk has passed since, are moved up by one (`back_turn`, `back_end` in Sliding.antt).
+-- `leading::put_in_order` meets its contract: at the front by `slide`; else the walk goes on where `move_up_by_fours` left it (`back_turn`), and what is in hand is
+-- put down at its end (`back_end`, both in Sliding.antt).
 use borrow.Author.Rules.{rules}
 use mathlib.Core.Path.{◌≡◌, refl, sym, ap, ◌∙◌}
 use mathlib.Core.Bool.{Bool}
@@ -13,18 +13,18 @@ use Rattle.floats.specs.Operators.{at}
 use Rattle.definition.specs.Posteriors.{ahead}
 use Rattle.gmm.specs.Inner.Leading.{slid}
 use Rattle.gmm.proofs.Sliding.{length_slid, back_in, back_turn, back_end, in_front}
-use Rattle.gmm.proofs.leading.settle.Goals as goal
+use Rattle.gmm.proofs.leading.put_in_order.Goals as goal
 
 -- what the walk asks of the place in front of j, it asks of what stood there
 passes : (p : Float) (n j : ℕ) (y : List Float) {posts : List Float} {r s : Bool} → 0 < j → posts ≡ slid j n (at y j) y → r ≡ ahead (0, p) (0, at posts (j - 1)) → r ≡ s → ahead (0, p) (0, at y (j - 1)) ≡ s
 passes p n j y t e f g = ap (λ (q : Float). ahead (0, p) (0, q)) (sym (back_in nan j n (at y j) y (j - 1) (omega arith) e)) ∙ sym f ∙ g
 
-pub returns-then-leads : goal.returns-then-leads
-returns-then-leads c =
-    (c.slide.ensures, c.slide-then-leads.ensures, record { most = omega arith; front = λ k h. absurd (not-suc-le-zero h); here = c.leads.ensures c.if-leads.true })
+pub returns-then-belongs_first : goal.returns-then-belongs_first
+returns-then-belongs_first c =
+    (c.slide.ensures, c.slide-then-belongs_first.ensures, record { most = omega arith; front = λ k h. absurd (not-suc-le-zero h); here = c.belongs_first.ensures c.if-belongs_first.true })
 
 pub loop-j-init : goal.loop-j-init
-loop-j-init c = (c.fours-j.ensures.most, refl, refl, λ z y h l m. m)
+loop-j-init c = (c.move_up_by_fours-j.ensures.most, refl, refl, λ z y h l m. m)
 
 pub loop-j-preserved : goal.loop-j-preserved
 loop-j-preserved c =
@@ -49,7 +49,7 @@ returns-else-ahead c =
     let l = c.loop-j in
     let a = c.args in
     let t = c.loop-j-test.true in
-    let now = l.invariant.3 _ _ c.requires.0 c.requires.1 c.fours-j.ensures in
+    let now = l.invariant.3 _ _ c.requires.0 c.requires.1 c.move_up_by_fours-j.ensures in
     let low = now.most in (
       back_end l.j (a.last + 1) _ a.g a.chosen.now (omega arith) now.gauss,
       back_end l.j (a.last + 1) _ a.p a.posts.now (omega arith) now.values,
@@ -60,7 +60,7 @@ pub returns : goal.returns
 returns c =
     let l = c.loop-j in
     let a = c.args in
-    let now = l.invariant.3 _ _ c.requires.0 c.requires.1 c.fours-j.ensures in
+    let now = l.invariant.3 _ _ c.requires.0 c.requires.1 c.move_up_by_fours-j.ensures in
     let low = now.most in (
       back_end l.j (a.last + 1) _ a.g a.chosen.now (omega arith) now.gauss,
       back_end l.j (a.last + 1) _ a.p a.posts.now (omega arith) now.values,

@@ -1,12 +1,12 @@
--- `leading::settle` meets its contract: at the front by `slide`; else the walk goes on where `fours` left it. The loop's invariant: whatever the rooms held
--- before `fours`, those that it had moved then, and those that the walk has passed since, are moved up by one (`back_turn`, `back_end` in Sliding.antt).
+-- The loop's invariant of `leading::put_in_order`: whatever the rooms held before `move_up_by_fours`, those that it had moved then, and those that the walk has
+-- passed since, are moved up by one.
 use mathlib.Core.Path.{◌≡◌}
 use mathlib.Core.List.{List}
 use Prim.Native.Nat.{ℕ, ◌≤◌, ◌<◌}
 use lib.ListN.{length}
 use lib.Ieee.{Float}
 use Rattle.gmm.specs.Inner.Leading.{Moved}
-use Rattle.gmm.proofs.leading.settle.Given as goal
+use Rattle.gmm.proofs.leading.put_in_order.Given as goal
 
 abbrev pub invariant-loop-j : goal.invariant-loop-j
 invariant-loop-j l = (l.j ≤ l.last) × (length l.chosen ≡ length l.initial.chosen) × (length l.posts ≡ length l.initial.posts)

@@ -1,5 +1,4 @@
--- `leading::slide` meets its contract. The loop's invariant: sliding what is in hand from place j on gives what sliding from the first place gives
--- (`slid_next`, `slid_end` in Sliding.antt).
+-- `leading::slide` meets its contract: a turn by `slid_next`, the end by `slid_end` (Sliding.antt).
 use native.Mathlib.Omega.{arith}
 use borrow.Author.Rules.{rules}
 use Rattle.gmm.proofs.Sliding.{slid_next, slid_end}

@@ -1,4 +1,4 @@
--- `leading::staying` meets its contract. The loop's invariant: counted are those of the first j (`count_turn` in Keeping.antt).
+-- `leading::staying` meets its contract: a turn by `count_turn`, from none on (`count_none`, both in Keeping.antt).
 use native.Mathlib.Omega.{arith}
 use Rattle.gmm.proofs.Keeping.{byte-few, count_none, count_turn}
 use Rattle.gmm.proofs.leading.staying.Goals as goal

@@ -1,5 +1,4 @@
--- `posteriors::collect` meets its contract. The loop's invariant: put down are those that pass in front of Gaussian k (`collect_none`, `collect_turn`, `collect_end` in
--- Gathering.antt).
+-- `posteriors::collect` meets its contract: a turn by `collect_turn`, from none on (`collect_none`); where no more are found, by `collect_end` (Gathering.antt).
 use mathlib.Core.Path.{refl, ◌∙◌}
 use native.Mathlib.Omega.{arith}
 use Rattle.std.proofs.lemmas.List.{length-set}

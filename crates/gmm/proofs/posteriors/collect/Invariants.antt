@@ -1,5 +1,4 @@
--- `posteriors::collect` meets its contract. The loop's invariant: put down are those that pass in front of Gaussian k (`collect_none`, `collect_turn`, `collect_end` in
--- Gathering.antt).
+-- The loop's invariant of `posteriors::collect`: put down are those that pass in front of Gaussian k.
 use mathlib.Core.Path.{◌≡◌}
 use Prim.Native.Nat.{◌+◌, ◌-◌, ◌≤◌}
 use lib.ListN.{length}

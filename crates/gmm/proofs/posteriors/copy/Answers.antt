@@ -1,4 +1,4 @@
--- `posteriors::copy` meets its contract. The loop's invariant: the first j are the same (`copy_turn` in Likely.antt).
+-- `posteriors::copy` meets its contract: a turn is `copy_turn` (Likely.antt).
 use mathlib.Core.Path.{refl, sym, ◌∙◌}
 use native.Mathlib.Omega.{arith}
 use Rattle.std.proofs.lemmas.List.{length-set}

@@ -1,5 +1,4 @@
--- `posteriors::count_nans` meets its contract. The loop's invariant: what is counted, and what is left from g on, are together the list's count; at most
--- g are counted, so that the sum is in range (laws in Counting.antt).
+-- `posteriors::count_nans` meets its contract: a turn by `count_turn`, the end by `count_end` (Counting.antt); at most g are counted, so that the sum is in range.
 use mathlib.Core.Path.{refl}
 use native.Mathlib.Omega.{arith}
 use lib.Ieee.{ne}

@@ -1,5 +1,4 @@
--- `posteriors::count_nans` meets its contract. The loop's invariant: what is counted, and what is left from g on, are together the list's count; at most
--- g are counted, so that the sum is in range (laws in Counting.antt).
+-- The loop's invariant of `posteriors::count_nans`: what is counted, and what is left from g on, are together the list's count.
 use mathlib.Core.Path.{◌≡◌}
 use Prim.Native.Nat.{◌+◌, ◌≤◌}
 use lib.ListN.{drop}

@@ -1,11 +1,10 @@
--- `posteriors::gather_many` meets its contract. The loop's invariant: what is held leads to the first of those that pass in front of g (`gather_first`, `gather_turn`,
--- `gather_end` in Gathering.antt).
+-- `posteriors::gather_many` meets its contract: a turn is `gather_turn`, from the few on (`gather_first`), the end `gather_end` (Gathering.antt).
 use mathlib.Core.Path.{refl, ap, ◌∙◌}
 use mathlib.Core.List.{List}
 use native.Mathlib.Omega.{arith}
 use lib.ListN.{take}
 use Rattle.definition.specs.Posteriors.{Post}
-use Rattle.gmm.specs.Inner.Leading.{held, into}
+use Rattle.gmm.specs.Inner.Leading.{posts_in, into}
 use Rattle.gmm.proofs.Rooms.{held_none}
 use Rattle.gmm.proofs.Ordering.{falls_ordered}
 use Rattle.gmm.proofs.Gathering.{gather_first, gather_turn, gather_end}
@@ -27,7 +26,7 @@ loop-g-init c =
         in_order = record { behind = λ i j s t. absurd (omega arith) };
         enough = tt;
       };
-      leading = ap (λ (r : List Post). take a.num_gselect (into r (held a.few.count c.copy.new.gauss c.copy.new.likes))) (held_none a.chosen.now.gauss.now a.chosen.now.posts.now)
+      leading = ap (λ (r : List Post). take a.num_gselect (into r (posts_in a.few.count c.copy.new.gauss c.copy.new.likes))) (held_none a.chosen.now.gauss.now a.chosen.now.posts.now)
           ∙ gather_first a.num_gselect a.cutoff a.max_like a.loglikes.now a.few.next (c.copy.ensures ∙ q.met);
     }
 
@@ -42,7 +41,7 @@ make_room-holding-requires-clause-holds c =
     let g = c.candidates-more.auto.gauss in
     let k = c.candidates-more.auto.likes in
     let kept = c.keep-kept.ensures in
-    let ordered : List Post = held l.holding.ordered l.chosen.gauss.now l.chosen.posts.now in
+    let ordered : List Post = posts_in l.holding.ordered l.chosen.gauss.now l.chosen.posts.now in
     let o = falls_ordered l.holding.ordered l.chosen.gauss.now l.chosen.posts.now (omega (arith, h.few, q.places, v.same)) (omega (arith, h.few, q.places, v.same)) h.in_order in
     let step = gather_turn a.num_gselect a.cutoff a.max_like a.loglikes.now l.holding.bound ordered c.keep-kept.result c.keep-kept.new.gauss c.keep-kept.new.posts o e.places.0
     (omega (arith, e.places, g)) (omega (arith, e.places, v.long, v.long2, k)) h.candidates.0 h.candidates.1 h.enough v.leading e.collected kept.kept in
@@ -65,7 +64,7 @@ loop-g-preserved c =
     let k = c.candidates-more.auto.likes in
     let kept = c.keep-kept.ensures in
     let room = c.make_room-holding.ensures in
-    let ordered : List Post = held l.holding.ordered l.chosen.gauss.now l.chosen.posts.now in
+    let ordered : List Post = posts_in l.holding.ordered l.chosen.gauss.now l.chosen.posts.now in
     let o = falls_ordered l.holding.ordered l.chosen.gauss.now l.chosen.posts.now (omega (arith, h.few, q.places, v.same)) (omega (arith, h.few, q.places, v.same)) h.in_order in
     let step = gather_turn a.num_gselect a.cutoff a.max_like a.loglikes.now l.holding.bound ordered c.keep-kept.result c.keep-kept.new.gauss c.keep-kept.new.posts o e.places.0
     (omega (arith, e.places, g)) (omega (arith, e.places, v.long, v.long2, k)) h.candidates.0 h.candidates.1 h.enough v.leading e.collected kept.kept in

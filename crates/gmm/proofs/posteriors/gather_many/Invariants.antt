@@ -1,8 +1,8 @@
--- `posteriors::gather_many` meets its contract. The loop's invariant: what is held leads to the first of those that pass in front of g.
+-- The loop's invariant of `posteriors::gather_many`: what is held leads to the first of those that pass in front of g.
 use mathlib.Core.Path.{◌≡◌}
 use Prim.Native.Nat.{◌-◌, ◌≤◌}
 use lib.ListN.{length}
-use Rattle.gmm.specs.Inner.LeadingRooms.{SameChosen, Holds, leads}
+use Rattle.gmm.specs.Inner.LeadingRooms.{SameChosen, HoldingIn, leading_of}
 use Rattle.gmm.proofs.Gathering.{gathered}
 use Rattle.gmm.proofs.posteriors.gather_many.Given as goal
 
@@ -13,8 +13,8 @@ invariant-loop-g l = record {
   long : length l.gauss ≡ 64;
   long2 : length l.likes ≡ 64;
   same : SameChosen l.initial.chosen l.chosen;
-  holds : Holds l.num_gselect l.holding l.gauss l.likes l.chosen;
-  leading : leads l.num_gselect l.holding l.gauss l.likes l.chosen ≡ gathered l.num_gselect l.cutoff l.max_like l.loglikes l.g;
+  holds : HoldingIn l.num_gselect l.holding l.gauss l.likes l.chosen;
+  leading : leading_of l.num_gselect l.holding l.gauss l.likes l.chosen ≡ gathered l.num_gselect l.cutoff l.max_like l.loglikes l.g;
 }
 
 abbrev pub decreases-loop-g : goal.decreases-loop-g

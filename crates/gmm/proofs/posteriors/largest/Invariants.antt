@@ -1,4 +1,4 @@
--- `posteriors::largest` meets its contract. The loop's invariant: m is the largest of the first k.
+-- The loop's invariant of `posteriors::largest`: m is the largest of the first k.
 use mathlib.Core.Path.{◌≡◌}
 use Prim.Native.Nat.{◌-◌, ◌≤◌}
 use lib.ListN.{length, take}

@@ -1,4 +1,4 @@
--- `posteriors::make_likely` meets its contract. The loops' invariants: made are those in front of place i, or j (Likely.antt).
+-- The loops' invariants of `posteriors::make_likely`: made are those in front of place i, or j (Likely.antt).
 use mathlib.Core.Path.{◌≡◌}
 use Prim.Native.Nat.{◌-◌, ◌≤◌}
 use lib.ListN.{length}

@@ -1,4 +1,4 @@
--- `posteriors::next_above` meets its contract. The loops' invariants: none of those from g to k, or to i, is above the cutoff.
+-- The loops' invariants of `posteriors::next_above`: none of those from g to k, or to i, is above the cutoff.
 use mathlib.Core.Path.{◌≡◌}
 use mathlib.Core.Bool.{false}
 use Prim.Native.Nat.{ℕ, ◌-◌, ◌≤◌, ◌<◌}

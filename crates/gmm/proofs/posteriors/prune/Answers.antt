@@ -1,5 +1,5 @@
--- `posteriors::prune` meets its contract. The loop's invariant: pruning what is left gives what pruning all gives, whatever the Gaussians are (`prune_turn`,
--- `prune_keep`, `prune_end` in Pruning.antt).
+-- `posteriors::prune` meets its contract: a turn by `prune_turn`; it ends at one that is not below the cutoff (`prune_keep`), or at the last (`prune_end`, all in
+-- Pruning.antt).
 use mathlib.Core.Path.{refl, ◌∙◌}
 use native.Mathlib.Omega.{arith}
 use borrow.Author.Rules.{rules}

@@ -1,4 +1,4 @@
--- `posteriors::scale` meets its contract. The loop's invariant: a turn at each of the first places; each place is made from its old value alone.
+-- `posteriors::scale` meets its contract: each place is made from its old value alone (`iter_fill` in loops/proofs/Fill.antt).
 use mathlib.Core.Path.{◌∙◌}
 use native.Mathlib.Omega.{arith}
 use lib.Ieee.{Float, nan}

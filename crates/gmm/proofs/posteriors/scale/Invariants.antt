@@ -1,4 +1,4 @@
--- `posteriors::scale` meets its contract. The loop's invariant: a turn at each of the first places; each place is made from its old value alone.
+-- The loop's invariant of `posteriors::scale`: a turn at each of the first places.
 use mathlib.Core.Path.{◌≡◌}
 use lib.ListN.{set}
 use Rattle.loops.specs.Loop.{iter}

@@ -1,5 +1,5 @@
--- `posteriors::some_likelihoods` meets its contract. The loops' invariants: the arguments of the first i, what the exponentials of the first j are narrowed from, and
--- the likelihoods of the first k.
+-- The loops' invariants of `posteriors::some_likelihoods`: the arguments of the first i, what the exponentials of the first j are narrowed from, and the
+-- likelihoods of the first k.
 use mathlib.Core.Path.{◌≡◌}
 use Prim.Native.Nat.{ℕ, ◌+◌, ◌≤◌, ◌<◌}
 use lib.ListN.{length}

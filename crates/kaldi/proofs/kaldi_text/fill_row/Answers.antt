@@ -1,5 +1,5 @@
--- `fill_row` meets its contract. The loop's invariant: the rest of the row stands where the reader is, and the first i places hold its first i numbers. That
--- a number is there at every turn, since the text was checked, is `number_there`; a turn is `row_rest` and `number_value` (Rows.antt).
+-- `fill_row` meets its contract: a number is there at every turn, since the text was checked (`number_there`); a turn is `row_rest` and `number_value`
+-- (Rows.antt).
 use Rattle.std.proofs.Common.{◌≡◌, ℕ, List, refl, ap, ◌∙◌, arith, rules}
 use lib.Ieee.{binary64}
 use Rattle.loops.proofs.Fill.{fill_none, fill_turn, fill_end}

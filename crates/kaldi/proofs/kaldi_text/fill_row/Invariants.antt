@@ -1,5 +1,4 @@
--- `fill_row` meets its contract. The loop's invariant: the rest of the row stands where the reader is, and the first i places hold its first i numbers. That
--- a number is there at every turn, since the text was checked, is `number_there`; a turn is `row_rest` and `number_value` (Rows.antt).
+-- The loop's invariant of `fill_row`: the rest of the row stands where the reader is, and the first i places hold its first i numbers.
 use mathlib.Core.Path.{◌≡◌}
 use Prim.Native.Nat.{◌-◌}
 use lib.ListN.{length, drop}

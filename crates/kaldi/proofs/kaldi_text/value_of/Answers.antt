@@ -1,5 +1,4 @@
--- `value_of` meets its contract. The loop's invariant: the number so far with the digits that are left is, below the cap, the whole number. A turn is `decimal_next`
--- and `decimal_cap`, the end `decimal_end` (Decimals.antt).
+-- `value_of` meets its contract: a turn is `decimal_next` and `decimal_cap`, the end `decimal_end` (Decimals.antt).
 use Rattle.std.proofs.Common.{◌≡◌, ℕ, ◌+◌, ◌*◌, ◌-◌, min, ap, sym, ◌∙◌, arith, drop, get_or}
 use Rattle.definition.specs.Text.{digits_value}
 use Rattle.kaldi.proofs.Decimals.{decimal_next, decimal_cap, decimal_end}

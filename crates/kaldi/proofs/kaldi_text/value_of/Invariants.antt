@@ -1,5 +1,4 @@
--- `value_of` meets its contract. The loop's invariant: the number so far with the digits that are left is, below the cap, the whole number. A turn is `decimal_next`
--- and `decimal_cap`, the end `decimal_end` (Decimals.antt).
+-- The loop's invariant of `value_of`: the number so far with the digits that are left is, below the cap, the whole number.
 use Prim.Native.Nat.{◌≤◌, min}
 use lib.ListN.{drop}
 use mathlib.Core.Path.{◌≡◌}

@@ -1,5 +1,5 @@
--- `below_64_bits` meets its contract. The loop's invariant: the digits that are left, behind x, make the number of them all. Where x with the next digit is 2^64 or
--- more, so is that number (`digits_over` in Values.antt).
+-- `below_64_bits` meets its contract: a turn is `digits_turn`; where x with the next digit is 2^64 or more, so is the whole number (`digits_over`, both in
+-- SettingValues.antt).
 use Rattle.std.proofs.Common.{◌≡◌, ℕ, ◌+◌, ◌*◌, ◌-◌, get_or, None, drop, ap, sym, refl, ◌∙◌, arith, rules}
 use Rattle.definition.specs.Text.{digits_value}
 use Rattle.kaldi.specs.Inner.Settings.{below64}

@@ -1,5 +1,4 @@
--- `below_64_bits` meets its contract. The loop's invariant: the digits that are left, behind x, make the number of them all. Where x with the next digit is 2^64 or
--- more, so is that number (`digits_over` in Values.antt).
+-- The loop's invariant of `below_64_bits`: the digits that are left, behind x, make the number of them all.
 use mathlib.Core.Path.{◌≡◌}
 use Prim.Native.Nat.{◌^◌, ◌<◌}
 use lib.ListN.{drop}

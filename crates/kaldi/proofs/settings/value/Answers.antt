@@ -1,4 +1,4 @@
--- `value` meets its contract. The loop's invariant: the first line with the key is among those from `at` on.
+-- `value` meets its contract: a line with the key is found (`found_here`) or passed (`not_here`); past the end there is none (`value_none`, all in Lines.antt).
 use Rattle.std.proofs.Common.{◌≡◌, sym, ap, ◌∙◌, arith, rules, true, false, take, drop, length}
 use Rattle.definition.specs.Reader.{run, same}
 use Rattle.kaldi.specs.Settings as S

@@ -1,4 +1,4 @@
--- `value` meets its contract. The loop's invariant: the first line with the key is among those from `at` on.
+-- The loop's invariant of `value`: the first line with the key is among those from `at` on.
 use mathlib.Core.Path.{◌≡◌}
 use Prim.Native.Nat.{◌+◌, ◌-◌}
 use lib.ListN.{length}

@@ -4,7 +4,7 @@ use Rattle.std.proofs.Common.{◌≡◌, true, [], ap, sym, ◌∙◌, arith, ru
 use Rattle.definition.specs.Number.{number_of}
 use Rattle.definition.specs.Options.{options_in_range}
 use Rattle.definition.specs.Reader.{need, refused}
-use Rattle.kaldi.specs.Inner.KaldiIoGot.{got}
+use Rattle.kaldi.specs.Inner.KaldiIoGot.{parsed}
 use Rattle.kaldi.proofs.TextRuns.{passed}
 use Rattle.model.specs.Load.{files_of}
 use Rattle.model.specs.Inner.IvectorInfo.{judged_in}
@@ -28,7 +28,7 @@ returns-in_err-need_agreeing-clause-value c =
     let f = files_of a.gmm.now a.extractor.now a.lda.now a.cmvn.now in
     let read = c.in_ok-files.ensures.value in
     let agree = ap (λ b. need b 5 [] 0) (agree_same c.in_ok-files.ensures.stands c.dims-dims.ensures a.opts) in
-    let none : got (judged_in a.opts a.cmvn.now a.z) c.from_residual-in_err-need_agreeing.result 0 ≡ refused (number_of c.in_err-need_agreeing.field-0.0) = search rules in
+    let none : parsed (judged_in a.opts a.cmvn.now a.z) c.from_residual-in_err-need_agreeing.result 0 ≡ refused (number_of c.in_err-need_agreeing.field-0.0) = search rules in
     none ∙ apart a.opts a.z a.scratch f (options (goal.at.returns-in_err-need_agreeing-clause-value c).In_ok-need) read (c.in_err-need_agreeing.ensures [] 0 ∙ agree)
 
 pub returns-in_err-need_room-clause-value : goal.returns-in_err-need_room-clause-value
@@ -38,7 +38,7 @@ returns-in_err-need_room-clause-value c =
     let read = c.in_ok-files.ensures.value in
     let agree = ap (λ b. need b 5 [] 0) (agree_same c.in_ok-files.ensures.stands c.dims-dims.ensures a.opts) in
     let room = ap (λ b. need b 8 [] 0) (room_same c.in_ok-files.ensures.stands c.dims-dims.ensures a.opts a.z a.scratch) in
-    let none : got (judged_in a.opts a.cmvn.now a.z) c.from_residual-in_err-need_room.result 0 ≡ refused (number_of c.in_err-need_room.field-0.0) = search rules in
+    let none : parsed (judged_in a.opts a.cmvn.now a.z) c.from_residual-in_err-need_room.result 0 ≡ refused (number_of c.in_err-need_room.field-0.0) = search rules in
     none ∙ short a.opts a.z a.scratch f (options (goal.at.returns-in_err-need_room-clause-value c).In_ok-need) read (c.in_ok-need_agreeing.ensures [] 0 ∙ agree) (c.in_err-need_room.ensures [] 0 ∙ room)
 
 pub returns-clause-value : goal.returns-clause-value

@@ -1,4 +1,5 @@
--- `check_list` meets its contract: whether all from an item on are kept is whether all are, until one is not (laws over both widths in Order.antt).
+-- `check_list` meets its contract: an item that is not kept ends it (`list_bad`), else a turn is `list_turn`, the end `list_end` (laws over both widths in
+-- Order.antt).
 use borrow.Author.Rules.{rules}
 use mathlib.Core.Path.{sym, ap, ◌∙◌}
 use lib.Ieee.{binary32}

@@ -1,4 +1,4 @@
--- `check_list` meets its contract: whether all from an item on are kept is whether all are, until one is not (laws over both widths in Order.antt).
+-- The loop's invariant of `check_list`: whether all from an item on are kept is whether all are.
 use lib.Ieee.{binary32}
 use Rattle.writer.proofs.Order.{SoFar}
 use Rattle.writer.proofs.model_checks.check_list.Given as goal

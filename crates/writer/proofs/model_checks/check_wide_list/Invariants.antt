@@ -1,4 +1,4 @@
--- `check_wide_list` meets its contract, as `check_list` does.
+-- The loop's invariant of `check_wide_list`: as of `check_list`, whether all from an item on are kept is whether all are.
 use mathlib.Core.Bool.{false}
 use lib.Ieee.{binary64}
 use Rattle.writer.proofs.Order.{SoFar}

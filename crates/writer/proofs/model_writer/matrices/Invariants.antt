@@ -1,4 +1,4 @@
--- `matrices` meets its contract: the first i blocks are written.
+-- The loop's invariant of `matrices`: the first i blocks are written.
 use mathlib.Core.Path.{◌≡◌}
 use mathlib.Core.List.{map}
 use Prim.Native.Nat.{◌*◌}

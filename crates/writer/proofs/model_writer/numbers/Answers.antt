@@ -1,4 +1,4 @@
--- `numbers` meets its contract: the numbers before an item are written (`Numbered` in Bytes.antt).
+-- `numbers` meets its contract: a turn is `number_turn`, the end `number_end` (Bytes.antt).
 use Rattle.writer.proofs.Chain.{wrote_none}
 use Rattle.writer.specs.Written.{numbers_bytes}
 use Rattle.writer.proofs.Bytes.{number_room, number_turn, number_end}

@@ -1,4 +1,4 @@
--- `numbers` meets its contract: the numbers before an item are written (`Numbered` in Bytes.antt).
+-- The loop's invariant of `numbers`: the numbers before an item are written (`Numbered` in Bytes.antt).
 use Rattle.writer.proofs.Bytes.{Numbered}
 use Rattle.writer.proofs.model_writer.numbers.Given as goal
 

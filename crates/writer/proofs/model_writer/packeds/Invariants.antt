@@ -1,4 +1,4 @@
--- `packeds` meets its contract: the first i blocks are written.
+-- The loop's invariant of `packeds`: the first i blocks are written.
 use mathlib.Core.Path.{◌≡◌}
 use mathlib.Core.List.{map}
 use Rattle.loops.specs.Lists.{flat}

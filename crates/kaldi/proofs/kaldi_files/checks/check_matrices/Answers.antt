@@ -6,7 +6,7 @@ use Rattle.definition.specs.Options.{max_feat, max_ivector}
 use Rattle.definition.specs.Kaldi.{matrix}
 use Rattle.definition.specs.Number.{number_of}
 use Rattle.definition.specs.Reader.{refused}
-use Rattle.kaldi.specs.Inner.KaldiIoGot.{got, itself}
+use Rattle.kaldi.specs.Inner.KaldiIoGot.{parsed, as_read}
 use Rattle.kaldi.specs.Inner.KaldiFilesAnswers.{sized_as}
 use Rattle.kaldi.proofs.FileRuns.{tally_start, tally_stop, tally_turn, tally_end}
 use Rattle.kaldi.proofs.kaldi_files.checks.check_matrices.Goals as goal
@@ -19,7 +19,7 @@ returns-in_err-m-clause-value c =
     let a = c.args in
     let loop = c.loop in
     let here = ap (λ b. matrix binary64 false max_feat max_ivector b.now loop.r.at) (sym loop.invariant.same_source) in
-    let none : got itself c.from_residual.result c.matrix.new.self.at ≡ refused (number_of c.in_err-m.field-0.0) = search rules in
+    let none : parsed as_read c.from_residual.result c.matrix.new.self.at ≡ refused (number_of c.in_err-m.field-0.0) = search rules in
     none ∙ tally_stop (sized_as a.rows a.cols) (matrix binary64 false max_feat max_ivector) a.r.now.src.now a.r.now.at a.count loop.alike loop.r.at loop.counter loop.invariant.so_far (omega arith) (here ∙ sym c.in_err-m.ensures.value)
 
 pub loop-preserved : goal.loop-preserved

@@ -1,4 +1,4 @@
--- Invariant: after i items the text left is `behind_items` of i, and the room `items_read` of i. One item more is a turn of both (Lists.antt).
+-- `Words::fill` meets its contract: one item more is a turn of both (Lists.antt).
 use Rattle.std.proofs.Common.{ap, ◌∙◌}
 use Rattle.loops.proofs.Loop.{iter_step}
 use Rattle.script.specs.Words.{items_read, behind_items}

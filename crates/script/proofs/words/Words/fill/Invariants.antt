@@ -1,4 +1,4 @@
--- Invariant: after i items the text left is `behind_items` of i, and the room `items_read` of i. One item more is a turn of both (Lists.antt).
+-- The loop's invariant of `Words::fill`: after i items the text left is `behind_items` of i, and the room `items_read` of i.
 use Rattle.std.proofs.Common.{◌≡◌}
 use Rattle.script.specs.Words.{items_read, behind_items}
 use Rattle.script.proofs.words.Words.fill.Given as goal

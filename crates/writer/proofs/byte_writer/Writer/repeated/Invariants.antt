@@ -1,4 +1,4 @@
--- `Writer::repeated` meets its contract: as many are written as there were turns.
+-- The loop's invariant of `Writer::repeated`: as many are written as there were turns.
 use Rattle.loops.specs.Lists.{flat}
 use Rattle.writer.specs.Wrote.{Wrote}
 use Rattle.writer.proofs.byte_writer.Writer.repeated.Given as goal

@@ -1,5 +1,4 @@
--- `row` meets its contract. The loop's invariant is `Outlined`: the outline of the whole row is that of the rest from here on, with the numbers
--- counted so far and the last of them. A turn and each way out are the `outline-..` laws of Rows.antt.
+-- `row` meets its contract: a turn and each way out are the `outline-..` and `outline_..` laws of Rows.antt.
 use Rattle.std.proofs.Common.{◌≡◌, ℕ, List, true, false, ◌||◌, ap, sym, ◌∙◌, arith, rules}
 use lib.Ieee.{binary64}
 use Rattle.loops.specs.Refusal.{first_of}

@@ -1,5 +1,5 @@
--- `row` meets its contract. The loop's invariant is `Outlined`: the outline of the whole row is that of the rest from here on, with the numbers
--- counted so far and the last of them. A turn and each way out are the `outline-..` laws of Rows.antt.
+-- The loop's invariant of `row`, `Outlined`: the outline of the whole row is that of the rest from here on, with the numbers counted so far and the last of
+-- them.
 use mathlib.Core.Path.{◌≡◌}
 use Rattle.kaldi.proofs.Rows.{Outlined}
 use Rattle.kaldi.proofs.kaldi_text.types.TextReader.row.Given as goal
