@@ -1,4 +1,4 @@
--- Frames held and the room for a push: what a finish on a copy of the record tells of them; and that every proper frame is taken where one of zeros is.
+-- Frames held and the room for a push, by the tests of the record and the counts of what is held; and that every proper frame is taken where one of zeros is.
 use mathlib.Core.Path.{◌≡◌, refl, sym, ap, ap₂, ◌∙◌}
 use mathlib.Core.Bool.{Bool, true, false, not, ◌||◌}
 use mathlib.Core.List.{List, [], ◌∷◌, ◌++◌}
@@ -16,10 +16,9 @@ use Rattle.loops.proofs.Refusal.{taken_new, taken_old}
 use Rattle.floats.specs.Operators.{zero₃₂}
 use Rattle.definition.specs.declared.IvectorStream.{IvectorStream}
 use Rattle.definition.specs.declared.StreamAnswer.{StreamAnswer}
-use Rattle.definition.specs.declared.StreamCall.{StreamCall}
-use Rattle.definition.specs.Machine.{push_tests}
+use Rattle.definition.specs.Machine.{frames_held, rows_held, push_tests}
 use Rattle.program.specs.Rooms.{Rings}
-use Rattle.program.specs.Calls.{answer_of, RingCall, ring_call, done_on, with_finished, record_tests, push_frame, set_input_finished}
+use Rattle.program.specs.Calls.{answer_of, record_tests, push_frame}
 use Rattle.stream.proofs.Records.{Passed, plain_passed}
 use Rattle.stream.proofs.Refusals.{push_tests_is, push_already, push_first, push-none}
 use Rattle.board.specs.Board.{held_count, room_for_push, Proper}
@@ -82,64 +81,36 @@ module _ (s : IvectorStream) (z : Rings) where
   unfolding room_for_push
   taken_room x h e = eq-eqb _ _ (same_push zeros x zeros_proper h ∙ e)
 
-  -- ---- what a finish answers
+  -- ---- by the tests of the code, whose number r is that of a record that is lent these rings
 
-  pub record Judged (a : StreamAnswer) : Type 0 where
-    pub refusal_is : a.refusal ≡ first_of (record_tests s z)
-    pub answer_is : a.refusal ≡ 0 → a ≡ answer_of 0 s 0 0
-
-  -- a finish changes none of the numbers that an answer tells
-  zero_answer : (r : ℕ) → r ≡ 0 → answer_of r (taken r (with_finished s) s) 0 0 ≡ answer_of 0 s 0 0
-  unfolding answer_of
-  zero_answer r k = ap (λ (r : ℕ). answer_of r (taken r (with_finished s) s) 0 0) k
-
-  pub judged : {c : StreamCall} → ring_call c z ≡ done_on s z (set_input_finished s z) → Judged c.answer
-  unfolding set_input_finished
-  judged {c} h =
-      let r = first_of (record_tests s z) in
-      let e = ap (λ (q : RingCall). q.call.answer.refusal) h ∙ told-number r (taken r (with_finished s) s) 0 0 in
-      record {
-        refusal_is = e;
-        answer_is = λ k. ap (λ (q : RingCall). q.call.answer) h ∙ zero_answer r (sym e ∙ k);
-      }
-
-  -- ---- by the tests of the code
-
-  module _ {a : StreamAnswer} (j : Judged a) where
-    pub held_none : (a.refusal ≡ 0 → ⊥) → 0 ≡ held_count s z
+  module _ {r : ℕ} (j : r ≡ first_of (record_tests s z)) where
+    pub held_none : (r ≡ 0 → ⊥) → 0 ≡ held_count s z
     unfolding held_count
-    held_none h = sym (taken_old (first_of (record_tests s z)) _ 0 (λ k. h (j.refusal_is ∙ k)))
+    held_none h = sym (taken_old (first_of (record_tests s z)) _ 0 (λ k. h (j ∙ k)))
 
-    pub held_is : a.refusal ≡ 0 → a.frames_held ≡ held_count s z
-    unfolding held_count answer_of
-    held_is h = ap (λ (a : StreamAnswer). a.frames_held) (j.answer_is h) ∙ sym (taken_new (first_of (record_tests s z)) _ 0 (sym j.refusal_is ∙ h))
+    pub held_is : r ≡ 0 → frames_held s.accepted s.mark ≡ held_count s z
+    unfolding held_count
+    held_is h = sym (taken_new (first_of (record_tests s z)) _ 0 (sym j ∙ h))
 
-    pub known : a.refusal ≡ 0 → Passed s z
-    known h = plain_passed s z j.refusal_is h
+    pub known : r ≡ 0 → Passed s z
+    known h = plain_passed s z j h
 
     no_room : {r : ℕ} → r ≡ (push_frame s z zeros).refusal → (r ≡ 0 → ⊥) → false ≡ room_for_push s z
     unfolding room_for_push
     no_room e h = sym (ne_eqb _ _ (λ k. h (e ∙ k)))
 
-    pub under_ten : (a.refusal ≡ 0 → ⊥) → false ≡ room_for_push s z
-    under_ten h = no_room (push_already s z zeros j.refusal_is h) h
+    pub under_ten : (r ≡ 0 → ⊥) → false ≡ room_for_push s z
+    under_ten h = no_room (push_already s z zeros j h) h
 
-    module _ (h : a.refusal ≡ 0) where
+    module _ (h : r ≡ 0) where
       abbrev tests : List (Bool × ℕ)
       tests = push_tests_is s z zeros
 
-      pub full_count : s.accepted ≡ 1000000000 → false ≡ room_for_push s z
-      unfolding push_tests
-      full_count e =
-          let p = proper_tests zeros zeros_proper in
-          no_room (push_first s z zeros j.refusal_is h 2 (p.0, (p.1, eq-eqb _ _ e))) (λ k. omega arith)
+      abbrev frames : ℕ
+      frames = frames_held s.accepted s.mark
 
-      -- the counts that an answer tells are those that the tests of a push ask for
-      frames_are : a.frames_held ≡ (answer_of 0 s 0 0).frames_held
-      frames_are = ap (λ (a : StreamAnswer). a.frames_held) (j.answer_is h)
-
-      rows_are : a.rows_held ≡ (answer_of 0 s 0 0).rows_held
-      rows_are = ap (λ (a : StreamAnswer). a.rows_held) (j.answer_is h)
+      abbrev rows : ℕ
+      rows = rows_held s.longest s.accepted s.mark
 
       abbrev frame_rows : ℕ
       frame_rows = s.lengths.rings.frames / s.info.dims.base_dim
@@ -147,32 +118,38 @@ module _ (s : IvectorStream) (z : Rings) where
       abbrev prefix_rows : ℕ
       prefix_rows = s.lengths.rings.rows / s.info.dims.base_dim
 
-      pub full_frames : (s.accepted ≡ 1000000000 → ⊥) → a.frames_held ≡ frame_rows → false ≡ room_for_push s z
-      unfolding push_tests answer_of
+      pub full_count : s.accepted ≡ 1000000000 → false ≡ room_for_push s z
+      unfolding push_tests
+      full_count e =
+          let p = proper_tests zeros zeros_proper in
+          no_room (push_first s z zeros j h 2 (p.0, (p.1, eq-eqb _ _ e))) (λ k. omega arith)
+
+      pub full_frames : (s.accepted ≡ 1000000000 → ⊥) → frames ≡ frame_rows → false ≡ room_for_push s z
+      unfolding push_tests
       full_frames f e =
           let p = proper_tests zeros zeros_proper in
-          no_room (push_first s z zeros j.refusal_is h 3 (p.0, (p.1, (ne_eqb _ _ f, eq-eqb _ _ (sym frames_are ∙ e))))) (λ k. omega arith)
+          no_room (push_first s z zeros j h 3 (p.0, (p.1, (ne_eqb _ _ f, eq-eqb _ _ e)))) (λ k. omega arith)
 
-      pub full_rows : (s.accepted ≡ 1000000000 → ⊥) → (a.frames_held ≡ frame_rows → ⊥) → a.rows_held ≡ prefix_rows → false ≡ room_for_push s z
-      unfolding push_tests answer_of
+      pub full_rows : (s.accepted ≡ 1000000000 → ⊥) → (frames ≡ frame_rows → ⊥) → rows ≡ prefix_rows → false ≡ room_for_push s z
+      unfolding push_tests
       full_rows f g e =
           let p = proper_tests zeros zeros_proper in
-          no_room (push_first s z zeros j.refusal_is h 4 (p.0, (p.1, (ne_eqb _ _ f, (ne_eqb _ _ (λ k. g (frames_are ∙ k)), eq-eqb _ _ (sym rows_are ∙ e)))))) (λ k. omega arith)
+          no_room (push_first s z zeros j h 4 (p.0, (p.1, (ne_eqb _ _ f, (ne_eqb _ _ g, eq-eqb _ _ e))))) (λ k. omega arith)
 
-      pub room_left : (s.accepted ≡ 1000000000 → ⊥) → (a.frames_held ≡ frame_rows → ⊥) → (a.rows_held ≡ prefix_rows → ⊥) → true ≡ room_for_push s z
-      unfolding room_for_push push_tests answer_of
+      pub room_left : (s.accepted ≡ 1000000000 → ⊥) → (frames ≡ frame_rows → ⊥) → (rows ≡ prefix_rows → ⊥) → true ≡ room_for_push s z
+      unfolding room_for_push push_tests
       room_left f g e =
           let p = proper_tests zeros zeros_proper in
-          sym (eq-eqb _ _ (sym (push-none s z zeros j.refusal_is h (p.0, (p.1, (ne_eqb _ _ f, (ne_eqb _ _ (λ k. g (frames_are ∙ k)), (ne_eqb _ _ (λ k. e (rows_are ∙ k)), tt))))))))
+          sym (eq-eqb _ _ (sym (push-none s z zeros j h (p.0, (p.1, (ne_eqb _ _ f, (ne_eqb _ _ g, (ne_eqb _ _ e, tt))))))))
 
       -- by the three tests together
       abbrev full : Bool
-      full = eqb s.accepted 1000000000 || (eqb a.frames_held frame_rows || eqb a.rows_held prefix_rows)
+      full = eqb s.accepted 1000000000 || (eqb frames frame_rows || eqb rows prefix_rows)
 
       pub room_is : not full ≡ room_for_push s z
-      room_is = by (eqb s.accepted 1000000000) (eqb a.frames_held frame_rows) (eqb a.rows_held prefix_rows) refl refl refl
+      room_is = by (eqb s.accepted 1000000000) (eqb frames frame_rows) (eqb rows prefix_rows) refl refl refl
         where
-          by : (p q r : Bool) → eqb s.accepted 1000000000 ≡ p → eqb a.frames_held frame_rows ≡ q → eqb a.rows_held prefix_rows ≡ r
+          by : (p q r : Bool) → eqb s.accepted 1000000000 ≡ p → eqb frames frame_rows ≡ q → eqb rows prefix_rows ≡ r
               → not (p || (q || r)) ≡ room_for_push s z
           by true q r d e f = full_count (eqb-true _ _ d)
           by false true r d e f = full_frames (eqb-false _ _ d) (eqb-true _ _ e)

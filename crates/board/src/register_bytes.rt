@@ -2,12 +2,12 @@
 //! step rewrites it. specs/Board.antt says what each byte is.
 
 ghost use Rattle.std.specs.Prelude.{◌≡◌, ◌&&◌, ◌||◌, ◌/◌, ◌<◌, nat_eq, length};
-ghost use Rattle.program.specs.Lent.{rings_in};
+ghost use Rattle.stream.specs.Stream.{record_of, rings_of};
 ghost use Rattle.board.specs.Board.{frame_number, bit, odd, interrupt_of, held_count, room_for_push, rewritten, call_flags};
 ghost use Rattle.board.specs.Inner.RegisterBytes.{command_at};
 
-use definition::{IvectorStream, LentFrames, LentWaiting, StreamAnswer};
-use stream::ivector_stream;
+use definition::IvectorStream;
+use stream::Stream;
 
 // ---- what a block asks for
 
@@ -93,76 +93,57 @@ fn rewrite(block: &mut [u8], low: u8, number: u8, held: usize, room: bool)
 
 // ---- what a stream tells
 
-// Whether every push is refused for want of numbers or room; `a` is the answer of a finish.
-fn is_full(s: &IvectorStream, a: StreamAnswer) -> bool
+// Whether every push is refused for want of numbers or room, by the frames and the rows that are
+// held.
+fn is_full(s: &IvectorStream, frames_held: usize, rows_held: usize) -> bool
     requires some_base { 0 < s.now.info.dims.base_dim }
     ensures { (
         let own = s.now.lengths.rings in
         let dim = s.now.info.dims.base_dim in
-        result ≡ (nat_eq s.now.accepted 1000000000 || (nat_eq a.frames_held (own.frames / dim) || nat_eq a.rows_held (own.rows / dim)))) }
+        result ≡ (nat_eq s.now.accepted 1000000000 || (nat_eq frames_held (own.frames / dim) || nat_eq rows_held (own.rows / dim)))) }
 {
     let own = s.lengths.rings;
     let dim = s.info.dims.base_dim;
-    s.accepted == 1000000000 || a.frames_held == own.frames / dim || a.rows_held == own.rows / dim
+    s.accepted == 1000000000 || frames_held == own.frames / dim || rows_held == own.rows / dim
 }
 
-// How many frames are held, and whether there is room for a push. A finish on a copy of the record
-// tells both; nothing is finished.
-fn push_room(s: &IvectorStream, frames: LentFrames<'_>, waiting: LentWaiting<'_>) -> (usize, bool)
-    ensures held { result.0 ≡ held_count s.now (rings_in frames.entry waiting.entry) }
-    ensures room { result.1 ≡ room_for_push s.now (rings_in frames.entry waiting.entry) }
+// How many frames are held, and whether there is room for a push.
+fn push_room(stream: &Stream<'_>) -> (usize, bool)
+    ensures held { result.0 ≡ held_count (record_of stream.now) (rings_of stream.now) }
+    ensures room { result.1 ≡ room_for_push (record_of stream.now) (rings_of stream.now) }
 {
-    let a = ivector_stream::set_input_finished(*s, frames, waiting).answer;
-    if a.refusal != 0 {
-        return (0, false);
+    match stream.plain_refusal() {
+        Err(_) => (0, false),
+        Ok(()) => {
+            let s = &*stream.record;
+            let frames_held = limits::frames_held(s.accepted, s.mark);
+            let rows_held = limits::rows_held(s.longest, s.accepted, s.mark);
+            (frames_held, !is_full(s, frames_held, rows_held))
+        }
     }
-    (a.frames_held, !is_full(s, a))
 }
 
 // ---- the block after a step
 
 /// Rewrites the block by the stream as it stands. `low` is bits 0 and 1 of the flags, `number` byte
 /// 12.
-pub fn settle(
-    s: &IvectorStream,
-    low: u8,
-    number: u8,
-    block: &mut [u8],
-    frames: LentFrames<'_>,
-    waiting: LentWaiting<'_>,
-)
+pub fn settle(stream: &Stream<'_>, low: u8, number: u8, block: &mut [u8])
     requires long { length block.old ≡ 16 }
     requires low_bits { low < 4 }
-    ensures { (
-        let z = rings_in frames.entry waiting.entry in
-        block.new ≡ rewritten block.old low number (held_count s.now z) (room_for_push s.now z)) }
+    ensures { block.new ≡ rewritten block.old low number
+        (held_count (record_of stream.now) (rings_of stream.now)) (room_for_push (record_of stream.now) (rings_of stream.now)) }
 {
-    let (held, room) = push_room(s, frames, waiting);
+    let (held, room) = push_room(stream);
     rewrite(block, low, number, held, room);
 }
 
-/// Rewrites the block after a command that left the record `s` and was answered `refusal`. `fetch`
-/// is bit 0 of a command that is taken.
-pub fn told(
-    fetch: bool,
-    refusal: usize,
-    s: &IvectorStream,
-    block: &mut [u8],
-    frames: LentFrames<'_>,
-    waiting: LentWaiting<'_>,
-)
+/// Rewrites the block after a command that was answered `refusal`. `fetch` is bit 0 of a command
+/// that is taken.
+pub fn told(stream: &Stream<'_>, fetch: bool, refusal: usize, block: &mut [u8])
     requires long { length block.old ≡ 16 }
     requires byte { refusal < 256 }
-    ensures { (
-        let z = rings_in frames.entry waiting.entry in
-        block.new ≡ rewritten block.old (call_flags fetch refusal) refusal (held_count s.now z) (room_for_push s.now z)) }
+    ensures { block.new ≡ rewritten block.old (call_flags fetch refusal) refusal
+        (held_count (record_of stream.now) (rings_of stream.now)) (room_for_push (record_of stream.now) (rings_of stream.now)) }
 {
-    settle(
-        s,
-        call_flags(fetch, refusal),
-        refusal as u8,
-        block,
-        frames,
-        waiting,
-    );
+    settle(stream, call_flags(fetch, refusal), refusal as u8, block);
 }

@@ -1,35 +1,39 @@
--- `register_bytes::push_room` meets its contract: what a finish on the record answers is judged as a push of a frame of zeros is (Room.antt).
+-- `push_room` meets its contract: the tests of the record, and the counts of what is held, are those of a push of a frame of zeros (Room.antt).
 use native.Mathlib.Omega.{arith}
-use mathlib.Core.Path.{ap, ◌∙◌}
+use mathlib.Core.Path.{sym, ap, ◌∙◌}
 use mathlib.Core.Bool.{not}
-use Rattle.program.specs.Rooms.{Rings}
-use Rattle.program.specs.Lent.{rings_in}
-use Rattle.board.proofs.Room.{Judged, judged, held_none, held_is, known, under_ten, room_is}
-use Rattle.board.proofs.register_bytes.push_room.Goals.{After-set_input_finished}
+use Rattle.definition.specs.Number.{refused_by}
+use Rattle.stream.specs.Stream.{record_of, rings_of}
+use Rattle.stream.proofs.Records.{few, some_number}
+use Rattle.board.proofs.Room.{held_none, held_is, known, under_ten, room_is}
 use Rattle.board.proofs.register_bytes.push_room.Goals as goal
 
-abbrev lent : After-set_input_finished → Rings
-lent c = rings_in c.args.frames c.args.waiting
+pub returns-in-Err-clause-held : goal.returns-in-Err-clause-held
+returns-in-Err-clause-held c =
+    held_none (record_of c.args.stream.now) (rings_of c.args.stream.now) (sym (ap refused_by c.in-Err.is) ∙ c.plain_refusal.ensures) (some_number _)
 
--- what is known of its answer
-told : (c : After-set_input_finished) → Judged c.args.s.now (lent c) c.set_input_finished.result.answer
-told c = judged c.args.s.now (lent c) c.set_input_finished.ensures
+pub returns-in-Err-clause-room : goal.returns-in-Err-clause-room
+returns-in-Err-clause-room c =
+    under_ten (record_of c.args.stream.now) (rings_of c.args.stream.now) (sym (ap refused_by c.in-Err.is) ∙ c.plain_refusal.ensures) (some_number _)
 
--- ---- the answers
-
-pub returns-then-a-ne0-clause-held : goal.returns-then-a-ne0-clause-held
-returns-then-a-ne0-clause-held c = let k = (goal.at.returns-then-a-ne0-clause-held c).After-set_input_finished in held_none c.args.s.now (lent k) (told k) c.if-a-ne0.true
-
-pub returns-then-a-ne0-clause-room : goal.returns-then-a-ne0-clause-room
-returns-then-a-ne0-clause-room c = let k = (goal.at.returns-then-a-ne0-clause-room c).After-set_input_finished in under_ten c.args.s.now (lent k) (told k) c.if-a-ne0.true
+pub rows_held-rows_held-requires : goal.rows_held-rows_held-requires
+rows_held-rows_held-requires c =
+    let s = record_of c.args.stream.now in
+    let z = rings_of c.args.stream.now in
+    let f = few s z (known s z c.plain_refusal.ensures (ap refused_by c.in-Ok.is)) in
+    (f.0, f.1)
 
 pub is_full-requires : goal.is_full-requires
 is_full-requires c =
-    let k = (goal.at.is_full-requires c).After-set_input_finished in omega (arith, (known c.args.s.now (lent k) (told k) c.if-a-ne0.false).dims_are.some_base)
+    let s = record_of c.args.stream.now in
+    let z = rings_of c.args.stream.now in
+    omega (arith, (known s z c.plain_refusal.ensures (ap refused_by c.in-Ok.is)).dims_are.some_base)
 
-pub returns-clause-held : goal.returns-clause-held
-returns-clause-held c = let k = (goal.at.returns-clause-held c).After-set_input_finished in held_is c.args.s.now (lent k) (told k) c.if-a-ne0.false
+pub returns-in-Ok-clause-held : goal.returns-in-Ok-clause-held
+returns-in-Ok-clause-held c =
+    c.frames_held-frames_held.ensures ∙ held_is (record_of c.args.stream.now) (rings_of c.args.stream.now) c.plain_refusal.ensures (ap refused_by c.in-Ok.is)
 
-pub returns-clause-room : goal.returns-clause-room
-returns-clause-room c =
-    let k = (goal.at.returns-clause-room c).After-set_input_finished in ap not c.is_full.ensures ∙ room_is c.args.s.now (lent k) (told k) c.if-a-ne0.false
+pub returns-in-Ok-clause-room : goal.returns-in-Ok-clause-room
+returns-in-Ok-clause-room c =
+    ap not (rw (c.frames_held-frames_held.ensures, c.rows_held-rows_held.ensures) at c.is_full.ensures)
+    ∙ room_is (record_of c.args.stream.now) (rings_of c.args.stream.now) c.plain_refusal.ensures (ap refused_by c.in-Ok.is)

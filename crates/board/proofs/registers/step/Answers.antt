@@ -1,28 +1,28 @@
--- `registers::step` meets its contract: a block of another length is left, a fetch is `get_frame` and what `told` writes of it, any other command is
--- `ring_step` (`register_bytes`, Commands.antt).
-use mathlib.Core.Path.{refl, sym, ◌∙◌}
+-- `step` meets its contract: a block of another length is left, a fetch is `fetch` and what `told` writes of it, any other command is `ring_step` (Commands.antt).
+use mathlib.Core.Path.{◌≡◌, sym, ap, ◌∙◌}
+use mathlib.Core.Bool.{true}
+use mathlib.Core.List.{List}
+use Prim.Native.Nat.{ℕ}
 use lib.ListN.{length}
-use Rattle.definition.specs.Model.{Tables}
+use Rattle.definition.specs.declared.IvectorStream.{IvectorStream}
 use Rattle.definition.specs.Lent.{tables_in}
-use Rattle.program.specs.Rooms.{Rooms}
-use Rattle.program.specs.Lent.{estimate_of, rooms_of}
+use Rattle.program.specs.Rooms.{Rings, EstimateRooms, rooms_from}
+use Rattle.program.specs.Calls.{call_of}
 use Rattle.program.specs.Session.{program}
-use Rattle.board.specs.Board.{Board, board}
-use Rattle.board.proofs.Commands.{block-long, block-whole, fetch_byte, fetch_done, scratch_kept_is, step-whole, step_refused}
+use Rattle.stream.specs.Stream.{record_of, rings_of, rooms_of, estimate_of, program_of}
+use Rattle.board.specs.Board.{Board, board, call_flags, held_count, room_for_push, rewritten}
+use Rattle.board.proofs.Room.{told-number}
+use Rattle.board.proofs.Commands.{Settled, block-long, block-whole, fetch_done, scratch_kept_is, step-whole, step_refused}
 use Rattle.board.proofs.registers.step.Goals.{Start}
 use Rattle.board.proofs.registers.step.Goals as goal
 
--- what is lent, at the start
-abbrev tables : Start → Tables
-tables c = tables_in c.args.tables
-
-abbrev held : Start → Rooms
-held c = rooms_of c.args.held.now c.args.waiting.now c.args.estimate.now
-
 abbrev lent : Start → Board
-lent c = board (program c.args.s.now (held c)) c.args.block.now c.args.out.now
+lent c = board (program_of c.args.stream.now) c.args.block.now c.args.out.now
 
--- ---- the answers
+-- what the block tells of a fetch's number k, as its answer has it
+told_of : (b : List ℕ) (s : IvectorStream) (z : Rings) (i j : ℕ) {n k : ℕ} {b' : List ℕ} → n ≡ k → Settled b s z (call_flags true n) n b'
+    → Settled b s z (call_flags true (call_of k s i j).answer.refusal) (call_of k s i j).answer.refusal b'
+told_of b s z i j {k = k} e h = h ∙ ap (λ (n : ℕ). rewritten b (call_flags true n) n (held_count s z) (room_for_push s z)) (e ∙ sym (told-number k s i j))
 
 pub returns-then-block-ne16-clause-refusal : goal.returns-then-block-ne16-clause-refusal
 returns-then-block-ne16-clause-refusal c = block-long c.args.block.now c.if-block-ne16.true
@@ -30,52 +30,41 @@ returns-then-block-ne16-clause-refusal c = block-long c.args.block.now c.if-bloc
 pub returns-then-block-ne16-clause-board : goal.returns-then-block-ne16-clause-board
 returns-then-block-ne16-clause-board c =
     let o = (goal.at.returns-then-block-ne16-clause-board c).Start in
-    step_refused (tables o) (length c.args.scratch.now) c.args.frame.now (lent o) c.if-block-ne16.true
+    step_refused (tables_in c.args.tables) (length c.args.stream.now.scratch.now) c.args.frame.now (lent o) c.if-block-ne16.true
 
 pub returns-in-Fetch-clause-refusal : goal.returns-in-Fetch-clause-refusal
 returns-in-Fetch-clause-refusal c = block-whole c.args.block.now c.if-block-ne16.false
 
-pub told-requires-clause-byte : goal.told-requires-clause-byte
-told-requires-clause-byte c =
-    let a = c.args in
-    let o = (goal.at.told-requires-clause-byte c).Start in
-    let e = c.lent.ensures in
-    fetch_byte a.s.now (tables o) (held o) (length a.scratch.now) c.frame_number-at.result (length a.out.now) a.out.now
-    (rw (e.frames, e.rows) at c.get_frame-c.ensures.fetched)
-
 pub returns-in-Fetch-clause-board : goal.returns-in-Fetch-clause-board
 returns-in-Fetch-clause-board c =
     let a = c.args in
+    let s = a.stream.now in
     let o = (goal.at.returns-in-Fetch-clause-board c).Start in
-    let n = length a.scratch.now in
-    let e = c.lent.ensures in
-    let f = c.lent-in-Fetch.ensures in
-    let w = c.lent-in-Fetch-2.ensures in
-    fetch_done (tables o) n a.s.now (held o) a.block.now a.frame.now a.out.now (sym c.in-Fetch.is ∙ c.from.ensures) c.frame_number-at.result c.frame_number-at.ensures
-    (rw (e.frames, e.rows) at c.get_frame-c.ensures.fetched) (rw (f.frames, f.rows, w.frames, w.weights) at c.told.ensures)
-    ∙ step-whole (tables o) n a.frame.now (lent o) c.if-block-ne16.false
+    let n = length s.scratch.now in
+    fetch_done (tables_in a.tables) n (record_of s) (rooms_of s) a.block.now a.frame.now a.out.now (sym c.in-Fetch.is ∙ c.from.ensures) c.frame_number-at.result c.frame_number-at.ensures
+    c.fetch-fetched.ensures.call (told_of _ _ _ _ _ c.fetch_number.ensures c.told.ensures)
+    ∙ step-whole (tables_in a.tables) n a.frame.now (lent o) c.if-block-ne16.false
 
 pub returns-in-Fetch-clause-scratch : goal.returns-in-Fetch-clause-scratch
 returns-in-Fetch-clause-scratch c =
     let a = c.args in
-    let o = (goal.at.returns-in-Fetch-clause-scratch c).Start in
-    let e = c.lent.ensures in
-    scratch_kept_is (tables o) (length a.scratch.now) a.s.now (held o) a.block.now a.frame.now a.out.now (sym c.in-Fetch.is ∙ c.from.ensures) c.frame_number-at.result
-    c.frame_number-at.ensures (rw (e.frames, e.rows) at c.get_frame-c.ensures.scratch) c.if-block-ne16.false
+    let s = a.stream.now in
+    scratch_kept_is (tables_in a.tables) (length s.scratch.now) (record_of s) (rooms_of s) a.block.now a.frame.now a.out.now (sym c.in-Fetch.is ∙ c.from.ensures) c.frame_number-at.result
+    c.frame_number-at.ensures c.fetch-fetched.ensures.scratch c.if-block-ne16.false
 
 pub returns-in_default : goal.returns-in_default
 returns-in_default c =
     let a = c.args in
+    let s = a.stream.now in
+    let t = c.ring_step.new.stream in
     let o = (goal.at.returns-in_default c).Start in
-    let e = c.lent-in_default.ensures in
-    let done = rw (e.frames, e.weights) at c.ring_step.ensures.done in
+    let e = c.ring_step.ensures in
     record {
       refusal = block-whole a.block.now c.if-block-ne16.false;
       board =
-          done (tables o) (length a.scratch.now) (estimate_of a.estimate.now) a.out.now
-          ∙ step-whole (tables o) (length a.scratch.now) a.frame.now (lent o) c.if-block-ne16.false;
-      scratch = λ h. refl;
-      held = c.ring_step.ensures.loans;
-      waiting = (refl, refl);
-      estimate = (refl, refl, refl, refl);
+          ap (λ (e : EstimateRooms). board (program (record_of t) (rooms_from (rings_of t) e)) c.ring_step.new.block a.out.now) e.rest.estimate
+          ∙ e.done (tables_in a.tables) (length s.scratch.now) (estimate_of s) a.out.now
+          ∙ step-whole (tables_in a.tables) (length s.scratch.now) a.frame.now (lent o) c.if-block-ne16.false;
+      scratch = λ h. e.rest.scratch;
+      loans = e.rest.loans;
     }
