@@ -1,5 +1,5 @@
 -- The next word, as code finds it: std's run of blanks, and its run of other bytes behind them.
-use Rattle.std.proofs.Common.{◌≡◌, ℕ, suc, ◌+◌, ◌<◌, ◌≤◌, Bool, true, false, not, cond, List, [], ◌∷◌, length, take, drop, ap, refl, ◌∙◌, arith, drop-drop, length-drop, le-ltb, lt-ltb}
+use Rattle.std.proofs.Common.{◌≡◌, ℕ, suc, ◌+◌, ◌<◌, ◌≤◌, Bool, true, false, not, cond, List, [], ◌∷◌, length, take, drop, sym, ap, refl, ◌∙◌, arith, drop-drop, length-drop, le-ltb, lt-ltb}
 use Rattle.std.proofs.lemmas.List.{take_rest}
 use Rattle.std.specs.List.{prefix_len}
 use Rattle.definition.specs.Reader.{run, read, refused}
@@ -44,5 +44,16 @@ module _ (s : List ℕ) (at : ℕ) where
       let l : at + run blank (drop at s) + run (λ b. not (blank b)) (drop (at + run blank (drop at s)) s) < length s = omega (arith, h, len_is, ap length rest_is, length-drop (at + run blank (drop at s)) s) in
       let e : at + (run blank (drop at s) + run (λ b. not (blank b)) (drop (at + run blank (drop at s)) s) + 1) ≡ at + run blank (drop at s) + run (λ b. not (blank b)) (drop (at + run blank (drop at s)) s) + 1 = omega arith in
       rw (len_is, rest_is, start_is, e) (simp (lt-ltb _ _ l))
+
+  -- the same of a word that code cuts: `l` is what is left, `r` what is left behind the blanks
+  pub word_read : (l r : List ℕ) (from n : ℕ) → l ≡ drop at s → from ≡ prefix_len blank l → r ≡ drop from l → n ≡ prefix_len (λ b. not (blank b)) r → n < length r
+      → read (take n r) (at + from + n + 1) ≡ word s at
+  word_read l r from n left blanks behind letters h =
+      let f : from ≡ prefix_len blank (drop at s) = blanks ∙ ap (prefix_len blank) left in
+      let k : r ≡ rest s at = behind ∙ ap (λ (m : List ℕ). drop from m) left ∙ ap (λ (m : ℕ). drop m (drop at s)) f in
+      let m : n ≡ len s at = letters ∙ ap (prefix_len (λ b. not (blank b))) k in
+      let there : len s at < length (rest s at) = omega (arith, h, m, ap length k) in
+      let e : at + from + n + 1 ≡ at + (prefix_len blank (drop at s) + len s at + 1) = omega (arith, f, m) in
+      rw (e, m, k) (sym (word_found there))
 
 pub ruleset words = (word_cut, word_found, take_rest)

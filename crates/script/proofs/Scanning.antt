@@ -3,6 +3,7 @@ use Prim.Native.Nat.{ℕ, zero, suc, ◌+◌, ◌-◌, ◌*◌, ◌^◌, ◌≤�
 use mathlib.Core.Path.{◌≡◌, refl, sym, ap, ◌∙◌}
 use mathlib.Core.Bool.{true, false}
 use mathlib.Core.List.{List}
+use Rattle.std.specs.Prelude.{Option, Some, None, SomeIff, unwrap_or}
 use native.Mathlib.Omega.{arith}
 use native.Mathlib.Decide.{dec_le}
 use borrow.Author.Tests.{lt-ltb, le-ltb, le-leb, lt-leb, eq-eqb, ne_eqb}
@@ -136,3 +137,8 @@ module _ (n : ℕ) (by : Signed) where
   pub moved_not : by.minus ≡ false → 2 ^ 64 ≤ n + by.size → n ≡ moved_by n by
   unfolding moved_by
   moved_not h l = rw (h, le-ltb (n + by.size) (2 ^ 64) l)
+
+  -- by the sum, where it is one
+  pub moved_sum : (r : Option ℕ) {m : ℕ} → by.minus ≡ false → SomeIff r (n + by.size < 2 ^ 64) (n + by.size) → m ≡ unwrap_or r n → m ≡ moved_by n by
+  moved_sum None h s e = e ∙ moved_not h (omega (arith, s))
+  moved_sum (Some x) h s e = e ∙ s.1 ∙ moved_up h s.0

@@ -31,6 +31,11 @@ returns-then-choice-le48-clause-holds c =
       enough = rw e.chosen (enough_chosen a.num_gselect c.choose-choice.result.bound (posts_in a.holding.candidates a.gauss.now a.posts.now) e.enough);
     }
 
+pub returns-clause-holds : goal.returns-clause-holds
+returns-clause-holds c =
+    let e = c.order-ordered.ensures in
+    record { candidates = (omega arith, omega arith); few = e.most; in_order = e.in_order; enough = tt }
+
 pub returns-clause-leading : goal.returns-clause-leading
 returns-clause-leading c =
     let a = c.args in

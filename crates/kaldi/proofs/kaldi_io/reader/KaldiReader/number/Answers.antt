@@ -1,0 +1,5 @@
+-- `KaldiReader::number` meets its contract: the number is read where the reader stands, and it moves behind it; no search is asked.
+use Rattle.kaldi.proofs.kaldi_io.reader.KaldiReader.number.Goals as goal
+
+pub returns-clause-value : goal.returns-clause-value
+returns-clause-value c = c.in_ok-x.ensures

@@ -1,0 +1,5 @@
+-- `KaldiReader::width` meets its contract: the width is read where the reader stands, and it moves behind it; no search is asked.
+use Rattle.kaldi.proofs.kaldi_io.reader.KaldiReader.width.Goals as goal
+
+pub returns-clause-value : goal.returns-clause-value
+returns-clause-value c = c.in_ok-width.ensures
