@@ -16,18 +16,15 @@ use Rattle.loops.proofs.Choose.{by-test, choose_true, choose_false}
 use Rattle.loops.proofs.Fill.{length_over, over_at, over_take}
 use Rattle.loops.proofs.Refusal.{taken_new, taken_old}
 use Rattle.floats.specs.Operators.{at}
-use Rattle.definition.specs.declared.Dimensions.{Dimensions}
 use Rattle.definition.specs.declared.IvectorInfo.{IvectorInfo}
 use Rattle.definition.specs.declared.IvectorStream.{IvectorStream}
-use Rattle.definition.specs.declared.RoomLengths.{RoomLengths}
 use Rattle.definition.specs.declared.StreamCall.{StreamCall}
-use Rattle.definition.specs.declared.TableLengths.{TableLengths}
 use Rattle.definition.specs.Model.{Tables, in_force, table_lengths_of, model_in}
 use Rattle.definition.specs.Posteriors.{unweighted}
 use Rattle.definition.specs.Changes.{Change, Changes, Batch, reached, batch}
 use Rattle.definition.specs.Estimate.{Estimate, updated, nans_over}
 use Rattle.definition.specs.Machine.{bits_of, not_finite}
-use Rattle.definition.specs.Stream.{rising, rooms_fit}
+use Rattle.definition.specs.Stream.{rising}
 use Rattle.definition.proofs.Lengths.{Long, updated_long}
 use Rattle.definition.proofs.Ranges.{Fitting, fitting}
 use Rattle.program.specs.Rooms.{rings_from, EstimateRooms, estimate_from, Rooms, rooms_from, room_lengths_of, waiting_in, frames_of, weights_of, ring_frames, frames_in, changes_in, estimate_at, estimate_in}
