@@ -16,7 +16,7 @@ use Rattle.definition.specs.declared.StreamCall.{StreamCall}
 use Rattle.definition.specs.Model.{Tables}
 use Rattle.definition.specs.Machine.{Call, push, finish, forget, fetch, push_tests, fetch_tests, bits_of, not_finite}
 use Rattle.program.specs.Rooms.{Rings, EstimateRooms, Rooms, rooms_from}
-use Rattle.program.specs.Calls.{RingStep, RingCall, ring_call, done_on, record_tests, push_frame, set_input_finished, forget_before, Step, FetchCall, fetch_call, fetched_on, fetch_refusal, get_frame}
+use Rattle.program.specs.Calls.{answer_of, RingStep, RingCall, ring_call, done_on, record_tests, push_frame, set_input_finished, forget_before, Step, FetchCall, fetch_call, fetched_on, fetch_refusal, get_frame}
 use Rattle.program.specs.Session.{Program, program, on_rings, stepped, step_of}
 use Rattle.stream.proofs.Refusals.{push_tests_is}
 use Rattle.board.specs.declared.register_bytes.Command.{Command}
@@ -152,6 +152,12 @@ told_so b v f p r = settled p b (call_flags f r) r v
 -- a block b rewritten for a stream with record s and rings z
 abbrev pub Settled : List ℕ → IvectorStream → Rings → ℕ → ℕ → List ℕ → Type 0
 Settled b s z low number b' = b' ≡ rewritten b low number (held_count s z) (room_for_push s z)
+
+-- the number n that code tells is the one that a call's answer has
+pub told_as : (b : List ℕ) (f : Bool) (s : IvectorStream) (z : Rings) (i j : ℕ) {n k : ℕ} {b' : List ℕ} → n ≡ k → Settled b s z (call_flags f n) n b'
+    → Settled b s z (call_flags f (answer_of k s i j).refusal) (answer_of k s i j).refusal b'
+told_as b f s z i j {k = k} e h =
+    h ∙ ap (λ (n : ℕ). rewritten b (call_flags f n) n (held_count s z) (room_for_push s z)) (e ∙ sym (told-number k s i j))
 
 -- beside any other rooms and buffer
 settled_is : (b : List ℕ) (v : List ℕ) (e : EstimateRooms) (s : IvectorStream) (z : Rings) (low number : ℕ) {b' : List ℕ} → Settled b s z low number b'

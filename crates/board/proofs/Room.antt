@@ -10,7 +10,7 @@ use lib.Ieee.{Float, of_bits}
 use lib.Ieee.Scale.{finite}
 use borrow.Author.Tests.{eqb-true, eqb-false, eq-eqb, ne_eqb}
 use Rattle.loops.specs.Lists.{any_of, all_of}
-use Rattle.loops.specs.Refusal.{first_of, taken}
+use Rattle.loops.specs.Refusal.{first_of}
 use Rattle.loops.proofs.Choose.{and_holds, and_both, or_none, choose_map, choose_same}
 use Rattle.loops.proofs.Refusal.{taken_new, taken_old}
 use Rattle.floats.specs.Operators.{zero₃₂}

@@ -1,28 +1,18 @@
 -- `step` meets its contract: a block of another length is left, a fetch is `fetch` and what `told` writes of it, any other command is `ring_step` (Commands.antt).
-use mathlib.Core.Path.{◌≡◌, sym, ap, ◌∙◌}
+use mathlib.Core.Path.{sym, ap, ◌∙◌}
 use mathlib.Core.Bool.{true}
-use mathlib.Core.List.{List}
-use Prim.Native.Nat.{ℕ}
 use lib.ListN.{length}
-use Rattle.definition.specs.declared.IvectorStream.{IvectorStream}
 use Rattle.definition.specs.Lent.{tables_in}
-use Rattle.program.specs.Rooms.{Rings, EstimateRooms, rooms_from}
-use Rattle.program.specs.Calls.{call_of}
+use Rattle.program.specs.Rooms.{EstimateRooms, rooms_from}
 use Rattle.program.specs.Session.{program}
 use Rattle.stream.specs.Stream.{record_of, rings_of, rooms_of, estimate_of, program_of}
-use Rattle.board.specs.Board.{Board, board, call_flags, held_count, room_for_push, rewritten}
-use Rattle.board.proofs.Room.{told-number}
-use Rattle.board.proofs.Commands.{Settled, block-long, block-whole, fetch_done, scratch_kept_is, step-whole, step_refused}
+use Rattle.board.specs.Board.{Board, board}
+use Rattle.board.proofs.Commands.{told_as, block-long, block-whole, fetch_done, scratch_kept_is, step-whole, step_refused}
 use Rattle.board.proofs.registers.step.Goals.{Start}
 use Rattle.board.proofs.registers.step.Goals as goal
 
 abbrev lent : Start → Board
 lent c = board (program_of c.args.stream.now) c.args.block.now c.args.out.now
-
--- what the block tells of a fetch's number k, as its answer has it
-told_of : (b : List ℕ) (s : IvectorStream) (z : Rings) (i j : ℕ) {n k : ℕ} {b' : List ℕ} → n ≡ k → Settled b s z (call_flags true n) n b'
-    → Settled b s z (call_flags true (call_of k s i j).answer.refusal) (call_of k s i j).answer.refusal b'
-told_of b s z i j {k = k} e h = h ∙ ap (λ (n : ℕ). rewritten b (call_flags true n) n (held_count s z) (room_for_push s z)) (e ∙ sym (told-number k s i j))
 
 pub returns-then-block-ne16-clause-refusal : goal.returns-then-block-ne16-clause-refusal
 returns-then-block-ne16-clause-refusal c = block-long c.args.block.now c.if-block-ne16.true
@@ -42,7 +32,7 @@ returns-in-Fetch-clause-board c =
     let o = (goal.at.returns-in-Fetch-clause-board c).Start in
     let n = length s.scratch.now in
     fetch_done (tables_in a.tables) n (record_of s) (rooms_of s) a.block.now a.frame.now a.out.now (sym c.in-Fetch.is ∙ c.from.ensures) c.frame_number-at.result c.frame_number-at.ensures
-    c.fetch-fetched.ensures.call (told_of _ _ _ _ _ c.fetch_number.ensures c.told.ensures)
+    c.fetch-fetched.ensures.call (told_as _ true _ _ _ _ c.fetch_number.ensures c.told.ensures)
     ∙ step-whole (tables_in a.tables) n a.frame.now (lent o) c.if-block-ne16.false
 
 pub returns-in-Fetch-clause-scratch : goal.returns-in-Fetch-clause-scratch
