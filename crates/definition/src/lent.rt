@@ -1,7 +1,5 @@
-//! What a call is lent: slices that always travel together. Each is a few references, and copies
-//! nothing. What is only read is `Copy` and goes by value; what is written into goes behind `&mut`,
-//! and each function that does so says by a clause that its slices stay the same ones, `Same..` of
-//! specs/Lent.antt (limit: loans).
+//! What a call is lent to read: slices that always travel together. Each is a few references, and
+//! copies nothing.
 
 ghost use Rattle.std.specs.Prelude.{◌≡◌};
 ghost use Rattle.definition.specs.Model.{table_lengths_of};
@@ -64,57 +62,4 @@ impl LentTables<'_> {
             global_mean_stats: self.global_mean_stats.len(),
         }
     }
-}
-
-/// [`LentFrames`], to be written into.
-#[derive(Drop)]
-pub struct FrameRooms<'a> {
-    pub frames: &'a mut [f32],
-    pub rows: &'a mut [f64],
-}
-
-impl FrameRooms<'_> {
-    /// The rings, to be read.
-    pub fn lent(&self) -> LentFrames<'_>
-        ensures frames { result.frames.now ≡ self.now.frames.now }
-        ensures rows { result.rows.now ≡ self.now.rows.now }
-    {
-        LentFrames {
-            frames: self.frames,
-            rows: self.rows,
-        }
-    }
-}
-
-/// [`LentWaiting`], to be written into.
-#[derive(Drop)]
-pub struct WaitingRooms<'a> {
-    pub frames: &'a mut [usize],
-    pub weights: &'a mut [f32],
-}
-
-impl WaitingRooms<'_> {
-    /// The waiting changes, to be read.
-    pub fn lent(&self) -> LentWaiting<'_>
-        ensures frames { result.frames.now ≡ self.now.frames.now }
-        ensures weights { result.weights.now ≡ self.now.weights.now }
-    {
-        LentWaiting {
-            frames: self.frames,
-            weights: self.weights,
-        }
-    }
-}
-
-/// What a stream has learnt of the speaker, to be written into.
-#[derive(Drop)]
-pub struct LentEstimate<'a> {
-    /// The CMVN state: a sum for each number of a frame, then the count.
-    pub cmvn_stats: &'a mut [f64],
-    /// The statistics' linear term.
-    pub linear: &'a mut [f64],
-    /// The statistics' quadratic term, packed.
-    pub quadratic: &'a mut [f64],
-    /// The current vector, the prior in its element 0.
-    pub current: &'a mut [f64],
 }

@@ -4,7 +4,7 @@
 mod lent;
 mod refusal;
 
-pub use lent::{FrameRooms, LentEstimate, LentFrames, LentTables, LentWaiting, WaitingRooms};
+pub use lent::{LentFrames, LentTables, LentWaiting};
 pub use refusal::{Refusal, need, number_or_0, numbered};
 
 /// The options. Their limits: specs/Options.antt.
