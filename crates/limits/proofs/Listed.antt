@@ -17,9 +17,12 @@ holds {r} e h = sym e ∙ not-false r h
 pub fails : {r t : Bool} → r ≡ t → not r ≡ true → t ≡ false
 fails {r} e h = sym e ∙ not-true r h
 
--- of two tests the second decides, where the first holds; and where a third holds, that or the second of the first two
+-- of two tests the second decides, by what the first says; and where a third holds, one of the first two
 pub and_skip : (a b : Bool) → a ≡ true → (a && b) ≡ b
 and_skip a b e = rw e
+
+pub or_skip : (a b : Bool) → a ≡ false → (a || b) ≡ b
+or_skip a b e = rw e
 
 pub first_of_two : (a b g : Bool) → a ≡ true → g ≡ true → a ≡ ((a || b) && g)
 first_of_two a b g e h = rw (e, h) refl

@@ -1,7 +1,7 @@
 -- `options_in_range` meets its contract: where all tests but the last hold that one decides (`all-last` in Listed.antt; `at_most` and `held_inside` in
 -- Within.antt).
 use mathlib.Core.Path.{refl, sym, ◌∙◌}
-use Rattle.definition.specs.Options.{options_in_range}
+use Rattle.definition.specs.Options.{options_in_range, max_window}
 use Rattle.limits.proofs.Listed.{all-last}
 use Rattle.limits.proofs.Within.{held_inside, at_most}
 use Rattle.limits.proofs.options_in_range.Goals as goal
@@ -11,7 +11,7 @@ unfolding options_in_range
 returns c =
     let o = c.args.o in
     let n = c.new.ensures in
-    let window = held_inside 1 1000 o.cmn_window n.start n.end n.exhausted c.contains.ensures.value refl c.if-not-contains.false in
+    let window = held_inside 1 max_window o.cmn_window n.start n.end n.exhausted c.contains.ensures.value refl c.if-not-contains.false in
     let n-2 = c.new-2.ensures in
     let frames = held_inside 1 10000 o.global_frames n-2.start n-2.end n-2.exhausted c.contains-2.ensures.value refl c.if-not-contains-2.false in
     let n-3 = c.new-3.ensures in

@@ -1,7 +1,8 @@
 -- `windows_broken` meets its contract: where the first two tests fail the last decides; no search is asked.
 use mathlib.Core.Path.{sym}
 use borrow.Author.Tests.{ne_eqb, le-ltb}
-use Rattle.loops.proofs.Choose.{or_none, or_skip}
+use Rattle.loops.proofs.Choose.{or_none}
+use Rattle.limits.proofs.Listed.{or_skip}
 use Rattle.limits.proofs.windows_broken.Goals as goal
 
 pub returns-else-longest-window : goal.returns-else-longest-window
