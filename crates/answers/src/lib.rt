@@ -131,7 +131,8 @@ fn reply(
 
 /// The answer of a call that gives no vector and leaves the record `s`.
 pub fn answered(taken: Result<(), Refusal>, s: &IvectorStream) -> StreamAnswer
-    requires { (refused_by taken ≡ 10 → ⊥) → (s.now.accepted ≤ 1000000000) × (s.now.mark ≤ 1000000000) }
+    requires { (refused_by taken ≡ 10 → ⊥)
+        → (s.now.accepted ≤ 1000000000) × (s.now.mark ≤ 1000000000) }
     ensures { result ≡ answer_of (refused_by taken) s.now 0 0 }
 {
     reply(number_or_0(taken), s, 0, 0)
@@ -139,7 +140,8 @@ pub fn answered(taken: Result<(), Refusal>, s: &IvectorStream) -> StreamAnswer
 
 /// The answer of a fetch that leaves the record `s`.
 pub fn fetch_answer(taken: Result<Fetched, Refusal>, s: &IvectorStream) -> StreamAnswer
-    requires { (refused_by taken ≡ 10 → ⊥) → (s.now.accepted ≤ 1000000000) × (s.now.mark ≤ 1000000000) }
+    requires { (refused_by taken ≡ 10 → ⊥)
+        → (s.now.accepted ≤ 1000000000) × (s.now.mark ≤ 1000000000) }
     ensures { result ≡ answer_of (refused_by taken) s.now (not_finite_in taken) (nans_in taken) }
 {
     match taken {

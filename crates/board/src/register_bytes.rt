@@ -100,7 +100,8 @@ fn is_full(s: &IvectorStream, frames_held: usize, rows_held: usize) -> bool
     ensures { (
         let own = s.now.lengths.rings in
         let dim = s.now.info.dims.base_dim in
-        result ≡ (nat_eq s.now.accepted 1000000000 || (nat_eq frames_held (own.frames / dim) || nat_eq rows_held (own.rows / dim)))) }
+        result ≡ (nat_eq s.now.accepted 1000000000
+        || (nat_eq frames_held (own.frames / dim) || nat_eq rows_held (own.rows / dim)))) }
 {
     let own = s.lengths.rings;
     let dim = s.info.dims.base_dim;
@@ -131,7 +132,8 @@ pub fn settle(stream: &Stream<'_>, low: u8, number: u8, block: &mut [u8])
     requires long { length block.old ≡ 16 }
     requires low_bits { low < 4 }
     ensures { block.new ≡ rewritten block.old low number
-        (held_count (record_of stream.now) (rings_of stream.now)) (room_for_push (record_of stream.now) (rings_of stream.now)) }
+        (held_count (record_of stream.now) (rings_of stream.now))
+        (room_for_push (record_of stream.now) (rings_of stream.now)) }
 {
     let (held, room) = push_room(stream);
     rewrite(block, low, number, held, room);
@@ -143,7 +145,8 @@ pub fn told(stream: &Stream<'_>, fetch: bool, refusal: usize, block: &mut [u8])
     requires long { length block.old ≡ 16 }
     requires byte { refusal < 256 }
     ensures { block.new ≡ rewritten block.old (call_flags fetch refusal) refusal
-        (held_count (record_of stream.now) (rings_of stream.now)) (room_for_push (record_of stream.now) (rings_of stream.now)) }
+        (held_count (record_of stream.now) (rings_of stream.now))
+        (room_for_push (record_of stream.now) (rings_of stream.now)) }
 {
     settle(stream, call_flags(fetch, refusal), refusal as u8, block);
 }

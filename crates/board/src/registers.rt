@@ -1,6 +1,6 @@
-//! One step of a board with registers, over a block of sixteen bytes beside a stream. The command in
-//! byte 0 is done as its plain call; then the block is rewritten. specs/Board.antt says what each
-//! byte is.
+//! One step of a board with registers, over a block of sixteen bytes beside a stream. The command
+//! in byte 0 is done as its plain call; then the block is rewritten. specs/Board.antt says what
+//! each byte is.
 
 ghost use Rattle.std.specs.Prelude.{◌≡◌, length};
 ghost use Rattle.definition.specs.Number.{refused_by};

@@ -14,20 +14,17 @@ use Rattle.loops.specs.Lists.{build, those, over}
 use Rattle.loops.proofs.Build.{at_build, build_ext}
 use Rattle.loops.proofs.Choose.{by-test, choose_true, choose_false}
 use Rattle.loops.proofs.Fill.{length_over, over_at, over_take}
-use Rattle.loops.proofs.Refusal.{taken_new, taken_old}
+use Rattle.loops.proofs.Refusal.{taken_new}
 use Rattle.floats.specs.Operators.{at}
-use Rattle.definition.specs.declared.Dimensions.{Dimensions}
 use Rattle.definition.specs.declared.IvectorInfo.{IvectorInfo}
 use Rattle.definition.specs.declared.IvectorStream.{IvectorStream}
-use Rattle.definition.specs.declared.RoomLengths.{RoomLengths}
 use Rattle.definition.specs.declared.StreamCall.{StreamCall}
-use Rattle.definition.specs.declared.TableLengths.{TableLengths}
 use Rattle.definition.specs.Model.{Tables, in_force, table_lengths_of, model_in}
 use Rattle.definition.specs.Posteriors.{unweighted}
 use Rattle.definition.specs.Changes.{Change, Changes, Batch, reached, batch}
 use Rattle.definition.specs.Estimate.{Estimate, updated, nans_over}
 use Rattle.definition.specs.Machine.{bits_of, not_finite}
-use Rattle.definition.specs.Stream.{rising, rooms_fit}
+use Rattle.definition.specs.Stream.{rising}
 use Rattle.definition.proofs.Lengths.{Long, updated_long}
 use Rattle.definition.proofs.Ranges.{Fitting, fitting}
 use Rattle.program.specs.Rooms.{rings_from, EstimateRooms, estimate_from, Rooms, rooms_from, room_lengths_of, waiting_in, frames_of, weights_of, ring_frames, frames_in, changes_in, estimate_at, estimate_in}
@@ -260,12 +257,6 @@ module _ (s : IvectorStream) (t : Tables) (z : Rooms) (f : ℕ) {scratch n : ℕ
 -- ---- what is returned, and the rooms and the output: of a step x on record s, rooms z and an output
 
 module _ (s : IvectorStream) (z : Rooms) (out : List ℕ) (x : Step) where
-  pub fetch_refused : (r : ℕ) {c : StreamCall} → c ≡ call_of r s 0 0 → r ≡ x.refusal → (r ≡ 0 → ⊥) → fetch_call c z out ≡ fetched_on s z out x
-  fetch_refused r h e l =
-      let g : x.refusal ≡ 0 → ⊥ = λ q. l (e ∙ q) in
-      let n : ℕ = x.refusal in
-      rw (taken_old n x.stream s g, taken_old n (not_finite x.vector) 0 g, taken_old n x.nans 0 g, taken_old n x.rooms z g, taken_old n (over (bits_of x.vector) out) out g, h, e)
-
   fetch_done : {c : StreamCall} {s' : IvectorStream} {b m : ℕ} {z' : Rooms} {out' : List ℕ} → c ≡ call_of 0 s' b m → 0 ≡ x.refusal → s' ≡ x.stream → b ≡ not_finite x.vector
       → m ≡ x.nans → z' ≡ x.rooms → out' ≡ over (bits_of x.vector) out → fetch_call c z' out' ≡ fetched_on s z out x
   fetch_done h e p q u r o =

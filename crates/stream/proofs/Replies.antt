@@ -1,4 +1,4 @@
--- What a call returns and leaves: its two ways out, refused and taken, as the one equation of its contract.
+-- What a call that is taken returns and leaves, as the one equation of its contract: rooms part by part, the record of a change, a fresh stream.
 use Rattle.std.specs.Prelude.{Ok, Err}
 use mathlib.Core.Path.{◌≡◌, sym, ap, ◌∙◌}
 use mathlib.Core.Bool.{true}
@@ -27,13 +27,6 @@ use Rattle.program.proofs.InOrder.{length_inserts}
 -- ---- a call on record s and rings z that does x: n is its refusal number, c what is returned
 
 module _ (s : IvectorStream) (z : Rings) (x : RingStep) {n : ℕ} (e : n ≡ x.refusal) where
-  pub refused : {c : StreamCall} → (n ≡ 0 → ⊥) → c ≡ call_of n s 0 0 → ring_call c z ≡ done_on s z x
-  refused h g =
-      let old : (x.refusal ≡ 0 → ⊥) = λ k. h (e ∙ k) in
-      let stream : taken x.refusal x.stream s ≡ s = taken_old _ _ _ old in
-      let rings : taken x.refusal x.rings z ≡ z = taken_old _ _ _ old in
-      rw (g, e, stream, rings)
-
   pub done : {c : StreamCall} {after : Rings} → n ≡ 0 → c ≡ call_of 0 x.stream 0 0 → after ≡ x.rings → ring_call c after ≡ done_on s z x
   done h g f = let new : x.refusal ≡ 0 = sym e ∙ h in rw (g, f, new)
 

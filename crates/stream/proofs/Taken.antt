@@ -1,4 +1,4 @@
--- Calls that are taken: what a push leaves, and the mark of a forget.
+-- Calls that are taken: what a push leaves, and where the mark of a forget stands.
 use mathlib.Core.Path.{◌≡◌, refl, sym, ap, ◌∙◌}
 use mathlib.Core.Bool.{true}
 use mathlib.Core.List.{List, foldl}
@@ -10,11 +10,10 @@ use Rattle.loops.specs.Lists.{build}
 use Rattle.loops.specs.Ring.{put, place}
 use Rattle.floats.specs.Operators.{◌+₆₄◌, at}
 use Rattle.definition.specs.declared.IvectorStream.{IvectorStream}
-use Rattle.definition.specs.Machine.{forgotten}
 use Rattle.definition.specs.Stream.{rising}
 use Rattle.limits.proofs.Ordered.{min-first}
 use Rattle.program.specs.Rooms.{Rings, rings_from, ring_at}
-use Rattle.program.specs.Calls.{with_accepted, call_of, RingStep, ring_call, done_on, push_frame, pushed_frames, pushed_rows, forget_mark}
+use Rattle.program.specs.Calls.{with_accepted, call_of, RingStep, ring_call, done_on, push_frame, pushed_frames, pushed_rows}
 use Rattle.stream.proofs.Refusals.{push_taken}
 use Rattle.stream.proofs.Stored.{row_of}
 use Rattle.stream.proofs.Replies.{done, rings_are}
@@ -41,12 +40,8 @@ module _ (s : IvectorStream) (z : Rings) (x : List Float) {n : ℕ} (e : n ≡ (
 pub lowest_first : (low : ℕ) (fs : List ℕ) {r : ℕ} → 0 < length fs → rising 0 fs ≡ true → r ≡ min low (get_or fs 0 0) → r ≡ foldl min low fs
 lowest_first low fs p o e = e ∙ sym (min-first low 0 fs p o)
 
--- the new mark, as code comes to it, and that it is no later than the statistics
+-- the new mark, as code comes to it: no later than the statistics
 module _ (s : IvectorStream) (fs : List ℕ) (f : ℕ) {reached first kept mark : ℕ} (a : reached ≡ min f s.num_frames_stats) (b : first ≡ foldl min reached (take s.waiting fs))
     (c : kept ≡ first - s.info.opts.left_context) (d : mark ≡ max s.mark kept) where
-  pub forget_is : mark ≡ forget_mark s fs f
-  unfolding forget_mark forgotten
-  forget_is = rw (d, c, b, a)
-
   pub forget_under : {n : ℕ} → s.mark ≤ n → s.num_frames_stats ≤ n → mark ≤ n
   forget_under h l = omega (arith, lowest_under reached (take s.waiting fs))

@@ -33,8 +33,10 @@ fn open_place(frames: &mut [usize], weights: &mut [f32], k: usize, n: usize)
     requires place { k ≤ n }
     requires frames { n < length frames.old }
     requires weights { n < length weights.old }
-    ensures frames { frames.new ≡ put (k + 1) (build (n - k) (λ j. get_or frames.old (k + j) 0)) frames.old }
-    ensures weights { weights.new ≡ put (k + 1) (build (n - k) (λ j. at weights.old (k + j))) weights.old }
+    ensures frames { frames.new
+        ≡ put (k + 1) (build (n - k) (λ j. get_or frames.old (k + j) 0)) frames.old }
+    ensures weights { weights.new
+        ≡ put (k + 1) (build (n - k) (λ j. at weights.old (k + j))) weights.old }
     ensures frames_long { length frames.new ≡ length frames.old }
     ensures weights_long { length weights.new ≡ length weights.old }
 {
@@ -48,7 +50,8 @@ pub fn insert_change(frames: &mut [usize], weights: &mut [f32], n: usize, frame:
     requires frames { n < length frames.old }
     requires weights { n < length weights.old }
     requires order { InOrder n frames.old }
-    ensures { Holds (insert_change (waiting_in n frames.old weights.old) (frame, weight)) frames.old weights.old frames.new weights.new }
+    ensures { Holds (insert_change (waiting_in n frames.old weights.old) (frame, weight))
+        frames.old weights.old frames.new weights.new }
 {
     let k = up_to(&frames[..n], frame);
     open_place(frames, weights, k, n);
@@ -69,7 +72,8 @@ fn insert_changes(
     requires weights { n + length delta_frames.now ≤ length weights.old }
     requires paired { length delta_weights.now ≡ length delta_frames.now }
     requires order { InOrder n frames.old }
-    ensures { Holds (inserted_to (length delta_frames.now) delta_frames.now delta_weights.now (waiting_in n frames.old weights.old))
+    ensures { Holds (inserted_to (length delta_frames.now) delta_frames.now delta_weights.now
+        (waiting_in n frames.old weights.old))
         frames.old weights.old frames.new weights.new }
 {
     let m = delta_frames.len();
@@ -106,9 +110,12 @@ pub fn update_frame_weights(
     requires paired { length delta_weights.now ≡ length delta_frames.now }
     requires order { InOrder n frames.old }
     requires bound { any_of (leb 1000000000) delta_frames.now ≡ false }
-    ensures changes { Holds (changed (waiting_changes n past_highest frames.old weights.old) delta_frames.now delta_weights.now).waiting
+    ensures changes { Holds (changed (waiting_changes n past_highest frames.old weights.old)
+        delta_frames.now delta_weights.now).waiting
         frames.old weights.old frames.new weights.new }
-    ensures past_highest { result ≡ (changed (waiting_changes n past_highest frames.old weights.old) delta_frames.now delta_weights.now).past_highest }
+    ensures past_highest { result
+        ≡ (changed (waiting_changes n past_highest frames.old weights.old)
+        delta_frames.now delta_weights.now).past_highest }
 {
     insert_changes(frames, weights, n, delta_frames, delta_weights);
     past_highest_of(past_highest, delta_frames)
@@ -119,7 +126,8 @@ pub fn remove_first(frames: &mut [usize], weights: &mut [f32], n: usize, k: usiz
     requires within { k ≤ n }
     requires frames { n ≤ length frames.old }
     requires weights { n ≤ length weights.old }
-    ensures { Holds (drop k (waiting_in n frames.old weights.old)) frames.old weights.old frames.new weights.new }
+    ensures { Holds (drop k (waiting_in n frames.old weights.old))
+        frames.old weights.old frames.new weights.new }
 {
     frames.copy_within(k..n, 0);
     weights.copy_within(k..n, 0);
@@ -140,7 +148,9 @@ pub fn sum_group(waiting: LentWaiting<'_>, n: usize, j: usize) -> Group
     ensures further { j < result.end }
     ensures within { result.end ≤ n }
     ensures sum { merged (drop j (waiting_in n waiting.entry.frames.now waiting.entry.weights.now))
-        ≡ (get_or waiting.entry.frames.now j 0, result.weight) ∷ merged (drop result.end (waiting_in n waiting.entry.frames.now waiting.entry.weights.now)) }
+        ≡ (get_or waiting.entry.frames.now j 0, result.weight)
+        ∷ merged (drop result.end
+        (waiting_in n waiting.entry.frames.now waiting.entry.weights.now)) }
 {
     let frame = waiting.frames[j];
     let mut weight = waiting.weights[j];

@@ -29,8 +29,8 @@ fn row<T>(ring: &[T], start: usize, n: usize) -> &[T]
 }
 
 // What a frame gives to a spliced row: a part of the raw store, from where the frame begins, or of
-// the room for normalised rows. Inlined, as `fetch_frame` and `add_frame` are: the LDA's caller knows
-// which of the two it is, so that no row has to ask.
+// the room for normalised rows.
+// inlined, as `fetch_frame` and `add_frame` are: the LDA's caller knows which of the two it is
 #[inline(always)]
 fn spliced_row<'a>(
     raw: &'a [f32],
@@ -41,7 +41,9 @@ fn spliced_row<'a>(
 ) -> &'a [f32]
     requires raw { here + dim ≤ length raw.now }
     requires normalised { dim ≤ length normalised.now }
-    ensures { result.now ≡ (if is_normalized features then take dim normalised.now else take (here + dim - here) (drop here raw.now)) }
+    ensures { result.now
+        ≡ (if is_normalized features then take dim normalised.now
+        else take (here + dim - here) (drop here raw.now)) }
 {
     match features {
         Features::Normalized => &normalised[..dim],
@@ -53,7 +55,10 @@ fn spliced_row<'a>(
 #[tactic(auto, using(loops::proofs::Fill::fills))]
 fn raw_less_mean(raw: &[f32], cmvn: &[f64], out: &mut [f32])
     requires { (length cmvn.now ≡ length raw.now + 1) × (length out.old ≡ length raw.now) }
-    ensures { out.new ≡ fill (length raw.now) (λ d. at raw.now d -₃₂ narrowed (at cmvn.now d /₆₄ at cmvn.now (length raw.now))) out.old }
+    ensures { out.new
+        ≡ fill (length raw.now)
+        (λ d. at raw.now d -₃₂ narrowed (at cmvn.now d /₆₄ at cmvn.now (length raw.now)))
+        out.old }
 {
     let count = cmvn[raw.len()];
     // by index (limit: zip)
@@ -77,8 +82,10 @@ impl StreamView<'_> {
         requires few { p.frame < 1000000000 }
         requires state { length cmvn.old ≡ self.now.dim + 1 }
         requires placed { Placed self.now true p }
-        ensures { cmvn.new ≡ (if lt self.now.options.min_energy (ring_at self.now.dim self.now.frames.now p.frame 0)
-            then windowed self.now.options self.now.dim (frames_of self.now) p.frame else cmvn.old) }
+        ensures { cmvn.new
+            ≡ (if lt self.now.options.min_energy (ring_at self.now.dim self.now.frames.now p.frame 0)
+            then windowed self.now.options self.now.dim (frames_of self.now) p.frame
+            else cmvn.old) }
     {
         let dim = self.dim;
         let raw = row(self.frames, p.here, dim);
@@ -118,7 +125,9 @@ impl StreamView<'_> {
         requires state { length cmvn.old ≡ self.now.dim + 1 }
         requires out { length out.old ≡ self.now.dim }
         requires placed { Placed self.now true p }
-        ensures state { cmvn.new ≡ cmvn_state self.now.options self.now.dim self.now.global.now (frames_of self.now) p.frame cmvn.old }
+        ensures state { cmvn.new
+            ≡ cmvn_state self.now.options self.now.dim self.now.global.now (frames_of self.now)
+            p.frame cmvn.old }
         ensures out { out.new ≡ cmvn_frame self.now.dim (frames_of self.now) p.frame cmvn.new }
     {
         self.cmvn_window(p, cmvn);
@@ -126,16 +135,20 @@ impl StreamView<'_> {
         raw_less_mean(row(self.frames, p.here, self.dim), cmvn, out);
     }
 
-    // A frame, fetched: one to be normalised leaves its CMVN state, and its view in the front of the
-    // room.
+    // A frame, fetched: one to be normalised leaves its CMVN state, and its view in the front of
+    // the room.
     #[inline(always)]
     fn fetch_frame(&self, features: Features, p: Places, cmvn: &mut [f64], view: &mut [f32])
         requires there { p.frame < self.now.accepted }
         requires state { length cmvn.old ≡ self.now.dim + 1 }
         requires view { self.now.dim ≤ length view.old }
         requires placed { Placed self.now (is_normalized features) p }
-        ensures state { cmvn.new ≡ fetched self.now.options self.now.dim self.now.global.now (frames_of self.now) (is_normalized features) p.frame cmvn.old }
-        ensures view { is_normalized features ≡ true → take self.now.dim view.new ≡ cmvn_frame self.now.dim (frames_of self.now) p.frame cmvn.new }
+        ensures state { cmvn.new
+            ≡ fetched self.now.options self.now.dim self.now.global.now (frames_of self.now)
+            (is_normalized features) p.frame cmvn.old }
+        ensures view { is_normalized features ≡ true
+            → take self.now.dim view.new
+            ≡ cmvn_frame self.now.dim (frames_of self.now) p.frame cmvn.new }
     {
         match features {
             Features::Normalized => self.cmvn_frame(p, cmvn, &mut view[..self.dim]),
@@ -160,9 +173,14 @@ impl StreamView<'_> {
         requires view { self.now.dim ≤ length view.old }
         requires part { self.now.dim * length out.old ≤ length part.now }
         requires placed { Placed self.now (is_normalized features) p }
-        ensures state { cmvn.new ≡ fetched self.now.options self.now.dim self.now.global.now (frames_of self.now) (is_normalized features) p.frame cmvn.old }
-        ensures out { out.new ≡ fill (length out.old) (λ r. sum₃₂ (at out.old r) self.now.dim (λ c. at part.now (c * length out.old + r)
-            *₃₂ at (viewed self.now.dim (frames_of self.now) (is_normalized features) p.frame cmvn.new) c)) out.old }
+        ensures state { cmvn.new
+            ≡ fetched self.now.options self.now.dim self.now.global.now (frames_of self.now)
+            (is_normalized features) p.frame cmvn.old }
+        ensures out { out.new
+            ≡ fill (length out.old) (λ r. sum₃₂ (at out.old r) self.now.dim
+            (λ c. at part.now (c * length out.old + r)
+            *₃₂ at (viewed self.now.dim (frames_of self.now) (is_normalized features) p.frame
+            cmvn.new) c)) out.old }
     {
         self.fetch_frame(features, p, cmvn, view);
         let spliced = spliced_row(self.frames, view, features, p.here, self.dim);
@@ -172,7 +190,8 @@ impl StreamView<'_> {
     // The frame at place n of the row spliced around t, the ends clamped to frames 0 and last.
     fn splice_at(&self, t: usize, n: usize) -> usize
         requires { (t < self.now.accepted) × (n < 1000000000) }
-        ensures { (result ≡ splice_at self.now.options self.now.accepted t n) × (result < self.now.accepted) }
+        ensures { (result ≡ splice_at self.now.options self.now.accepted t n)
+            × (result < self.now.accepted) }
     {
         (t + n)
             .saturating_sub(self.options.left_context)
@@ -207,8 +226,8 @@ impl StreamView<'_> {
         }
     }
 
-    // From a frame's places to those of frame v, which is the same or the one after it: a step and a
-    // wrap each, or none.
+    // From a frame's places to those of frame v, which is the same or the one after it: a step and
+    // a wrap each, or none.
     fn next_places(&self, features: Features, p: Places, v: usize) -> Places
         requires near { (p.frame ≤ v) × (v ≤ p.frame + 1) }
         requires placed { Placed self.now (is_normalized features) p }
@@ -247,10 +266,11 @@ impl StreamView<'_> {
         p
     }
 
-    /// The spliced and LDA-transformed frame t, from raw frames or from normalised ones. The spliced
-    /// row is nowhere put together: at each place of it, the frame's numbers are added where they
-    /// lie. A repeated frame is fetched again. Where the frames and their windows begin in the rings
-    /// is found once, for the first place; from place to place it is a step and a wrap.
+    /// The spliced and LDA-transformed frame t, from raw frames or from normalised ones. The
+    /// spliced row is nowhere put together: at each place of it, the frame's numbers are added
+    /// where they lie. A repeated frame is fetched again. Where the frames and their windows begin
+    /// in the rings is found once, for the first place; from place to place it is a step and a
+    /// wrap.
     // inlined: so each caller's kind of features is known in it
     #[inline(always)]
     pub fn lda_frame(
@@ -263,10 +283,13 @@ impl StreamView<'_> {
     )
         requires there { t < self.now.accepted }
         requires state { length cmvn.old ≡ self.now.dim + 1 }
-        requires table { self.now.dim * width self.now.options * length out.old ≤ length lda.table.now }
+        requires table { self.now.dim * width self.now.options * length out.old
+            ≤ length lda.table.now }
         requires offset { length out.old ≤ length lda.offset.now }
         ensures state { cmvn.new ≡ (spliced_row self.now features t cmvn.old).0 }
-        ensures out { out.new ≡ lda_frame (length out.old) lda.entry.table.now lda.entry.offset.now (spliced_row self.now features t cmvn.old).1 }
+        ensures out { out.new
+            ≡ lda_frame (length out.old) lda.entry.table.now lda.entry.offset.now
+            (spliced_row self.now features t cmvn.old).1 }
     {
         let dim = self.dim;
         let width = self.options.left_context + 1 + self.options.right_context;

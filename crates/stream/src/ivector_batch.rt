@@ -33,13 +33,18 @@ impl FetchBatch<'_> {
         requires there { b.frame < self.now.intake.accepted }
         requires log { Logged b.weight b.ln }
         requires state { length cmvn.old ≡ self.now.info.dims.base_dim + 1 }
-        requires features { (length normalized.old ≡ self.now.info.dims.feat_dim) × (length raw.old ≡ self.now.info.dims.feat_dim) }
-        requires likes { (length rooms.old.likes.now ≡ self.now.info.dims.num_gauss) × (length rooms.old.squares.now ≡ self.now.info.dims.num_gauss) }
+        requires features { (length normalized.old ≡ self.now.info.dims.feat_dim)
+            × (length raw.old ≡ self.now.info.dims.feat_dim) }
+        requires likes { (length rooms.old.likes.now ≡ self.now.info.dims.num_gauss)
+            × (length rooms.old.squares.now ≡ self.now.info.dims.num_gauss) }
         requires slots { SlotsIn self.now.info.dims.num_gauss self.now.info.dims.feat_dim sums.old }
-        ensures state { cmvn.new ≡ frame_state (model_of self.now) (frames_of self.now) b.frame cmvn.old }
+        ensures state { cmvn.new
+            ≡ frame_state (model_of self.now) (frames_of self.now) b.frame cmvn.old }
         ensures grown { Grown self.now.info.dims.num_gauss self.now.info.dims.feat_dim
-            (frame_entries (model_of self.now) (frames_of self.now) b.frame b.weight cmvn.old) sums.old sums.new }
-        ensures nans { result ≡ frame_nans (model_of self.now) (frames_of self.now) b.frame b.weight cmvn.old }
+            (frame_entries (model_of self.now) (frames_of self.now) b.frame b.weight cmvn.old)
+            sums.old sums.new }
+        ensures nans { result
+            ≡ frame_nans (model_of self.now) (frames_of self.now) b.frame b.weight cmvn.old }
         ensures loans { SameSums sums.old sums.new }
         ensures like_loans { SameLikes rooms.old rooms.new }
     {
@@ -80,13 +85,18 @@ impl FetchBatch<'_> {
         sums: &mut RunningSums<'_>,
     ) -> usize
         requires state { length cmvn.old ≡ self.now.info.dims.base_dim + 1 }
-        requires likes { (length rooms.old.likes.now ≡ self.now.info.dims.num_gauss) × (length rooms.old.squares.now ≡ self.now.info.dims.num_gauss) }
+        requires likes { (length rooms.old.likes.now ≡ self.now.info.dims.num_gauss)
+            × (length rooms.old.squares.now ≡ self.now.info.dims.num_gauss) }
         requires none { sums.old.count ≡ 0 }
         requires slots { SlotsIn self.now.info.dims.num_gauss self.now.info.dims.feat_dim sums.old }
-        ensures state { cmvn.new ≡ (entries (model_of self.now) (frames_of self.now) (whole_of self.now) cmvn.old).0 }
+        ensures state { cmvn.new
+            ≡ (entries (model_of self.now) (frames_of self.now) (whole_of self.now) cmvn.old).0 }
         ensures slots { SlotsIn self.now.info.dims.num_gauss self.now.info.dims.feat_dim sums.new }
-        ensures sums { SumsIn self.now.info.dims.feat_dim (entries (model_of self.now) (frames_of self.now) (whole_of self.now) cmvn.old).1 sums.new }
-        ensures nans { result ≡ nans_over (model_of self.now) (frames_of self.now) (whole_of self.now) cmvn.old }
+        ensures sums { SumsIn self.now.info.dims.feat_dim
+            (entries (model_of self.now) (frames_of self.now) (whole_of self.now) cmvn.old).1
+            sums.new }
+        ensures nans { result
+            ≡ nans_over (model_of self.now) (frames_of self.now) (whole_of self.now) cmvn.old }
         ensures loans { SameSums sums.old sums.new }
         ensures like_loans { SameLikes rooms.old rooms.new }
     {

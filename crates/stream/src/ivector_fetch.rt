@@ -70,8 +70,9 @@ fn bits(x: f32) -> u32
 // Writes the bits of the output, and returns how many of its numbers are not finite.
 fn write_vector(prior_offset: f64, current: &[f64], out: &mut [u32]) -> usize
     requires { (length out.old ≤ length current.now) × (length out.old ≤ 128) }
-    ensures { (out.new ≡ over (bits_of (vector_at prior_offset current.now (length out.old))) out.old)
-        × (result ≡ not_finite (vector_at prior_offset current.now (length out.old))) }
+    ensures { (
+        let v : List Float = vector_at prior_offset current.now (length out.old) in
+        (out.new ≡ over (bits_of v) out.old) × (result ≡ not_finite v)) }
 {
     let mut bad = 0;
     // by index (limit: zip)
@@ -116,7 +117,8 @@ impl Stream<'_> {
     // How many of the waiting changes are up to `frame`.
     fn changes_up_to(&self, frame: usize) -> usize
         requires within { self.now.record.now.waiting ≤ length self.now.waiting_frames.now }
-        requires order { rising 0 (take self.now.record.now.waiting self.now.waiting_frames.now) ≡ true }
+        requires order { rising 0 (take self.now.record.now.waiting self.now.waiting_frames.now)
+            ≡ true }
         ensures { (
             let fs : List ℕ = take self.now.record.now.waiting self.now.waiting_frames.now in
             (result ≡ length (those (λ g. leb g frame) fs)) × (result ≤ length fs)) }
@@ -128,7 +130,8 @@ impl Stream<'_> {
     fn write_current(&self, out: &mut [u32]) -> usize
         requires { (length out.old ≤ length self.now.current.now) × (length out.old ≤ 128) }
         ensures { (
-            let v : List Float = vector_at self.now.record.now.info.prior_offset self.now.current.now (length out.old) in
+            let v : List Float = vector_at self.now.record.now.info.prior_offset
+            self.now.current.now (length out.old) in
             (out.new ≡ over (bits_of v) out.old) × (result ≡ not_finite v)) }
     {
         write_vector(self.record.info.prior_offset, self.current, out)
@@ -138,8 +141,10 @@ impl Stream<'_> {
     // estimate. It returns how many likelihoods were NaN. A fetch of `n` numbers is taken.
     fn bring_in(&mut self, frame: usize, tables: LentTables<'_>, n: usize) -> usize
         requires { (fetch_of self.old (tables_in tables) frame n).refusal ≡ 0 }
-        ensures record { record_of self.new ≡ (fetch_of self.old (tables_in tables.entry) frame n).stream }
-        ensures rooms { rooms_of self.new ≡ (fetch_of self.old (tables_in tables.entry) frame n).rooms }
+        ensures record { record_of self.new
+            ≡ (fetch_of self.old (tables_in tables.entry) frame n).stream }
+        ensures rooms { rooms_of self.new
+            ≡ (fetch_of self.old (tables_in tables.entry) frame n).rooms }
         ensures nans { result ≡ (fetch_of self.old (tables_in tables.entry) frame n).nans }
         ensures loans { SameRooms self.old self.new }
     {
@@ -214,7 +219,8 @@ impl Stream<'_> {
         out: &mut [u32],
     ) -> Result<Fetched, Refusal>
         ensures call { after_fetch result self.new out.new
-            ≡ fetched_by self.old out.old (fetch_of self.old (tables_in tables.entry) frame (length out.old)) }
+            ≡ fetched_by self.old out.old
+            (fetch_of self.old (tables_in tables.entry) frame (length out.old)) }
         ensures scratch { ((fetch_of self.old (tables_in tables.entry) frame (length out.old)).refusal ≡ 0 → ⊥)
             → self.new.scratch.now ≡ self.old.scratch.now }
         ensures few { Few result self.new }

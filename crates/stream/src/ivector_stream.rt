@@ -152,8 +152,8 @@ impl Stream<'_> {
         Ok(())
     }
 
-    /// Adds `delta_weights` to the weights of `delta_frames`. The changes wait until a fetch reaches
-    /// their frames. From the first such call on, even an empty one, fetches are weighted.
+    /// Adds `delta_weights` to the weights of `delta_frames`. The changes wait until a fetch
+    /// reaches their frames. From the first such call on, even an empty one, fetches are weighted.
     ///
     /// # Errors
     ///
@@ -166,7 +166,9 @@ impl Stream<'_> {
     ///   forgotten.
     /// - `WaitingFull` (19): no place for that many.
     pub fn change(&mut self, delta_frames: &[usize], delta_weights: &[f32]) -> Result<(), Refusal>
-        ensures call { after result self.new ≡ done_by self.old (λ s z. update_frame_weights s z delta_frames.now delta_weights.now) }
+        ensures call { after result self.new
+            ≡ done_by self.old
+            (λ s z. update_frame_weights s z delta_frames.now delta_weights.now) }
         ensures few { Few result self.new }
         ensures rest { Rest self.old self.new }
     {
@@ -188,8 +190,10 @@ impl Stream<'_> {
     // The lowest of `low` and of the frames that changes wait for.
     fn lowest_waiting(&self, low: usize) -> usize
         requires within { self.now.record.now.waiting ≤ length self.now.waiting_frames.now }
-        requires order { rising 0 (take self.now.record.now.waiting self.now.waiting_frames.now) ≡ true }
-        ensures { result ≡ foldl min low (take self.now.record.now.waiting self.now.waiting_frames.now) }
+        requires order { rising 0 (take self.now.record.now.waiting self.now.waiting_frames.now)
+            ≡ true }
+        ensures { result
+            ≡ foldl min low (take self.now.record.now.waiting self.now.waiting_frames.now) }
     {
         lowest(low, &self.waiting_frames[..self.record.waiting])
     }

@@ -50,11 +50,15 @@ fn update_batch(
     rooms: &mut GaussianRooms<'_>,
 ) -> Update
     requires some { 0 < places_of batch.now.intake }
-    requires solvable { Solvable batch.now (estimate_from cmvn_stats.old linear.old quadratic.old current.old) (length scratch.old) }
+    requires solvable { Solvable batch.now
+        (estimate_from cmvn_stats.old linear.old quadratic.old current.old) (length scratch.old) }
     requires rooms { RoomsFit batch.now.info.dims.num_gauss rooms.old }
-    ensures learnt { learnt result.num_frames (estimate_from cmvn_stats.new linear.new quadratic.new current.new)
-        ≡ updated (model_of batch.now) (frames_of batch.now) (whole_of batch.now) (learnt num_frames (estimate_from cmvn_stats.old linear.old quadratic.old current.old)) }
-    ensures nans { result.nans ≡ nans_over (model_of batch.now) (frames_of batch.now) (whole_of batch.now) cmvn_stats.old }
+    ensures learnt { learnt result.num_frames
+        (estimate_from cmvn_stats.new linear.new quadratic.new current.new)
+        ≡ updated (model_of batch.now) (frames_of batch.now) (whole_of batch.now)
+        (learnt num_frames (estimate_from cmvn_stats.old linear.old quadratic.old current.old)) }
+    ensures nans { result.nans
+        ≡ nans_over (model_of batch.now) (frames_of batch.now) (whole_of batch.now) cmvn_stats.old }
     ensures loans { SameRooms rooms.old rooms.new }
 {
     let mut likes = LikeRooms {
@@ -100,10 +104,14 @@ pub fn update_stats_until(
     current: &mut [f64],
     scratch: &mut [f64],
 ) -> Update
-    requires { Solvable batch.now (estimate_from cmvn_stats.old linear.old quadratic.old current.old) (length scratch.old) }
-    ensures learnt { learnt result.num_frames (estimate_from cmvn_stats.new linear.new quadratic.new current.new)
-        ≡ updated (model_of batch.now) (frames_of batch.now) (whole_of batch.now) (learnt num_frames (estimate_from cmvn_stats.old linear.old quadratic.old current.old)) }
-    ensures nans { result.nans ≡ nans_over (model_of batch.now) (frames_of batch.now) (whole_of batch.now) cmvn_stats.old }
+    requires { Solvable batch.now
+        (estimate_from cmvn_stats.old linear.old quadratic.old current.old) (length scratch.old) }
+    ensures learnt { learnt result.num_frames
+        (estimate_from cmvn_stats.new linear.new quadratic.new current.new)
+        ≡ updated (model_of batch.now) (frames_of batch.now) (whole_of batch.now)
+        (learnt num_frames (estimate_from cmvn_stats.old linear.old quadratic.old current.old)) }
+    ensures nans { result.nans
+        ≡ nans_over (model_of batch.now) (frames_of batch.now) (whole_of batch.now) cmvn_stats.old }
 {
     let g = batch.info.dims.num_gauss;
     if batch.intake.places() == 0 {
@@ -154,7 +162,8 @@ pub fn update_stats_until(
 fn kept<'a>(info: IvectorInfo, tables: LentTables<'a>) -> LentTables<'a>
     requires sound { record_sound info ≡ true }
     requires fit { tables_fit info.opts info.dims (table_lengths_of (tables_in tables)) ≡ true }
-    ensures { tables_in result ≡ kept_tables (table_sizes info.opts info.dims) (tables_in tables.entry) }
+    ensures { tables_in result
+        ≡ kept_tables (table_sizes info.opts info.dims) (tables_in tables.entry) }
 {
     let o = info.opts;
     let d = info.dims;
@@ -191,13 +200,18 @@ pub fn update_rooms(
     scratch: &mut [f64],
 ) -> Update
     requires sound { record_sound info ≡ true }
-    requires tables_fit { tables_fit info.opts info.dims (table_lengths_of (tables_in tables)) ≡ true }
-    requires rooms_fit { rooms_fit info.dims (room_lengths_of (rooms_from (rings_in held intake.waiting) (estimate_from cmvn_stats.old linear.old quadratic.old current.old)) (length scratch.old)) ≡ true }
+    requires tables_fit { tables_fit info.opts info.dims (table_lengths_of (tables_in tables))
+        ≡ true }
+    requires rooms_fit { rooms_fit info.dims
+        (room_lengths_of (rooms_from (rings_in held intake.waiting)
+        (estimate_from cmvn_stats.old linear.old quadratic.old current.old)) (length scratch.old))
+        ≡ true }
     requires held { Held info.opts intake }
     ensures { (
         let M : Model = model_in info (tables_in tables.entry) in
         let z : EstimateRooms = estimate_from cmvn_stats.old linear.old quadratic.old current.old in
-        let F : Frames = ring_frames info.dims.base_dim intake.entry.accepted held.entry.frames.now held.entry.rows.now in
+        let F : Frames = ring_frames info.dims.base_dim intake.entry.accepted held.entry.frames.now
+        held.entry.rows.now in
         let bs : Batch = batch_in info.opts intake.entry in
         let e : Estimate = updated M F bs (estimate_at info.dims num_frames z) in
         (result.num_frames ≡ e.stats.num_frames)

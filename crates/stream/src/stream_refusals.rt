@@ -72,7 +72,8 @@ fn push_tests(
     frame: &[f32],
 ) -> Result<(), Refusal>
     requires { (0 < d.base_dim) × (d.base_dim ≤ 64) × (accepted ≤ 1000000000) × (mark ≤ 1000000000)
-        × (frames_held accepted mark ≤ rows_in own.frames d.base_dim) × (rows_held longest accepted mark ≤ rows_in own.rows d.base_dim) }
+        × (frames_held accepted mark ≤ rows_in own.frames d.base_dim)
+        × (rows_held longest accepted mark ≤ rows_in own.rows d.base_dim) }
     ensures { refused_by result ≡ first_of (push_tests d own longest accepted mark frame.now) }
 {
     need(frame.len() == d.base_dim, Refusal::FrameLength)?;
@@ -99,9 +100,13 @@ fn put_frame(frames: &mut [f32], a: usize, frame: &[f32])
 // Adds a frame to the prefix row at `last`, into the row at `next`. The frame is finite: so the
 // cast needs no test for a NaN.
 fn add_frame(rows: &mut [f64], last: usize, next: usize, frame: &[f32])
-    requires { (last + length frame.now ≤ length rows.old) × (next + length frame.now ≤ length rows.old)
-        × ((last + length frame.now ≤ next) ⊎ (next + length frame.now ≤ last)) × (any_of (λ v. not (finite v)) frame.now ≡ false) }
-    ensures { rows.new ≡ put next (build (length frame.now) (λ d. at rows.old (last + d) +₆₄ at frame.now d)) rows.old }
+    requires { (last + length frame.now ≤ length rows.old)
+        × (next + length frame.now ≤ length rows.old)
+        × ((last + length frame.now ≤ next) ⊎ (next + length frame.now ≤ last))
+        × (any_of (λ v. not (finite v)) frame.now ≡ false) }
+    ensures { rows.new
+        ≡ put next (build (length frame.now) (λ d. at rows.old (last + d) +₆₄ at frame.now d))
+        rows.old }
 {
     // by index: reads and writes one slice
     for d in 0..frame.len() {
@@ -111,12 +116,15 @@ fn add_frame(rows: &mut [f64], last: usize, next: usize, frame: &[f32])
 
 /// Stores a frame at its place of the ring, and its prefix row behind the last one.
 pub fn store_frame(frames: &mut [f32], rows: &mut [f64], accepted: usize, frame: &[f32])
-    requires { (0 < length frame.now) × (length frame.now ≤ 64) × (accepted ≤ 1000000000) × (0 < rows_in (length frames.old) (length frame.now))
-        × (2 ≤ rows_in (length rows.old) (length frame.now)) × (any_of (λ v. not (finite v)) frame.now ≡ false) }
+    requires { (0 < length frame.now) × (length frame.now ≤ 64) × (accepted ≤ 1000000000)
+        × (0 < rows_in (length frames.old) (length frame.now))
+        × (2 ≤ rows_in (length rows.old) (length frame.now))
+        × (any_of (λ v. not (finite v)) frame.now ≡ false) }
     ensures { (
         let x : List Float = frame.now in
         (frames.new ≡ put (place (length frames.old) (length x) accepted) x frames.old)
-        × (rows.new ≡ put (place (length rows.old) (length x) (accepted + 1)) (build (length x) (λ d. ring_at (length x) rows.old accepted d +₆₄ at x d)) rows.old)) }
+        × (rows.new ≡ put (place (length rows.old) (length x) (accepted + 1))
+        (build (length x) (λ d. ring_at (length x) rows.old accepted d +₆₄ at x d)) rows.old)) }
 {
     let dim = frame.len();
     let a = basics::ring_place(frames.len(), dim, accepted);
@@ -156,12 +164,13 @@ fn has_places(own: RingLengths, waiting: usize, n: usize) -> bool
 // ---- what the calls refuse
 
 impl Stream<'_> {
-    /// `ForeignRecord`, which every call asks: the rings have other lengths than the record states, or
-    /// no call made the record.
+    /// `ForeignRecord`, which every call asks: the rings have other lengths than the record states,
+    /// or no call made the record.
     #[inline(always)]
     #[tactic(auto, unfolding(loops::specs::Refusal::first_of, definition::specs::Stream::same_rings))]
     pub fn plain_refusal(&self) -> Result<(), Refusal>
-        ensures { refused_by result ≡ first_of (record_tests (record_of self.now) (rings_of self.now)) }
+        ensures { refused_by result
+            ≡ first_of (record_tests (record_of self.now) (rings_of self.now)) }
     {
         let lent = RingLengths {
             frames: self.frames.len(),
@@ -180,7 +189,8 @@ impl Stream<'_> {
     #[inline(always)]
     #[tactic(auto, unfolding(loops::specs::Refusal::first_of, program::specs::Calls::push_frame))]
     pub fn push_refusal(&self, frame: &[f32]) -> Result<(), Refusal>
-        ensures { refused_by result ≡ (push_frame (record_of self.now) (rings_of self.now) frame.now).refusal }
+        ensures { refused_by result
+            ≡ (push_frame (record_of self.now) (rings_of self.now) frame.now).refusal }
     {
         self.plain_refusal()?;
         push_tests(
@@ -201,7 +211,8 @@ impl Stream<'_> {
         delta_weights: &[f32],
     ) -> Result<(), Refusal>
         ensures { refused_by result
-            ≡ (update_frame_weights (record_of self.now) (rings_of self.now) delta_frames.now delta_weights.now).refusal }
+            ≡ (update_frame_weights (record_of self.now) (rings_of self.now)
+            delta_frames.now delta_weights.now).refusal }
     {
         self.plain_refusal()?;
         need(
@@ -237,7 +248,8 @@ impl Stream<'_> {
     /// What a new window refuses.
     #[tactic(auto, unfolding(loops::specs::Refusal::first_of, program::specs::Calls::set_cmn_window, definition::specs::Machine::window_tests))]
     pub fn window_refusal(&self, window: usize) -> Result<(), Refusal>
-        ensures { refused_by result ≡ (set_cmn_window (record_of self.now) (rings_of self.now) window).refusal }
+        ensures { refused_by result
+            ≡ (set_cmn_window (record_of self.now) (rings_of self.now) window).refusal }
     {
         self.plain_refusal()?;
         need(limits::window_in_range(window), Refusal::WindowRange)?;

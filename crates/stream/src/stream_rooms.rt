@@ -16,8 +16,8 @@ use definition::{EstimateLengths, IvectorStream, RingLengths, RoomLengths};
 pub struct Stream<'a> {
     /// What the stream is at: the model's numbers, the rooms' lengths, how far its calls have come.
     pub record: &'a mut IvectorStream,
-    /// A ring of frames, `base_dim` numbers each: frame t has place t mod F, F being how many it has
-    /// room for.
+    /// A ring of frames, `base_dim` numbers each: frame t has place t mod F, F being how many it
+    /// has room for.
     pub frames: &'a mut [f32],
     /// A ring of prefix rows, `base_dim` numbers each: row t is the sum of the frames before t.
     pub rows: &'a mut [f64],

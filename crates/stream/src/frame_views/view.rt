@@ -19,7 +19,8 @@ pub struct StreamView<'a> {
     pub rows: &'a [f64],
     pub ghost some: { (0 < dim) × (dim ≤ 64) },
     pub ghost contexts: { (options.left_context ≤ 8) × (options.right_context ≤ 8) },
-    pub ghost rooms: { (0 < rows_in (length frames.now) dim) × (0 < rows_in (length rows.now) dim) },
+    pub ghost rooms: { (0 < rows_in (length frames.now) dim)
+        × (0 < rows_in (length rows.now) dim) },
     pub ghost global_long: { dim + 1 ≤ length global.now },
     pub ghost few: { accepted ≤ 1000000000 },
 }

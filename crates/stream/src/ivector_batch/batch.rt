@@ -17,6 +17,7 @@ pub struct FetchBatch<'a> {
     pub held: LentFrames<'a>,
     pub intake: Intake<'a>,
     pub ghost ready: { Ready info (tables_in tables) },
-    pub ghost rooms: { (0 < rows_in (length held.frames.now) info.dims.base_dim) × (0 < rows_in (length held.rows.now) info.dims.base_dim) },
+    pub ghost rooms: { (0 < rows_in (length held.frames.now) info.dims.base_dim)
+        × (0 < rows_in (length held.rows.now) info.dims.base_dim) },
     pub ghost brought: { Held info.opts intake },
 }

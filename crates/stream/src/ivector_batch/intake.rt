@@ -69,7 +69,8 @@ impl Intake<'_> {
         ensures frame { result.frame ≡ frame_in self.now j }
         ensures further { j < result.end }
         ensures within { result.end ≤ places }
-        ensures left { left_of o self.now places j ≡ (result.frame, result.weight) ∷ left_of o self.now places result.end }
+        ensures left { left_of o self.now places j
+            ≡ (result.frame, result.weight) ∷ left_of o self.now places result.end }
         ensures log { Logged result.weight result.ln }
     {
         if self.called {

@@ -1,14 +1,13 @@
 -- `bring_in` meets its contract: a frame that is in the statistics already changes nothing (`stream_same`, `rooms_same`, `nans_same`); for another `in_force` puts the window in, `up_to`
 -- counts the changes, `update_rooms` does the work and `remove_first` drops the changes that it used (`stream_up`, `rooms_up`, `nans_up`). The laws are those of FetchSteps.antt.
-use mathlib.Core.Path.{◌≡◌, refl}
-use Prim.Native.Nat.{ℕ}
+use mathlib.Core.Path.{refl}
 use native.Mathlib.Omega.{arith}
 use lib.ListN.{length}
 use Rattle.definition.specs.declared.IvectorStream.{IvectorStream}
 use Rattle.definition.specs.Model.{Tables, table_lengths_of}
 use Rattle.definition.specs.Lent.{tables_in}
-use Rattle.program.specs.Rooms.{Rooms, room_lengths_of}
-use Rattle.program.specs.Calls.{get_frame, fetch_refusal}
+use Rattle.program.specs.Rooms.{Rooms}
+use Rattle.program.specs.Calls.{get_frame}
 use Rattle.stream.specs.Stream.{record_of, rooms_of}
 use Rattle.stream.proofs.FetchRefusals.{FetchTaken, fetch_taken, record_is, tables_fit_is, rooms_fit_is}
 use Rattle.stream.proofs.FetchSteps.{asked, counted, frames_in_is, weights_in, early_at, few_frames, stream_up, rooms_up, nans_up, stream_same, rooms_same, nans_same}

@@ -1,16 +1,14 @@
 -- `fetch` meets its contract: refused, all is as it was; taken, the record and the rooms are those that `bring_in` leaves, and the vector is of the current one there.
 use mathlib.Core.Path.{◌≡◌, refl, sym, ap, ◌∙◌}
-use Prim.Native.Nat.{ℕ}
 use Rattle.std.proofs.lemmas.Result.{err_from_is_err_and}
 use native.Mathlib.Omega.{arith}
 use lib.ListN.{length}
-use Rattle.definition.specs.declared.IvectorStream.{IvectorStream}
-use Rattle.definition.specs.Model.{Tables, table_lengths_of}
+use Rattle.definition.specs.Model.{table_lengths_of}
 use Rattle.definition.specs.Lent.{tables_in}
 use Rattle.definition.specs.Number.{refused_by}
 use Rattle.definition.proofs.Ranges.{fitting}
-use Rattle.program.specs.Rooms.{Rooms, room_lengths_of}
-use Rattle.program.specs.Calls.{get_frame, fetch_refusal, fetch_stream, call_of}
+use Rattle.program.specs.Rooms.{room_lengths_of}
+use Rattle.program.specs.Calls.{get_frame, fetch_refusal, call_of}
 use Rattle.stream.specs.Stream.{record_of, rooms_of}
 use Rattle.stream.proofs.FetchRefusals.{FetchTaken, fetch_taken, fetch_few, rooms_fit_is}
 use Rattle.stream.proofs.FetchSteps.{asked, current_long, still_few, fetch_made, prior_is}

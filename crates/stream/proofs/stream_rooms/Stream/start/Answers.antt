@@ -1,6 +1,6 @@
 -- `start` meets its contract: refused, all is as it was; taken, the record is the fresh one and each room has its first values.
 -- Once it is taken the rooms have the lengths that the functions below require.
-use mathlib.Core.Path.{refl, sym, ap₂, ◌∙◌}
+use mathlib.Core.Path.{refl, ap₂}
 use native.Mathlib.Omega.{arith}
 use Rattle.program.specs.Calls.{fresh_stream, fresh_rooms}
 use Rattle.program.specs.Session.{program}
