@@ -8,11 +8,10 @@ use lib.ListN.{length, get_or, drop, replicate, drop_of_length-le}
 use lib.Ieee.{Float}
 use Rattle.loops.proofs.Build.{length_build, at_build}
 use Rattle.loops.proofs.Parts.{drop_next}
-use Rattle.definition.specs.declared.StreamCall.{StreamCall}
+use Rattle.definition.specs.declared.StreamAnswer.{StreamAnswer}
 use Rattle.definition.specs.Model.{Tables}
 use Rattle.definition.specs.Machine.{Call, finish}
-use Rattle.program.specs.Rooms.{Rooms}
-use Rattle.program.specs.Session.{Program, program, stepped, step_of, reply, program_after, program_answers}
+use Rattle.program.specs.Session.{Program, stepped, step_of, reply, program_after, program_answers}
 use Rattle.lists.specs.Turns.{decoded, Turned}
 use Rattle.lists.specs.declared.run_calls.CodedCall.{CodedCall}
 use Rattle.lists.specs.Draws.{draw, Drawing, drawing, call_in, drawing_at, drawn_calls}
@@ -77,27 +76,27 @@ module _ (dim seed times : ℕ) (t : Tables) (p₀ : Program) (n : ℕ) (s₀ : 
   pub going_first : (q : Place) → Placed dim seed 0 q → ((k : ℕ) → get_or s₀.calls k 0 ≤ 0) → ((k : ℕ) → get_or s₀.refusals k 0 ≤ 0) → Going 0 p₀ q s₀
   going_first q h a b = record { placed = h; calls_few = a; refusals_few = b; same = refl; there = refl }
 
-  module _ (i : ℕ) (p : Program) (q q' : Place) (s s' : Tally) (k : CodedCall) (lists : List ℕ) (samples : List Float) (outs outs' : List ℕ) (r : StreamCall) (y : Rooms) where
+  module _ (i : ℕ) (p : Program) (q q' : Place) (s s' : Tally) (k : CodedCall) (lists : List ℕ) (samples : List Float) (outs outs' : List ℕ) (a : StreamAnswer) (p' : Program) where
     -- a turn, over scratch that is as long as it was
     pub going_again : {m : ℕ} → Going i p q s → i < times → m ≡ n → decoded k lists samples 1 ≡ call_in dim (drawing q.state q.pushes) → k.kind ≡ draw q.state % 5
-        → length outs ≡ 1 → Turned t m p (decoded k lists samples (length outs)) k.b outs r y outs' → s' ≡ noted s k.kind r.answer
-        → Placed dim seed (i + 1) q' → Going (i + 1) (program r.stream y) q' s'
+        → length outs ≡ 1 → Turned t m p (decoded k lists samples (length outs)) k.b outs a p' outs' → s' ≡ noted s k.kind a
+        → Placed dim seed (i + 1) q' → Going (i + 1) p' q' s'
     going_again {m} l h same e f one_out u tallied-on Placed-on =
         let d : Drawing = drawing_at dim seed i in
         let c : Call = call_in dim d in
         let rest_is : drop i cs ≡ c ∷ drop (i + 1) cs = drawn_next dim seed times i h in
         let c-is : decoded k lists samples (length outs) ≡ c =
         ap (decoded k lists samples) one_out ∙ e ∙ ap₂ (λ (a b : ℕ). call_in dim (drawing a b)) l.placed.state_is l.placed.pushes_are in
-        let next : stepped p (step_of t n p c) ≡ program r.stream y =
+        let next : stepped p (step_of t n p c) ≡ p' =
         ap₂ (λ (j : ℕ) (c : Call). stepped p (step_of t j p c)) (sym same) (sym c-is) ∙ u.step in
-        let told : (reply p (step_of t n p c)).told ≡ r.answer =
+        let told : (reply p (step_of t n p c)).told ≡ a =
         ap₂ (λ (j : ℕ) (c : Call). (reply p (step_of t j p c)).told) (sym same) (sym c-is) ∙ u.told_is in
         let kind-is : k.kind ≡ kind_of c = f ∙ ap (λ (a : ℕ). draw a % 5) l.placed.state_is ∙ sym (kind_of_drawn dim d) in
         let tally-on : s' ≡ noted s (kind_of c) (reply p (step_of t n p c)).told = tallied-on ∙ ap₂ (noted s) kind-is (sym told) in
         record {
           placed = Placed-on;
           calls_few = λ j. rw (ap (λ (s : Tally). s.calls) tallied-on) (counted-few s.calls k.kind i l.calls_few j);
-          refusals_few = λ j. rw (ap (λ (s : Tally). s.refusals) tallied-on) (counted-few s.refusals r.answer.refusal i l.refusals_few j);
+          refusals_few = λ j. rw (ap (λ (s : Tally). s.refusals) tallied-on) (counted-few s.refusals a.refusal i l.refusals_few j);
           same =
               ap₂ (λ (x : Program) (s : Tally). rest t n x (drop (i + 1) cs) s) (sym next) tally-on
               ∙ sym (ap (λ (ds : List Call). rest t n p ds s) rest_is ∙ one t n p c (drop (i + 1) cs) s)
@@ -109,12 +108,12 @@ module _ (dim seed times : ℕ) (t : Tables) (p₀ : Program) (n : ℕ) (s₀ : 
         }
 
   pub going_last : (i : ℕ) (p : Program) (q : Place) (s : Tally) → Going i p q s → times ≤ i
-      → (s ≡ tallied s₀ cs (program_answers t n p₀ cs)) × (p.rooms ≡ (program_after t n p₀ cs).rooms)
+      → (s ≡ tallied s₀ cs (program_answers t n p₀ cs)) × (p ≡ program_after t n p₀ cs)
   going_last i p q s l h =
       let past : length cs ≤ i = omega (arith, length_drawn dim seed times) in
       let d : drop i cs ≡ [] = drop_of_length-le cs past in (
         sym (ap (λ (ds : List Call). rest t n p ds s) d ∙ none t n p s) ∙ l.same,
-        ap (λ (p : Program). p.rooms) (sym (ap (program_after t n p) d ∙ none_after t n p) ∙ l.there),
+        sym (ap (program_after t n p) d ∙ none_after t n p) ∙ l.there,
       )
 
 pub zeros_few : (n k : ℕ) → get_or (replicate n 0) k 0 ≤ 0

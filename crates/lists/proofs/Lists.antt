@@ -15,7 +15,7 @@ use Rattle.definition.specs.declared.StreamAnswer.{StreamAnswer}
 use Rattle.definition.specs.declared.StreamCall.{StreamCall}
 use Rattle.definition.specs.Model.{Tables}
 use Rattle.definition.specs.Machine.{Call, finish, Answer}
-use Rattle.program.specs.Rooms.{Rings, Rooms, rooms_from}
+use Rattle.program.specs.Rooms.{Rings, EstimateRooms, Rooms, rooms_from}
 use Rattle.program.specs.Calls.{ring_call, done_on, set_cmn_window, fetch_call, fetched_on, get_frame}
 use Rattle.program.specs.Session.{Program, program, stepped, step_of, reply, program_after, program_answers}
 use Rattle.lists.specs.Listed.{part, of_kind, call_at, calls, numbers_of, Written, written, write, writes}
@@ -26,14 +26,16 @@ use Rattle.lists.proofs.Branches.{Called, called_rings, called_window, called_fe
 
 -- ---- a call as code plays it
 
-module _ (t : Tables) (n : ℕ) (p : Program) (c c' : Call) (b : ℕ) (outs : List ℕ) (r : StreamCall) (z : Rooms) (out out' : List ℕ) where
+-- a is the answer that is given for r, q the program by the record and the rooms that are left
+module _ (t : Tables) (n : ℕ) (p : Program) (c c' : Call) (b : ℕ) (outs : List ℕ) (r : StreamCall) (z : Rooms) (out out' : List ℕ) (a : StreamAnswer) (q : Program) where
   turned : {outs' : List ℕ} → c ≡ c' → Called t n p c r z out out'
       → outs' ≡ put (min b (length outs)) (reply p (step_of t n p c)).vector outs
-      → Turned t n p c' b outs r z outs'
-  turned e h g =
+      → a ≡ r.answer → q ≡ program r.stream z
+      → Turned t n p c' b outs a q outs'
+  turned e h g told left =
       record {
-        step = ap (λ (c : Call). stepped p (step_of t n p c)) (sym e) ∙ h.step;
-        told_is = ap (λ (c : Call). (reply p (step_of t n p c)).told) (sym e) ∙ h.told_is;
+        step = ap (λ (c : Call). stepped p (step_of t n p c)) (sym e) ∙ h.step ∙ sym left;
+        told_is = ap (λ (c : Call). (reply p (step_of t n p c)).told) (sym e) ∙ h.told_is ∙ sym told;
         outs_are = g ∙ ap (λ (c : Call). put (min b (length outs)) (reply p (step_of t n p c)).vector outs) e;
       }
 
@@ -52,21 +54,26 @@ module _ (k : CodedCall) (lists : List ℕ) (samples : List Float) (t : Tables) 
   unfolding decoded
   call_is p q r s = rw (p, q, r, s)
 
-  pub ring_turned : {r : StreamCall} {w : Rings} {fs : List ℕ} {x ws : List Float} → kind < 4
+  -- x' is the estimate's rooms as the call leaves them
+  pub ring_turned : {r : StreamCall} {w : Rings} {x' : EstimateRooms} {told : StreamAnswer} {fs : List ℕ} {x ws : List Float} → kind < 4
       → x ≡ part a b samples → fs ≡ part a b lists → ws ≡ part c d samples
       → ring_call r w ≡ done_on st z.rings (ring_step_of st z.rings (of_kind kind a x fs ws 0))
-      → Turned t n (program st z) this b outs r (rooms_from w z.estimate) outs
-  ring_turned {r} {w} {fs} {x} {ws} h p q v e =
+      → told ≡ r.answer → x' ≡ z.estimate
+      → Turned t n (program st z) this b outs told (program r.stream (rooms_from w x')) outs
+  ring_turned {r} {w} {x'} {told} {fs} {x} {ws} h p q v e answer-is same =
       let m : ℕ = min (c - b) (length outs - b) in
       let y : Rooms = rooms_from w z.estimate in
       let o : Call = of_kind kind a x fs ws m in
       let g : Called t n (program st z) o r y [] [] = called_rings a x fs ws t n st z kind m [] h e in
-      turned t n (program st z) o this b outs r y [] [] (call_is p q v refl) g
+      turned t n (program st z) o this b outs r y [] [] told (program r.stream (rooms_from w x')) (call_is p q v refl) g
       (put-nothing start outs ∙ ap (λ (v : List ℕ). put start v outs) (sym (over_nothing _ g.output_is)))
+      answer-is (ap (λ (x : EstimateRooms). program r.stream (rooms_from w x)) same)
 
-  pub window_turned : {r : StreamCall} {w : Rings} → kind ≡ 5 → ring_call r w ≡ done_on st z.rings (set_cmn_window st z.rings a)
-      → Turned t n (program st z) this b outs r (rooms_from w z.estimate) outs
-  window_turned {r} {w} h e =
+  pub window_turned : {r : StreamCall} {w : Rings} {x' : EstimateRooms} {told : StreamAnswer}
+      → kind ≡ 5 → ring_call r w ≡ done_on st z.rings (set_cmn_window st z.rings a)
+      → told ≡ r.answer → x' ≡ z.estimate
+      → Turned t n (program st z) this b outs told (program r.stream (rooms_from w x')) outs
+  window_turned {r} {w} {x'} {told} h e answer-is same =
       let m : ℕ = min (c - b) (length outs - b) in
       let y : Rooms = rooms_from w z.estimate in
       let x : List Float = part a b samples in
@@ -74,15 +81,17 @@ module _ (k : CodedCall) (lists : List ℕ) (samples : List Float) (t : Tables) 
       let ws : List Float = part c d samples in
       let o : Call = of_kind kind a x fs ws m in
       let g : Called t n (program st z) o r y [] [] = called_window a x fs ws t n st z kind m [] h e in
-      turned t n (program st z) o this b outs r y [] [] (call_is refl refl refl refl) g
+      turned t n (program st z) o this b outs r y [] [] told (program r.stream (rooms_from w x')) (call_is refl refl refl refl) g
       (put-nothing start outs ∙ ap (λ (v : List ℕ). put start v outs) (sym (over_nothing _ g.output_is)))
+      answer-is (ap (λ (x : EstimateRooms). program r.stream (rooms_from w x)) same)
 
-  pub fetch_turned : (from count : ℕ) {r : StreamCall} {y : Rooms} {out : List ℕ} → let lent = take (from + count - from) (drop from outs) in
+  pub fetch_turned : (from count : ℕ) {r : StreamCall} {y : Rooms} {told : StreamAnswer} {out : List ℕ} → let lent = take (from + count - from) (drop from outs) in
       4 ≤ kind → (kind ≡ 5 → ⊥) → from ≡ start → count ≡ min (c - b) (length outs - from)
       → length out ≡ length lent
       → fetch_call r y out ≡ fetched_on st z lent (get_frame st t z n a (length lent))
-      → Turned t n (program st z) this b outs r y (take from outs ++ (out ++ drop (from + count - from) (drop from outs)))
-  fetch_turned from count {r} {y} {out} h h' f e l q =
+      → told ≡ r.answer
+      → Turned t n (program st z) this b outs told (program r.stream y) (take from outs ++ (out ++ drop (from + count - from) (drop from outs)))
+  fetch_turned from count {r} {y} {told} {out} h h' f e l q answer-is =
       let lent : List ℕ = take (from + count - from) (drop from outs) in
       let o : Call = of_kind kind a (part a b samples) (part a b lists) (part c d samples) (length lent) in
       let w : Called t n (program st z) o r y lent out = called_fetch a (part a b samples) (part a b lists) (part c d samples) t n st z kind lent h h' q in
@@ -90,8 +99,9 @@ module _ (k : CodedCall) (lists : List ℕ) (samples : List Float) (t : Tables) 
       let here : from + count - from ≡ count = omega arith in
       let long : length lent ≡ min (c - b) (length outs - b) =
       length-take-le (from + count - from) (drop from outs) (omega (arith, e, length-drop from outs)) ∙ here ∙ cut_length b c (length outs) from f e in
-      turned t n (program st z) o this b outs r y lent out (call_is refl refl refl long) w
+      turned t n (program st z) o this b outs r y lent out told (program r.stream y) (call_is refl refl refl long) w
       (lent_back from (from + count - from) v outs l w.output_is ∙ ap (λ (j : ℕ). put j v outs) f)
+      answer-is refl
 
 -- ---- call i, and its answer written
 
@@ -100,19 +110,19 @@ module _ (kinds numbers lists : List ℕ) (samples : List Float) (i : ℕ) (t : 
   unfolding decoded call_at
   call_at_is e = ap (λ (k : CodedCall). decoded k lists samples (length o.outs)) e
 
-  module _ {k : CodedCall} (e : k ≡ coded_at kinds numbers i) {r : StreamCall} {y : Rooms} {outs' : List ℕ}
-      (u : Turned t n p (decoded k lists samples (length o.outs)) k.b o.outs r y outs') where
+  module _ {k : CodedCall} (e : k ≡ coded_at kinds numbers i) {a : StreamAnswer} {q : Program} {outs' : List ℕ}
+      (u : Turned t n p (decoded k lists samples (length o.outs)) k.b o.outs a q outs') where
     abbrev done : Call → Answer
     done c = reply p (step_of t n p c)
 
-    step_on : stepped p (step_of t n p (call_at kinds numbers lists samples (length o.outs) i)) ≡ program r.stream y
+    step_on : stepped p (step_of t n p (call_at kinds numbers lists samples (length o.outs) i)) ≡ q
     step_on = ap (λ (c : Call). stepped p (step_of t n p c)) (sym (call_at_is e)) ∙ u.step
 
-    wrote_on : {answers' : List ℕ} → answers' ≡ put (i * 5) (numbers_of r.answer) o.answers
+    wrote_on : {answers' : List ℕ} → answers' ≡ put (i * 5) (numbers_of a) o.answers
         → written answers' outs' ≡ write numbers i (done (call_at kinds numbers lists samples (length o.outs) i)) o
     unfolding write
-    wrote_on a =
-        ap₂ written (a ∙ ap (λ (x : StreamAnswer). put (i * 5) (numbers_of x) o.answers) (sym u.told_is)) u.outs_are
+    wrote_on w =
+        ap₂ written (w ∙ ap (λ (x : StreamAnswer). put (i * 5) (numbers_of x) o.answers) (sym u.told_is)) u.outs_are
         ∙ ap₂
         (λ (b : ℕ) (c : Call). written (put (i * 5) (numbers_of (done c).told) o.answers) (put (min b (length o.outs)) (done c).vector o.outs))
         (ap (λ (k : CodedCall). k.b) e) (call_at_is e)
@@ -167,19 +177,19 @@ module _ (kinds numbers lists : List ℕ) (samples : List Float) (t : Tables) (n
     pub same : rest t n numbers i p (drop i cs) o ≡ rest t n numbers 0 p₀ cs o₀
     pub there : program_after t n p (drop i cs) ≡ program_after t n p₀ cs
 
-  module _ (i : ℕ) (p : Program) (o : Written) {k : CodedCall} {r : StreamCall} {y : Rooms} {outs' answers' : List ℕ} where
+  module _ (i : ℕ) (p : Program) (o : Written) {k : CodedCall} {a : StreamAnswer} {q : Program} {outs' answers' : List ℕ} where
     -- a turn, over scratch and outputs that are as long as they were
     pub left_again : {m : ℕ} → Left i p o → i < length kinds → m ≡ n → length o.outs ≡ length o₀.outs → k ≡ coded_at kinds numbers i
-        → Turned t m p (decoded k lists samples (length o.outs)) k.b o.outs r y outs' → answers' ≡ put (i * 5) (numbers_of r.answer) o.answers
-        → Left (i + 1) (program r.stream y) (written answers' outs')
-    left_again {m} l h same long e u a =
+        → Turned t m p (decoded k lists samples (length o.outs)) k.b o.outs a q outs' → answers' ≡ put (i * 5) (numbers_of a) o.answers
+        → Left (i + 1) q (written answers' outs')
+    left_again {m} l h same long e u w =
         let c : Call = call_at kinds numbers lists samples (length o₀.outs) i in
         let d : drop i cs ≡ c ∷ drop (i + 1) cs = calls_next kinds numbers lists samples (length o₀.outs) i h in
         let c-is : call_at kinds numbers lists samples (length o.outs) i ≡ c = ap (λ (j : ℕ). call_at kinds numbers lists samples j i) long in
-        let next : stepped p (step_of t n p c) ≡ program r.stream y =
+        let next : stepped p (step_of t n p c) ≡ q =
         ap₂ (λ (j : ℕ) (c : Call). stepped p (step_of t j p c)) (sym same) (sym c-is) ∙ step_on kinds numbers lists samples i t m p o e u in
         let wrote : written answers' outs' ≡ write numbers i (reply p (step_of t n p c)) o =
-        wrote_on kinds numbers lists samples i t m p o e u a ∙ ap₂ (λ (j : ℕ) (c : Call). write numbers i (reply p (step_of t j p c)) o) same c-is in
+        wrote_on kinds numbers lists samples i t m p o e u w ∙ ap₂ (λ (j : ℕ) (c : Call). write numbers i (reply p (step_of t j p c)) o) same c-is in
         record {
           same =
               ap₂ (λ (q : Program) (o : Written). rest t n numbers (i + 1) q (drop (i + 1) cs) o) (sym next) wrote
@@ -192,10 +202,10 @@ module _ (kinds numbers lists : List ℕ) (samples : List Float) (t : Tables) (n
         }
 
   pub left_last : (i : ℕ) (p : Program) (o : Written) → Left i p o → length kinds ≤ i
-      → (o ≡ rest t n numbers 0 p₀ cs o₀) × (p.rooms ≡ (program_after t n p₀ cs).rooms)
+      → (o ≡ rest t n numbers 0 p₀ cs o₀) × (p ≡ program_after t n p₀ cs)
   left_last i p o l h =
       let past : length cs ≤ i = omega (arith, length_calls kinds numbers lists samples (length o₀.outs)) in
       let d : drop i cs ≡ [] = drop_of_length-le cs past in (
         sym (ap (λ (ds : List Call). rest t n numbers i p ds o) d ∙ none t n numbers i p o) ∙ l.same,
-        ap (λ (p : Program). p.rooms) (sym (ap (program_after t n p) d ∙ none_after t n numbers p) ∙ l.there),
+        sym (ap (program_after t n p) d ∙ none_after t n numbers p) ∙ l.there,
       )

@@ -2,12 +2,12 @@
 use Rattle.std.specs.Prelude.{◌≡◌, List, ℕ, ◌≤◌, ◌+◌, ◌-◌, ◌*◌, min, length, get_or, Float}
 use Rattle.loops.specs.Ring.{put}
 use Rattle.definition.specs.declared.IvectorStream.{IvectorStream}
-use Rattle.definition.specs.declared.StreamCall.{StreamCall}
+use Rattle.definition.specs.declared.StreamAnswer.{StreamAnswer}
 use Rattle.definition.specs.Model.{Tables}
 use Rattle.definition.specs.Machine.{Call, push, finish, change, forget, set_window, fetch}
-use Rattle.program.specs.Rooms.{Rings, Rooms}
+use Rattle.program.specs.Rooms.{Rings}
 use Rattle.program.specs.Calls.{RingStep, push_frame, set_input_finished, update_frame_weights, forget_before, set_cmn_window}
-use Rattle.program.specs.Session.{Program, program, stepped, step_of, reply}
+use Rattle.program.specs.Session.{Program, stepped, step_of, reply}
 use Rattle.lists.specs.Listed.{part, of_kind}
 use Rattle.lists.specs.declared.run_calls.CodedCall.{CodedCall}
 use Rattle.lists.specs.declared.run_calls.Kind.{Kind}
@@ -46,8 +46,8 @@ unfoldable pub decoded : CodedCall → List ℕ → List Float → ℕ → Call
 decoded k lists samples n =
     of_kind k.kind k.a (part k.a k.b samples) (part k.a k.b lists) (part k.c k.d samples) (min (k.c - k.b) (n - k.b))
 
--- call c of program p, played: what it returns, the rooms, and the outputs with its vector from b on
-pub record Turned (t : Tables) (n : ℕ) (p : Program) (c : Call) (b : ℕ) (outs : List ℕ) (r : StreamCall) (y : Rooms) (outs' : List ℕ) : Type 0 where
-  pub step : stepped p (step_of t n p c) ≡ program r.stream y
-  pub told_is : (reply p (step_of t n p c)).told ≡ r.answer
+-- call c of program p, played: its answer a, the program afterwards, and the outputs with its vector from b on
+pub record Turned (t : Tables) (n : ℕ) (p : Program) (c : Call) (b : ℕ) (outs : List ℕ) (a : StreamAnswer) (q : Program) (outs' : List ℕ) : Type 0 where
+  pub step : stepped p (step_of t n p c) ≡ q
+  pub told_is : (reply p (step_of t n p c)).told ≡ a
   pub outs_are : outs' ≡ put (min b (length outs)) (reply p (step_of t n p c)).vector outs

@@ -3,23 +3,20 @@
 
 ghost use Rattle.std.specs.Prelude.{◌≡◌, List, ℕ, IfErr, ◌+◌, ◌*◌, ◌≤◌, ◌<◌, length};
 ghost use Rattle.loops.specs.Refusal.{taken};
-ghost use Rattle.definition.specs.Lent.{tables_in, SameRings, SameWaiting, SameEstimate};
+ghost use Rattle.definition.specs.Lent.{tables_in};
 ghost use Rattle.definition.specs.Number.{number_of as refusal_number, refused_by};
 ghost use Rattle.definition.specs.Model.{Tables, model_in};
 ghost use Rattle.definition.specs.Machine as M;
 ghost use Rattle.definition.specs.Machine.{Call};
-ghost use Rattle.program.specs.Lent.{estimate_of, rooms_of};
-ghost use Rattle.program.specs.Rooms.{rings_from, Rooms, rooms_from, ring_lengths_of, room_lengths_of};
-ghost use Rattle.program.specs.Calls.{fresh_stream, fresh_rooms};
-ghost use Rattle.program.specs.Session.{program, program_after};
+ghost use Rattle.program.specs.Rooms.{Rooms, ring_lengths_of};
+ghost use Rattle.program.specs.Calls.{answer_of};
+ghost use Rattle.program.specs.Session.{program_after};
+ghost use Rattle.stream.specs.Stream.{record_of, rooms_of, program_of, fresh_program, Few, SameRooms, not_finite_in, nans_in};
 ghost use Rattle.lists.specs.Listed.{part, calls, numbers_of, Written, written, writes, run_refusal, list_refusal};
 ghost use Rattle.lists.specs.Turns.{Means, coded_at, decoded, Turned};
 
-use definition::{
-    FrameRooms, IvectorInfo, IvectorStream, LentEstimate, LentTables, Refusal, StreamAnswer,
-    StreamCall, WaitingRooms, need,
-};
-use stream::{ivector_fetch, ivector_stream};
+use definition::{IvectorInfo, LentTables, Refusal, StreamAnswer, need};
+use stream::{Fetched, Stream};
 
 /// What a call does.
 #[derive(Clone, Copy, Debug, PartialEq, Eq)]
@@ -109,54 +106,70 @@ fn numbers_of(a: StreamAnswer) -> [usize; 5]
     ]
 }
 
-/// Plays one call of a list on a stream. The vector of a fetch goes to places `b` to before `c` of
-/// `outs`, cut at their end.
+// The answer of a call that gives no vector.
+fn answered(taken: Result<(), Refusal>, stream: &Stream<'_>) -> StreamAnswer
+    requires { Few taken stream.now }
+    ensures { result ≡ answer_of (refused_by taken) (record_of stream.now) 0 0 }
+{
+    answers::answered(taken, stream.record)
+}
+
+// The answer of a fetch.
+fn fetch_answer(taken: Result<Fetched, Refusal>, stream: &Stream<'_>) -> StreamAnswer
+    requires { Few taken stream.now }
+    ensures { result ≡ answer_of (refused_by taken) (record_of stream.now) (not_finite_in taken) (nans_in taken) }
+{
+    answers::fetch_answer(taken, stream.record)
+}
+
+/// Plays one call of a list on a stream, and returns its answer. The vector of a fetch goes to
+/// places `b` to before `c` of `outs`, cut at their end.
 pub fn turn(
-    k: CodedCall,
-    s: IvectorStream,
+    call: CodedCall,
+    stream: &mut Stream<'_>,
     lists: &[usize],
     samples: &[f32],
     tables: LentTables<'_>,
-    held: &mut FrameRooms<'_>,
-    waiting: &mut WaitingRooms<'_>,
-    estimate: &mut LentEstimate<'_>,
-    scratch: &mut [f64],
     outs: &mut [u32],
-) -> StreamCall
+) -> StreamAnswer
     ensures call { (
-        let z : Rooms = rooms_of held.old waiting.old estimate.old in
-        let y : Rooms = rooms_of held.new waiting.new estimate.new in
-        let c : Call = decoded k lists.now samples.now (length outs.old) in
-        Turned (tables_in tables.entry) (length scratch.old) (program s z) c k.b outs.old result y outs.new) }
-    ensures held { SameRings held.old held.new }
-    ensures waiting { SameWaiting waiting.old waiting.new }
-    ensures estimate { SameEstimate estimate.old estimate.new }
+        let c : Call = decoded call lists.now samples.now (length outs.old) in
+        Turned (tables_in tables.entry) (length stream.old.scratch.now)
+        (program_of stream.old) c call.b outs.old result (program_of stream.new) outs.new) }
+    ensures scratch { length stream.new.scratch.now ≡ length stream.old.scratch.now }
+    ensures rooms { SameRooms stream.old stream.new }
 {
-    match Kind::from(k.kind) {
+    match Kind::from(call.kind) {
         Kind::Push => {
-            let frame = part(samples, k.a, k.b);
-            ivector_stream::push_frame(s, frame, held, waiting.lent())
+            let frame = part(samples, call.a, call.b);
+            let pushed = stream.push(frame);
+            answered(pushed, stream)
         }
-        Kind::Finish => ivector_stream::set_input_finished(s, held.lent(), waiting.lent()),
+        Kind::Finish => {
+            let finished = stream.finish();
+            answered(finished, stream)
+        }
         Kind::Change => {
-            let delta_frames = part(lists, k.a, k.b);
-            let delta_weights = part(samples, k.c, k.d);
-            ivector_stream::update_frame_weights(
-                s,
-                delta_frames,
-                delta_weights,
-                held.lent(),
-                waiting,
-            )
+            let delta_frames = part(lists, call.a, call.b);
+            let delta_weights = part(samples, call.c, call.d);
+            let changed = stream.change(delta_frames, delta_weights);
+            answered(changed, stream)
         }
-        Kind::Forget => ivector_stream::forget_before(s, k.a, held.lent(), waiting.lent()),
-        Kind::Window => ivector_stream::set_cmn_window(s, k.a, held.lent(), waiting.lent()),
+        Kind::Forget => {
+            let forgotten = stream.forget(call.a);
+            answered(forgotten, stream)
+        }
+        Kind::Window => {
+            let set = stream.set_window(call.a);
+            answered(set, stream)
+        }
         Kind::Fetch => {
             // any numbers are taken: the ends are cut to what `outs` has
-            let from = k.b.min(outs.len());
-            let count = k.c.saturating_sub(k.b).min(outs.len() - from);
+            let from = call.b.min(outs.len());
+            let count = call.c.saturating_sub(call.b).min(outs.len() - from);
             let out = &mut outs[from..from + count];
-            ivector_fetch::get_frame(s, k.a, tables, held.lent(), waiting, estimate, scratch, out)
+            let fetched = stream.fetch(call.a, tables, out);
+            fetch_answer(fetched, stream)
         }
     }
 }
@@ -181,20 +194,15 @@ fn check_list(n: usize, numbers: usize, answers: usize) -> Result<(), Refusal>
 pub fn run(
     info: IvectorInfo,
     tables: LentTables<'_>,
-    frames: &mut [f32],
-    rows: &mut [f64],
-    waiting: &mut WaitingRooms<'_>,
-    estimate: &mut LentEstimate<'_>,
-    scratch: &mut [f64],
+    stream: &mut Stream<'_>,
     list: CallList<'_>,
     answers: &mut [usize],
     outs: &mut [u32],
 ) -> Result<(), Refusal>
     ensures run { (
         let t : Tables = tables_in tables.entry in
-        let z : Rooms = rooms_from (rings_from frames.old rows.old waiting.old.frames.now waiting.old.weights.now) (estimate_of estimate.old) in
-        let y : Rooms = rooms_from (rings_from frames.new rows.new waiting.new.frames.now waiting.new.weights.now) (estimate_of estimate.new) in
-        let n : ℕ = length scratch.old in
+        let z : Rooms = rooms_of stream.old in
+        let n : ℕ = length stream.old.scratch.now in
         let l : CallList = list.entry in
         let cs : List Call = calls l.kinds.now l.numbers.now l.lists.now l.samples.now (length outs.old) in
         let o : Written = written answers.old outs.old in
@@ -202,40 +210,17 @@ pub fn run(
         (r ≡ run_refusal info t z n (length l.kinds.now) (length l.numbers.now) (length answers.old))
         × (written answers.new outs.new
         ≡ taken r (writes l.numbers.now 0 (M.answers (model_in info t) (ring_lengths_of z.rings) cs) o) o)
-        × (y ≡ taken r (program_after t n (program (fresh_stream info (room_lengths_of z n)) (fresh_rooms info z)) cs).rooms z)
-        × ((r ≡ 0 → ⊥) → scratch.new ≡ scratch.old)) }
-    ensures waiting { SameWaiting waiting.old waiting.new }
-    ensures estimate { SameEstimate estimate.old estimate.new }
+        × (program_of stream.new ≡ taken r (program_after t n (fresh_program info stream.old) cs) (program_of stream.old))
+        × ((r ≡ 0 → ⊥) → stream.new.scratch.now ≡ stream.old.scratch.now)) }
+    ensures rooms { SameRooms stream.old stream.new }
 {
     check_list(list.kinds.len(), list.numbers.len(), answers.len())?;
-    let made = ivector_stream::new(
-        info,
-        tables,
-        frames,
-        rows,
-        waiting.lent(),
-        estimate,
-        scratch,
-    )?;
-    let mut s = made.stream;
-    let mut held = FrameRooms { frames, rows };
+    stream.start(info, tables)?;
     // by index (limit: zip)
     for i in 0..list.kinds.len() {
-        let k = call_at(list, i);
-        let call = turn(
-            k,
-            s,
-            list.lists,
-            list.samples,
-            tables,
-            &mut held,
-            waiting,
-            estimate,
-            scratch,
-            outs,
-        );
-        answers[i * 5..i * 5 + 5].copy_from_slice(&numbers_of(call.answer));
-        s = call.stream;
+        let call = call_at(list, i);
+        let told = turn(call, stream, list.lists, list.samples, tables, outs);
+        answers[i * 5..i * 5 + 5].copy_from_slice(&numbers_of(told));
     }
     Ok(())
 }

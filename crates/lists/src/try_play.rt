@@ -3,14 +3,13 @@
 
 ghost use Rattle.std.specs.Prelude.{◌≡◌, List, ℕ, ◌≤◌, ◌<◌, length, replicate};
 ghost use Rattle.loops.specs.Refusal.{taken};
-ghost use Rattle.definition.specs.Lent.{tables_in, SameRings, SameWaiting, SameEstimate};
+ghost use Rattle.definition.specs.Lent.{tables_in};
 ghost use Rattle.definition.specs.Model.{Tables, model_in};
 ghost use Rattle.definition.specs.Machine as M;
 ghost use Rattle.definition.specs.Machine.{Call};
-ghost use Rattle.program.specs.Lent.{estimate_of, rooms_of};
-ghost use Rattle.program.specs.Rooms.{rings_from, Rooms, rooms_from, ring_lengths_of, room_lengths_of};
-ghost use Rattle.program.specs.Calls.{fresh_stream, fresh_rooms};
-ghost use Rattle.program.specs.Session.{program, program_after, program_answers};
+ghost use Rattle.program.specs.Rooms.{Rooms, ring_lengths_of};
+ghost use Rattle.program.specs.Session.{program_after, program_answers};
+ghost use Rattle.stream.specs.Stream.{rooms_of, program_of, fresh_program, SameRooms};
 ghost use Rattle.lists.specs.Draws.{drawn_calls};
 ghost use Rattle.lists.specs.Inner.TryNotes.{tally};
 ghost use Rattle.lists.specs.Totals.{totals, no_totals, play_refusal};
@@ -18,10 +17,8 @@ ghost use Rattle.lists.specs.Inner.TryPlay.{tallied, totals_of};
 
 use crate::try_load::{self, Place};
 use crate::{run_calls, try_notes};
-use definition::{
-    FrameRooms, IvectorInfo, IvectorStream, LentEstimate, LentTables, Refusal, WaitingRooms,
-};
-use stream::ivector_stream;
+use definition::{IvectorInfo, LentTables, Refusal};
+use stream::Stream;
 
 /// The totals of a load.
 #[derive(Clone, Copy, Debug, PartialEq, Eq)]
@@ -39,26 +36,19 @@ fn play_calls(
     dim: usize,
     seed: u32,
     times: usize,
-    stream: IvectorStream,
+    stream: &mut Stream<'_>,
     tables: LentTables<'_>,
-    held: &mut FrameRooms<'_>,
-    waiting: &mut WaitingRooms<'_>,
-    estimate: &mut LentEstimate<'_>,
-    scratch: &mut [f64],
 ) -> Totals
     requires { (0 < dim) × (dim ≤ 64) × (times ≤ 10000) }
     ensures played { (
         let t : Tables = tables_in tables.entry in
-        let z : Rooms = rooms_of held.old waiting.old estimate.old in
-        let n : ℕ = length scratch.old in
+        let n : ℕ = length stream.old.scratch.now in
         let cs : List Call = drawn_calls dim seed times in
-        (tally result.calls result.refusals result.greatest ≡ tallied (tally (replicate 5 0) (replicate 34 0) 0) cs (program_answers t n (program stream z) cs))
-        × (rooms_of held.new waiting.new estimate.new ≡ (program_after t n (program stream z) cs).rooms)) }
-    ensures held { SameRings held.old held.new }
-    ensures waiting { SameWaiting waiting.old waiting.new }
-    ensures estimate { SameEstimate estimate.old estimate.new }
+        (tally result.calls result.refusals result.greatest
+        ≡ tallied (tally (replicate 5 0) (replicate 34 0) 0) cs (program_answers t n (program_of stream.old) cs))
+        × (program_of stream.new ≡ program_after t n (program_of stream.old) cs)) }
+    ensures rooms { SameRooms stream.old stream.new }
 {
-    let mut s = stream;
     let mut p = Place {
         state: seed,
         pushes: 0,
@@ -70,12 +60,9 @@ fn play_calls(
     let mut refusals = [0usize; 34];
     let mut greatest = 0;
     for i in 0..times {
-        let k = try_notes::draw_call(dim, p.state, p.pushes, &mut lists, &mut samples);
-        let r = run_calls::turn(
-            k, s, &lists, &samples, tables, held, waiting, estimate, scratch, &mut outs,
-        );
-        greatest = try_notes::note(&mut calls, &mut refusals, greatest, k.kind, r.answer);
-        s = r.stream;
+        let call = try_notes::draw_call(dim, p.state, p.pushes, &mut lists, &mut samples);
+        let told = run_calls::turn(call, stream, &lists, &samples, tables, &mut outs);
+        greatest = try_notes::note(&mut calls, &mut refusals, greatest, call.kind, told);
         p = try_load::next_place(dim, p);
     }
     Totals {
@@ -94,49 +81,24 @@ fn play_calls(
 pub fn play(
     info: IvectorInfo,
     tables: LentTables<'_>,
-    frames: &mut [f32],
-    rows: &mut [f64],
-    waiting: &mut WaitingRooms<'_>,
-    estimate: &mut LentEstimate<'_>,
-    scratch: &mut [f64],
+    stream: &mut Stream<'_>,
     seed: usize,
     times: usize,
 ) -> Result<Totals, Refusal>
     ensures play { (
         let t : Tables = tables_in tables.entry in
-        let z : Rooms = rooms_from (rings_from frames.old rows.old waiting.old.frames.now waiting.old.weights.now) (estimate_of estimate.old) in
-        let y : Rooms = rooms_from (rings_from frames.new rows.new waiting.new.frames.now waiting.new.weights.now) (estimate_of estimate.new) in
-        let n : ℕ = length scratch.old in
+        let z : Rooms = rooms_of stream.old in
+        let n : ℕ = length stream.old.scratch.now in
         let cs : List Call = drawn_calls info.dims.base_dim seed times in
         let q : ℕ = play_refusal info t z n seed times in
         (totals_of result ≡ taken q (totals cs (M.answers (model_in info t) (ring_lengths_of z.rings) cs)) (no_totals q))
-        × (y ≡ taken q (program_after t n (program (fresh_stream info (room_lengths_of z n)) (fresh_rooms info z)) cs).rooms z)
-        × ((q ≡ 0 → ⊥) → scratch.new ≡ scratch.old)) }
-    ensures waiting { SameWaiting waiting.old waiting.new }
-    ensures estimate { SameEstimate estimate.old estimate.new }
+        × (program_of stream.new ≡ taken q (program_after t n (fresh_program info stream.old) cs) (program_of stream.old))
+        × ((q ≡ 0 → ⊥) → stream.new.scratch.now ≡ stream.old.scratch.now)) }
+    ensures rooms { SameRooms stream.old stream.new }
 {
     let dim = info.dims.base_dim;
     try_load::size_refusal(seed, dim, times)?;
-    let made = ivector_stream::new(
-        info,
-        tables,
-        frames,
-        rows,
-        waiting.lent(),
-        estimate,
-        scratch,
-    )?;
+    stream.start(info, tables)?;
     let state = seed as u32;
-    let mut held = FrameRooms { frames, rows };
-    Ok(play_calls(
-        dim,
-        state,
-        times,
-        made.stream,
-        tables,
-        &mut held,
-        waiting,
-        estimate,
-        scratch,
-    ))
+    Ok(play_calls(dim, state, times, stream, tables))
 }

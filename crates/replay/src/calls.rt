@@ -1,13 +1,11 @@
-//! The calls of the library. Each is lent the fronts of the program's rooms that the script wants.
+//! The calls of the library. They are lent the fronts of the program's rooms that the script wants.
 use super::rooms::{Lengths, Rooms, Tables};
-use board::registers;
 use definition::{
-    FrameRooms, IvectorInfo, IvectorOptions, IvectorStream, LentEstimate, LentFrames, LentWaiting,
-    Refusal, StreamCall, WaitingRooms,
+    IvectorInfo, IvectorOptions, IvectorStream, LentTables, Refusal, StreamAnswer,
 };
 use model::ivector_info;
-use script::{Files, front, lend};
-use stream::{ivector_fetch, ivector_stream};
+use script::{Files, lend};
+use stream::Stream;
 
 impl Tables {
     pub(crate) fn load(
@@ -36,144 +34,82 @@ impl Tables {
 }
 
 impl Rooms {
-    pub(crate) fn new_stream(
-        &mut self,
+    /// A stream of this record and of the fronts of these rooms.
+    pub(crate) fn stream<'a>(
+        &'a mut self,
         z: &Lengths,
-        tables: &Tables,
-        info: IvectorInfo,
-    ) -> Result<StreamCall, Refusal> {
-        let waiting = LentWaiting {
-            frames: front(&self.waiting_frames, z.0[10]),
-            weights: front(&self.waiting_weights, z.0[11]),
-        };
-        let mut estimate = LentEstimate {
-            cmvn_stats: lend(&mut self.cmvn_stats, z.0[12]),
-            linear: lend(&mut self.linear, z.0[13]),
-            quadratic: lend(&mut self.quadratic, z.0[14]),
-            current: lend(&mut self.current, z.0[15]),
-        };
-        ivector_stream::new(
-            info,
-            tables.lent(z),
-            front(&self.frames, z.0[8]),
-            lend(&mut self.rows, z.0[9]),
-            waiting,
-            &mut estimate,
-            front(&self.scratch, z.0[16]),
-        )
-    }
-
-    pub(crate) fn push(&mut self, z: &Lengths, s: IvectorStream, frame: &[f32]) -> StreamCall {
-        let waiting = LentWaiting {
-            frames: front(&self.waiting_frames, z.0[10]),
-            weights: front(&self.waiting_weights, z.0[11]),
-        };
-        let mut held = FrameRooms {
+        record: &'a mut IvectorStream,
+    ) -> Stream<'a> {
+        Stream {
+            record,
             frames: lend(&mut self.frames, z.0[8]),
             rows: lend(&mut self.rows, z.0[9]),
-        };
-        ivector_stream::push_frame(s, frame, &mut held, waiting)
-    }
-
-    pub(crate) fn change(
-        &mut self,
-        z: &Lengths,
-        s: IvectorStream,
-        frames: &[usize],
-        weights: &[f32],
-    ) -> StreamCall {
-        let held = LentFrames {
-            frames: front(&self.frames, z.0[8]),
-            rows: front(&self.rows, z.0[9]),
-        };
-        let mut waiting = WaitingRooms {
-            frames: lend(&mut self.waiting_frames, z.0[10]),
-            weights: lend(&mut self.waiting_weights, z.0[11]),
-        };
-        ivector_stream::update_frame_weights(s, frames, weights, held, &mut waiting)
-    }
-
-    pub(crate) fn finish(&self, z: &Lengths, s: IvectorStream) -> StreamCall {
-        ivector_stream::set_input_finished(s, self.lent_frames(z), self.lent_waiting(z))
-    }
-
-    pub(crate) fn set_window(&self, z: &Lengths, s: IvectorStream, window: usize) -> StreamCall {
-        ivector_stream::set_cmn_window(s, window, self.lent_frames(z), self.lent_waiting(z))
-    }
-
-    pub(crate) fn forget(&self, z: &Lengths, s: IvectorStream, frame: usize) -> StreamCall {
-        ivector_stream::forget_before(s, frame, self.lent_frames(z), self.lent_waiting(z))
-    }
-
-    pub(crate) fn fetch(
-        &mut self,
-        z: &Lengths,
-        tables: &Tables,
-        s: IvectorStream,
-        frame: usize,
-        out: &mut [u32],
-    ) -> StreamCall {
-        let held = LentFrames {
-            frames: front(&self.frames, z.0[8]),
-            rows: front(&self.rows, z.0[9]),
-        };
-        let mut waiting = WaitingRooms {
-            frames: lend(&mut self.waiting_frames, z.0[10]),
-            weights: lend(&mut self.waiting_weights, z.0[11]),
-        };
-        let mut estimate = LentEstimate {
+            waiting_frames: lend(&mut self.waiting_frames, z.0[10]),
+            waiting_weights: lend(&mut self.waiting_weights, z.0[11]),
             cmvn_stats: lend(&mut self.cmvn_stats, z.0[12]),
             linear: lend(&mut self.linear, z.0[13]),
             quadratic: lend(&mut self.quadratic, z.0[14]),
             current: lend(&mut self.current, z.0[15]),
-        };
-        let scratch = lend(&mut self.scratch, z.0[16]);
-        ivector_fetch::get_frame(
-            s,
-            frame,
-            tables.lent(z),
-            held,
-            &mut waiting,
-            &mut estimate,
-            scratch,
-            out,
-        )
+            scratch: lend(&mut self.scratch, z.0[16]),
+        }
     }
+}
 
-    pub(crate) fn step(
-        &mut self,
-        z: &Lengths,
-        tables: &Tables,
-        s: &mut IvectorStream,
-        block: &mut [u8],
-        frame: &[f32],
-        out: &mut [u32],
-    ) -> Result<(), Refusal> {
-        let mut held = FrameRooms {
-            frames: lend(&mut self.frames, z.0[8]),
-            rows: lend(&mut self.rows, z.0[9]),
-        };
-        let mut waiting = WaitingRooms {
-            frames: lend(&mut self.waiting_frames, z.0[10]),
-            weights: lend(&mut self.waiting_weights, z.0[11]),
-        };
-        let mut estimate = LentEstimate {
-            cmvn_stats: lend(&mut self.cmvn_stats, z.0[12]),
-            linear: lend(&mut self.linear, z.0[13]),
-            quadratic: lend(&mut self.quadratic, z.0[14]),
-            current: lend(&mut self.current, z.0[15]),
-        };
-        let scratch = lend(&mut self.scratch, z.0[16]);
-        registers::step(
-            s,
-            block,
-            frame,
-            tables.lent(z),
-            &mut held,
-            &mut waiting,
-            &mut estimate,
-            scratch,
-            out,
-        )
+/// A call that gives no vector.
+#[derive(Clone, Copy)]
+pub(crate) enum RingCall<'a> {
+    Push(&'a [f32]),
+    Change(&'a [usize], &'a [f32]),
+    Finish,
+    SetWindow(usize),
+    Forget(usize),
+}
+
+impl RingCall<'_> {
+    /// The answer of the call on a stream.
+    pub(crate) fn on(self, stream: &mut Stream<'_>) -> StreamAnswer {
+        match self {
+            RingCall::Push(frame) => {
+                let pushed = stream.push(frame);
+                answers::answered(pushed, stream.record)
+            }
+            RingCall::Change(frames, weights) => {
+                let changed = stream.change(frames, weights);
+                answers::answered(changed, stream.record)
+            }
+            RingCall::Finish => {
+                let finished = stream.finish();
+                answers::answered(finished, stream.record)
+            }
+            RingCall::SetWindow(window) => {
+                let set = stream.set_window(window);
+                answers::answered(set, stream.record)
+            }
+            RingCall::Forget(frame) => {
+                let forgotten = stream.forget(frame);
+                answers::answered(forgotten, stream.record)
+            }
+        }
     }
+}
+
+/// The answer of a start on a stream.
+pub(crate) fn start(
+    stream: &mut Stream<'_>,
+    info: IvectorInfo,
+    tables: LentTables<'_>,
+) -> Result<StreamAnswer, Refusal> {
+    stream.start(info, tables)?;
+    Ok(answers::answered(Ok(()), stream.record))
+}
+
+/// The answer of a fetch on a stream.
+pub(crate) fn fetch(
+    stream: &mut Stream<'_>,
+    frame: usize,
+    tables: LentTables<'_>,
+    out: &mut [u32],
+) -> StreamAnswer {
+    let fetched = stream.fetch(frame, tables, out);
+    answers::fetch_answer(fetched, stream.record)
 }

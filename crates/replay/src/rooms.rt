@@ -1,5 +1,5 @@
 //! The rooms that calls are lent, and how much of each.
-use definition::{Dimensions, IvectorOptions, LentFrames, LentTables, LentWaiting};
+use definition::{Dimensions, IvectorOptions, LentTables};
 use script::{Signed, Words, front};
 use std::alloc::{AllocError, Global};
 use std::mem;
@@ -163,20 +163,6 @@ impl Rooms {
             scratch: vec![in alloc; 0.0; MOST[16] + SPARE]?,
             forged_frames: vec![in alloc; 0; MOST[10] + SPARE]?,
         })
-    }
-
-    pub(crate) fn lent_frames(&self, z: &Lengths) -> LentFrames<'_> {
-        LentFrames {
-            frames: front(&self.frames, z.0[8]),
-            rows: front(&self.rows, z.0[9]),
-        }
-    }
-
-    pub(crate) fn lent_waiting(&self, z: &Lengths) -> LentWaiting<'_> {
-        LentWaiting {
-            frames: front(&self.waiting_frames, z.0[10]),
-            weights: front(&self.waiting_weights, z.0[11]),
-        }
     }
 
     /// Puts the forged waiting frames in place of the stream's, or back.

@@ -1,9 +1,11 @@
 //! What stands between two lines of a script, and what a line does. The letter of a line says
 //! which.
+use super::calls::{self, RingCall};
 use super::load::{FILE_BYTES, dimensions, file, file_bytes};
 use super::rooms::{Lengths, Rooms, Tables};
 use board::register_bytes::Command;
-use definition::{IvectorOptions, IvectorStream, Refusal, StreamCall};
+use board::registers;
+use definition::{IvectorOptions, IvectorStream, Refusal, StreamAnswer};
 use script::{
     Files, Held, Item, NO_FILES, Words, front, lend, not_here, print, print_answer, print_list,
 };
@@ -206,12 +208,18 @@ impl<'a> Session<'a> {
             self.close_stream();
             return Ok(());
         }
-        match self.rooms.new_stream(&lengths, &self.tables, info) {
-            Ok(call) => {
-                print_answer(writer, call.answer)?;
+        let mut record = IvectorStream::default();
+        let started = calls::start(
+            &mut self.rooms.stream(&lengths, &mut record),
+            info,
+            self.tables.lent(&lengths),
+        );
+        match started {
+            Ok(answer) => {
+                print_answer(writer, answer)?;
                 writeln!(writer)?;
                 self.hold(Open {
-                    held: Held::Stream(call.stream),
+                    held: Held::Stream(record),
                     lengths,
                 });
             }
@@ -244,48 +252,52 @@ impl<'a> Session<'a> {
         letter: u8,
         words: &mut Words<'_>,
     ) -> io::Result<()> {
-        let Held::Stream(s) = self.told.held else {
+        let Held::Stream(mut record) = self.told.held else {
             return not_here(writer);
         };
         if self.waiting_forged {
             self.rooms.swap_waiting();
         }
-        let stream = match letter {
-            b'r' => self.step(writer, s, words)?,
-            b'v' => self.fetch(writer, s, words)?,
+        match letter {
+            b'r' => self.step(writer, &mut record, words)?,
+            b'v' => self.fetch(writer, &mut record, words)?,
             _ => {
-                let call = self.ring_call(letter, s, words);
-                print_answer(writer, call.answer)?;
+                let answer = self.ring_call(letter, &mut record, words);
+                print_answer(writer, answer)?;
                 writeln!(writer)?;
-                call.stream
             }
-        };
+        }
         if self.waiting_forged {
             self.rooms.swap_waiting();
         }
-        self.after(stream);
+        self.after(record);
         Ok(())
     }
 
     /// `p n x1 .. xn`, `w nf f1 .. fnf nw w1 .. wnw`, `f`, `n V`, and `d F`. A list that is longer
     /// than its room here is longer than any frame or any change.
-    fn ring_call(&mut self, letter: u8, s: IvectorStream, words: &mut Words<'_>) -> StreamCall {
-        let z = self.told.lengths;
+    fn ring_call(
+        &mut self,
+        letter: u8,
+        record: &mut IvectorStream,
+        words: &mut Words<'_>,
+    ) -> StreamAnswer {
+        let mut stream = self.rooms.stream(&self.told.lengths, record);
         match letter {
             b'p' => {
                 let mut frame = [0.0f32; 128];
-                self.rooms.push(&z, s, words.list(&mut frame))
+                RingCall::Push(words.list(&mut frame)).on(&mut stream)
             }
             b'w' => {
                 let mut frames = [0usize; 1026];
                 let mut weights = [0.0f32; 1026];
                 let frames = words.list(&mut frames);
                 let weights = words.list(&mut weights);
-                self.rooms.change(&z, s, frames, weights)
+                RingCall::Change(frames, weights).on(&mut stream)
             }
-            b'f' => self.rooms.finish(&z, s),
-            b'n' => self.rooms.set_window(&z, s, words.number(10)),
-            _ => self.rooms.forget(&z, s, words.number(10)),
+            b'f' => RingCall::Finish.on(&mut stream),
+            b'n' => RingCall::SetWindow(words.number(10)).on(&mut stream),
+            _ => RingCall::Forget(words.number(10)).on(&mut stream),
         }
     }
 
@@ -293,17 +305,19 @@ impl<'a> Session<'a> {
     fn fetch(
         &mut self,
         writer: &mut impl Write,
-        s: IvectorStream,
+        record: &mut IvectorStream,
         words: &mut Words<'_>,
-    ) -> io::Result<IvectorStream> {
+    ) -> io::Result<()> {
         let z = self.told.lengths;
         let frame = words.number(10);
         let n = words.number(10);
         let mut out = [0u32; 160];
-        let call = self
-            .rooms
-            .fetch(&z, &self.tables, s, frame, lend(&mut out, n));
-        let answer = call.answer;
+        let answer = calls::fetch(
+            &mut self.rooms.stream(&z, record),
+            frame,
+            self.tables.lent(&z),
+            lend(&mut out, n),
+        );
         print_answer(writer, answer)?;
         if answer.refusal == 0 {
             let not_finite = answer.not_finite;
@@ -311,8 +325,7 @@ impl<'a> Session<'a> {
             write!(writer, " {not_finite} {nans}")?;
             print_list(writer, front(&out, n))?;
         }
-        writeln!(writer)?;
-        Ok(call.stream)
+        writeln!(writer)
     }
 
     /// `r M n x1 .. xn N HEX`. A block that is longer than its room here is longer than any block.
@@ -320,9 +333,9 @@ impl<'a> Session<'a> {
     fn step(
         &mut self,
         writer: &mut impl Write,
-        s: IvectorStream,
+        record: &mut IvectorStream,
         words: &mut Words<'_>,
-    ) -> io::Result<IvectorStream> {
+    ) -> io::Result<()> {
         let z = self.told.lengths;
         let m = words.number(10);
         let mut frame = [0.0f32; 128];
@@ -331,19 +344,16 @@ impl<'a> Session<'a> {
         let n = words.bytes(&mut block).len();
         let command = Command::from(block[0]);
         let mut out = [0u32; 160];
-        let mut stream = s;
-        let done = self.rooms.step(
-            &z,
-            &self.tables,
-            &mut stream,
+        let done = registers::step(
+            &mut self.rooms.stream(&z, record),
             lend(&mut block, n),
             frame,
+            self.tables.lent(&z),
             lend(&mut out, m),
         );
         if let Err(refusal) = done {
             let number = refusal.number();
-            writeln!(writer, "{number}")?;
-            return Ok(stream);
+            return writeln!(writer, "{number}");
         }
         write!(writer, "0 ")?;
         let block = front(&block, n);
@@ -353,7 +363,6 @@ impl<'a> Session<'a> {
         if matches!(command, Command::Fetch) && script::byte_at(block, 1) % 2 == 1 {
             print_list(writer, front(&out, m))?;
         }
-        writeln!(writer)?;
-        Ok(stream)
+        writeln!(writer)
     }
 }

@@ -1,16 +1,16 @@
-//! The calls of the library. Each is lent the program's rooms.
+//! The calls of the library. They are lent the program's rooms.
 use super::rooms::{Rooms, Tables};
 use super::round::Asked;
 use super::session::Session;
 use definition::{
-    EstimateLengths, FrameRooms, IvectorInfo, IvectorOptions, IvectorStream, LentEstimate,
-    LentWaiting, Refusal, RingLengths, SilenceWeighting, StreamCall, WaitingRooms,
+    EstimateLengths, IvectorInfo, IvectorOptions, IvectorStream, LentTables, Refusal, RingLengths,
+    SilenceWeighting, StreamAnswer,
 };
 use model::{ivector_info, memory};
 use rounds::silence_weighting::SilenceRooms;
 use rounds::trigger::{self, TriggerRound};
 use script::{Files, Words, front, lend};
-use stream::ivector_stream;
+use stream::Stream;
 
 /// How many numbers a model keeps in each room of its estimate.
 pub(crate) fn estimate_lengths(info: IvectorInfo) -> EstimateLengths {
@@ -57,52 +57,56 @@ impl Tables {
 }
 
 impl Rooms {
-    /// The rooms besides the rings are lent whole.
-    pub(crate) fn new_stream(
-        &mut self,
-        tables: &Tables,
-        info: IvectorInfo,
+    /// A stream of this record, of the rings' fronts and of the other rooms whole.
+    pub(crate) fn stream<'a>(
+        &'a mut self,
         z: RingLengths,
-    ) -> Result<StreamCall, Refusal> {
-        let waiting = LentWaiting {
-            frames: front(&self.waiting_frames, z.waiting_frames),
-            weights: front(&self.waiting_weights, z.waiting_weights),
-        };
-        let mut estimate = LentEstimate {
+        record: &'a mut IvectorStream,
+    ) -> Stream<'a> {
+        Stream {
+            record,
+            frames: lend(&mut self.frames, z.frames),
+            rows: lend(&mut self.rows, z.rows),
+            waiting_frames: lend(&mut self.waiting_frames, z.waiting_frames),
+            waiting_weights: lend(&mut self.waiting_weights, z.waiting_weights),
             cmvn_stats: &mut self.cmvn_stats,
             linear: &mut self.linear,
             quadratic: &mut self.quadratic,
             current: &mut self.current,
-        };
-        ivector_stream::new(
-            info,
-            tables.lent(),
-            front(&self.frames, z.frames),
-            lend(&mut self.rows, z.rows),
-            waiting,
-            &mut estimate,
-            &self.scratch,
-        )
-    }
-
-    pub(crate) fn finish(&self, s: IvectorStream) -> StreamCall {
-        let z = s.lengths.rings;
-        ivector_stream::set_input_finished(s, self.lent_frames(z), self.lent_waiting(z))
-    }
-
-    pub(crate) fn forget(&self, s: IvectorStream, frame: usize) -> StreamCall {
-        let z = s.lengths.rings;
-        ivector_stream::forget_before(s, frame, self.lent_frames(z), self.lent_waiting(z))
+            scratch: &mut self.scratch,
+        }
     }
 }
 
+/// The answer of a start on a stream.
+pub(crate) fn start(
+    stream: &mut Stream<'_>,
+    info: IvectorInfo,
+    tables: LentTables<'_>,
+) -> Result<StreamAnswer, Refusal> {
+    stream.start(info, tables)?;
+    Ok(answers::answered(Ok(()), stream.record))
+}
+
+/// The answer of a finish on a stream.
+pub(crate) fn finish(stream: &mut Stream<'_>) -> StreamAnswer {
+    let finished = stream.finish();
+    answers::answered(finished, stream.record)
+}
+
+/// The answer of a forget on a stream.
+pub(crate) fn forget(stream: &mut Stream<'_>, frame: usize) -> StreamAnswer {
+    let forgotten = stream.forget(frame);
+    answers::answered(forgotten, stream.record)
+}
+
 impl<'a> Session<'a> {
-    /// A round on this stream and this silence table. The silence phones are those of the table
+    /// A round on the stream and the silence table of these records. The silence phones are those of the table
     /// that is open, not of the one that the round is told.
     pub(crate) fn call_round(
         &mut self,
-        s: IvectorStream,
-        silence: SilenceWeighting,
+        record: &mut IvectorStream,
+        silence: &mut SilenceWeighting,
         asked: Asked<'_>,
     ) -> TriggerRound {
         let Asked {
@@ -113,35 +117,18 @@ impl<'a> Session<'a> {
             voices,
         } = asked;
         let known_phones = self.table.map_or(0, |t| t.phones);
-        let z = s.lengths.rings;
+        let z = record.lengths.rings;
         let mut table_rooms = SilenceRooms {
             known: lend(&mut self.silence.known, silence.table),
             is_silence: lend(&mut self.silence.is_silence, silence.table),
             current_weight: lend(&mut self.silence.current_weight, silence.table),
         };
-        let mut held = FrameRooms {
-            frames: lend(&mut self.rooms.frames, z.frames),
-            rows: lend(&mut self.rooms.rows, z.rows),
-        };
-        let mut waiting = WaitingRooms {
-            frames: lend(&mut self.rooms.waiting_frames, z.waiting_frames),
-            weights: lend(&mut self.rooms.waiting_weights, z.waiting_weights),
-        };
-        let mut estimate = LentEstimate {
-            cmvn_stats: &mut self.rooms.cmvn_stats,
-            linear: &mut self.rooms.linear,
-            quadratic: &mut self.rooms.quadratic,
-            current: &mut self.rooms.current,
-        };
+        let mut stream = self.rooms.stream(z, record);
         trigger::round(
-            s,
+            &mut stream,
             silence,
             utterance,
             self.tables.lent(),
-            &mut held,
-            &mut waiting,
-            &mut estimate,
-            &mut self.rooms.scratch,
             front(&self.silence.phones, known_phones),
             &mut table_rooms,
             delta_frames,

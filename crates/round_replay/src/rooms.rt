@@ -1,7 +1,6 @@
 //! The rooms that calls are lent. A length that a room has no places for is cut to the room; the
 //! answer then shows it.
-use definition::{LentFrames, LentTables, LentWaiting, RingLengths};
-use script::front;
+use definition::LentTables;
 use std::alloc::{AllocError, Global};
 
 /// A model's tables.
@@ -72,20 +71,6 @@ impl Rooms {
             current: vec![in alloc; 0.0; 16]?,
             scratch: vec![in alloc; 0.0; 128]?,
         })
-    }
-
-    pub(crate) fn lent_frames(&self, z: RingLengths) -> LentFrames<'_> {
-        LentFrames {
-            frames: front(&self.frames, z.frames),
-            rows: front(&self.rows, z.rows),
-        }
-    }
-
-    pub(crate) fn lent_waiting(&self, z: RingLengths) -> LentWaiting<'_> {
-        LentWaiting {
-            frames: front(&self.waiting_frames, z.waiting_frames),
-            weights: front(&self.waiting_weights, z.waiting_weights),
-        }
     }
 }
 

@@ -61,10 +61,10 @@ impl<'a> Session<'a> {
         writer: &mut impl Write,
         words: &mut Words<'_>,
     ) -> io::Result<()> {
-        let Held::Stream(stream) = self.told else {
+        let Held::Stream(mut stream) = self.told else {
             return not_here(writer);
         };
-        let Some(silence) = self.told_table else {
+        let Some(mut silence) = self.told_table else {
             return not_here(writer);
         };
         let mut numbers = [0.0f32; 64];
@@ -87,8 +87,8 @@ impl<'a> Session<'a> {
         let enrolled = words.list(&mut enrolled);
         let limit = f32::read(words);
         let round = self.call_round(
-            stream,
-            silence,
+            &mut stream,
+            &mut silence,
             Asked {
                 utterance: LentUtterance {
                     start,
@@ -117,7 +117,7 @@ impl<'a> Session<'a> {
             &delta_weights,
             front(&out, out_lent),
         )?;
-        self.after_round(round.stream, round.silence);
+        self.after_round(stream, silence);
         Ok(())
     }
 }

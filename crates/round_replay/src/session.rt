@@ -1,8 +1,8 @@
 //! What stands between two lines of a script, and what a line does.
-use super::calls::estimate_lengths;
+use super::calls::{self, estimate_lengths};
 use super::rooms::{Rooms, TableRooms, Tables};
 use definition::{
-    DecoderFrame, IvectorOptions, IvectorStream, RingLengths, SilenceWeighting, StreamCall,
+    DecoderFrame, IvectorOptions, IvectorStream, RingLengths, SilenceWeighting, StreamAnswer,
 };
 use rounds::silence_weighting;
 use script::{
@@ -168,8 +168,14 @@ impl<'a> Session<'a> {
             return not_here(writer);
         };
         let rings = read_rings(words);
-        match self.rooms.new_stream(&self.tables, info, rings) {
-            Ok(call) => self.called(writer, call),
+        let mut record = IvectorStream::default();
+        let started = calls::start(
+            &mut self.rooms.stream(rings, &mut record),
+            info,
+            self.tables.lent(),
+        );
+        match started {
+            Ok(answer) => self.called(writer, answer, record),
             Err(refusal) => {
                 let number = refusal.number();
                 writeln!(writer, "{number}")
@@ -198,29 +204,37 @@ impl<'a> Session<'a> {
         Ok(())
     }
 
-    fn called(&mut self, writer: &mut impl Write, call: StreamCall) -> io::Result<()> {
-        print_answer(writer, call.answer)?;
+    fn called(
+        &mut self,
+        writer: &mut impl Write,
+        answer: StreamAnswer,
+        record: IvectorStream,
+    ) -> io::Result<()> {
+        print_answer(writer, answer)?;
         writeln!(writer)?;
-        self.hold(Held::Stream(call.stream), self.table);
+        self.hold(Held::Stream(record), self.table);
         Ok(())
     }
 
     /// `f`
     fn finish(&mut self, writer: &mut impl Write) -> io::Result<()> {
-        let Held::Stream(s) = self.held else {
+        let Held::Stream(mut record) = self.held else {
             return not_here(writer);
         };
-        let call = self.rooms.finish(s);
-        self.called(writer, call)
+        let z = record.lengths.rings;
+        let answer = calls::finish(&mut self.rooms.stream(z, &mut record));
+        self.called(writer, answer, record)
     }
 
     /// `d F`
     fn forget(&mut self, writer: &mut impl Write, words: &mut Words<'_>) -> io::Result<()> {
-        let Held::Stream(s) = self.held else {
+        let Held::Stream(mut record) = self.held else {
             return not_here(writer);
         };
-        let call = self.rooms.forget(s, words.number(10));
-        self.called(writer, call)
+        let z = record.lengths.rings;
+        let frame = words.number(10);
+        let answer = calls::forget(&mut self.rooms.stream(z, &mut record), frame);
+        self.called(writer, answer, record)
     }
 
     /// `q s`

@@ -24,13 +24,14 @@ use Rattle.definition.specs.Model.{Tables}
 use Rattle.definition.specs.Machine.{frames_held, rows_held}
 use Rattle.definition.specs.Silence.{input, decoder, TableRooms, table_call, table_done, compute_current_traceback, get_delta_weights, delta_tests, asked, table_in, table_broken, silence_answer}
 use Rattle.program.specs.Rooms.{Rings, EstimateRooms, Rooms, rooms_from}
-use Rattle.program.specs.Calls.{answer_from, answer_of, ring_call, done_on, fetch_call, fetched_on, push_frame, update_frame_weights, forget_before, get_frame}
+use Rattle.program.specs.Calls.{answer_from, answer_of, call_of, ring_call, done_on, fetch_call, fetched_on, push_frame, update_frame_weights, forget_before, get_frame}
 use Rattle.rounds.specs.Inner.SilenceWeightingRooms.{given_by}
 use Rattle.rounds.proofs.SilenceRefusals.{numbered}
 use Rattle.rounds.specs.Voice.{NearestVoice, nearest_voice}
 use Rattle.rounds.specs.declared.trigger_steps.Halt.{Halt}
+use Rattle.rounds.specs.declared.trigger_steps.Step.{Step}
 use Rattle.rounds.specs.declared.trigger_steps.Step.TheVariants as S
-use Rattle.rounds.specs.Halts.{stopped, halted, step_in, refusal_in, given_in}
+use Rattle.rounds.specs.Halts.{number_of, halted, step_in, refusal_in, given_in}
 use Rattle.rounds.specs.declared.trigger_steps.RoundEnd.TheVariants as E
 use Rattle.rounds.specs.Round.{RoundResult, refused_at, Utterance, Voices, Bench, bench, with_rings, with_table, with_fetch, Round, round_from, done, ended, after}
 use Rattle.rounds.specs.Round.{forgets, cut, pushed, push_all, frame_length, pushes, decoded, notes, ready, weighs, changes, fetches, result_of, finds, last_steps, round, worked}
@@ -47,7 +48,33 @@ module _ (k r : ℕ) (b : Bench) (next : Bench → Round) where
   unfolding ended
   stops h = sym (choose_false _ (ne_eqb r 0 h) refl)
 
--- a call that answers by number: what its halt is, and that it had none
+told-number : (q : ℕ) (s : IvectorStream) (n m : ℕ) → (answer_of q s n m).refusal ≡ q
+unfolding answer_of
+told-number q s n m = choose_map (λ (a : StreamAnswer). a.refusal) (eqb q 10) (answer_from q 0 0 0 0) (answer_from q (frames_held s.accepted s.mark) (rows_held s.longest s.accepted s.mark) n m) ∙ choose_same (eqb q 10) q
+
+-- what a call of step k with refusal r gave
+abbrev pub stopped : ℕ → ℕ → Result Unit Halt
+stopped k r = if eqb r 0 then Ok tt else Err (record { refusal = r; step = k })
+
+-- a call on a stream that left s, by the call of the definition
+module _ {A : Type 0} (k : Step) (x : Result A Refusal) (s : IvectorStream) (n m : ℕ) where
+  pub halts : (h : Halt) → Err h ≡ halted k x → Err h ≡ stopped (number_of k) (call_of (refused_by x) s n m).answer.refusal
+  halts h e = by_result x e
+    where
+      by_result : (x : Result A Refusal) → Err h ≡ halted k x → Err h ≡ stopped (number_of k) (call_of (refused_by x) s n m).answer.refusal
+      by_result (Ok a) e = let z : ◌≡◌ {A = ℕ} 0 1 = cc in absurd (omega arith)
+      by_result (Err d) e =
+          let told = told-number (refusal_number d) s n m in
+          e ∙ ap (λ (r : ℕ). Err (record { refusal = r; step = number_of k })) (sym told) ∙ choose_false _ (ne_eqb _ 0 (λ z. numbered d (sym told ∙ z))) refl
+
+  pub no_halt : (a : A) → Ok a ≡ halted k x → Ok tt ≡ stopped (number_of k) (call_of (refused_by x) s n m).answer.refusal
+  no_halt a e = by_result x e
+    where
+      by_result : (x : Result A Refusal) → Ok a ≡ halted k x → Ok tt ≡ stopped (number_of k) (call_of (refused_by x) s n m).answer.refusal
+      by_result (Ok b) e = choose_true _ (eq-eqb _ 0 (told-number 0 s n m)) refl
+      by_result (Err d) e = let z : ◌≡◌ {A = ℕ} 0 1 = cc in absurd (omega arith)
+
+-- what its halt is, and that it had none
 pub stopped_err : (k r : ℕ) (h : Halt) → Err h ≡ stopped k r → (h ≡ record { refusal = r; step = k }) × (r ≡ 0 → ⊥)
 stopped_err k zero h e = let z : ◌≡◌ {A = ℕ} 0 1 = cc in absurd (omega arith)
 stopped_err k (suc r) h e = let q : Err h ≡ Err (record { refusal = suc r; step = k }) = e ∙ sym (choose_false _ (ne_eqb (suc r) 0 (λ z. absurd (omega (arith, z)))) refl) in (cc, λ z. absurd (omega (arith, z)))
@@ -213,10 +240,6 @@ unfolding changes
 change_is s z r y b e = ap (λ c. done c.call.answer.refusal (with_rings b c.call.stream c.rings)) (sym e)
 
 -- ---- 6 and 7
-
-told-number : (q : ℕ) (s : IvectorStream) (n m : ℕ) → (answer_of q s n m).refusal ≡ q
-unfolding answer_of
-told-number q s n m = choose_map (λ (a : StreamAnswer). a.refusal) (eqb q 10) (answer_from q 0 0 0 0) (answer_from q (frames_held s.accepted s.mark) (rows_held s.longest s.accepted s.mark) n m) ∙ choose_same (eqb q 10) q
 
 module _ (t : Tables) (n : ℕ) (v : Voices) (s : IvectorStream) (z : Rooms) (out : List ℕ) (k : ℕ) (k-is : k ≡ ready s) where
   pub no_vector : k ≡ 0 → (b : Bench) → round_from (Ok E.NoVector) (with_fetch b s z out) ≡ last_steps t n v (with_fetch b s z out)

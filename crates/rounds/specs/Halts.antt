@@ -1,5 +1,5 @@
 -- The steps of a round by their numbers, and what a step gives that a refusal may have ended.
-use Rattle.std.specs.Prelude.{ℕ, eqb, if◌then◌else◌, Result, Ok, Err}
+use Rattle.std.specs.Prelude.{ℕ, Result, Ok, Err}
 use Rattle.definition.specs.declared.refusal.Refusal.{Refusal}
 use Rattle.definition.specs.Number.{number_of as refusal_number}
 use Rattle.rounds.specs.declared.trigger_steps.Halt.{Halt}
@@ -19,10 +19,6 @@ number_of S.Find = 7
 abbrev pub halted : {A : Type 0} → Step → Result A Refusal → Result A Halt
 halted k (Ok a) = Ok a
 halted k (Err e) = Err (record { refusal = refusal_number e; step = number_of k })
-
--- what one of step k that answers by number gave
-abbrev pub stopped : ℕ → ℕ → Result Unit Halt
-stopped k r = if eqb r 0 then Ok tt else Err (record { refusal = r; step = k })
 
 -- the refusal's number and its step, 0 where none was refused
 abbrev pub refusal_in : {A : Type 0} → Result A Halt → ℕ

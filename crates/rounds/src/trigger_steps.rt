@@ -3,11 +3,11 @@
 ghost use Rattle.std.specs.Prelude.{◌≡◌, List, ◌<◌, ◌≤◌, length, Float, IfOk, IfErr};
 ghost use Rattle.rounds.specs.Inner.SilenceWeightingRooms.{rooms_in, SameLoans};
 ghost use Rattle.rounds.specs.Round.{Utterance, Bench, with_table, Round, ended, after, decoded as decoded_of, notes, ready as ready_of, weighs, result_of, round_outcome};
-ghost use Rattle.rounds.specs.Halts.{number_of, halted, stopped, step_in, refusal_in, given_in};
+ghost use Rattle.rounds.specs.Halts.{number_of, halted, step_in, refusal_in, given_in};
 
 use crate::nearest_voice::Voice;
 use crate::silence_weighting::{self, LentPath, SilenceRooms};
-use definition::{DecoderFrame, InputFrame, Refusal, SilenceWeighting, StreamAnswer};
+use definition::{DecoderFrame, InputFrame, Refusal, SilenceWeighting};
 
 /// How a round ends that was not refused.
 #[derive(Clone, Copy, Debug, PartialEq)]
@@ -58,7 +58,7 @@ impl Step {
     }
 }
 
-/// Where a refusal ended a round, as C gets it: numbers, since a stream's calls answer by number.
+/// Where a refusal ended a round, by its number and the step's.
 #[derive(Clone, Copy, Debug, PartialEq, Eq)]
 pub struct Halt {
     pub refusal: usize,
@@ -76,19 +76,6 @@ pub fn at_step<T>(step: Step, r: Result<T, Refusal>) -> Result<T, Halt>
             step: step.number(),
         }),
     }
-}
-
-/// The same of a stream's call, whose answer has the refusal's number.
-pub fn answered(step: Step, a: StreamAnswer) -> Result<(), Halt>
-    ensures { result ≡ stopped (number_of step) a.refusal }
-{
-    if a.refusal == 0 {
-        return Ok(());
-    }
-    Err(Halt {
-        refusal: a.refusal,
-        step: step.number(),
-    })
 }
 
 // How many decoder frames the path reaches: the highest end.

@@ -20,11 +20,11 @@ use Rattle.definition.specs.Machine.{Call, Answer, frames_held, rows_held, fresh
 use Rattle.definition.proofs.Ranges.{option_ranges, info_sound_lem}
 use Rattle.program.specs.Rooms.{Rooms, ring_lengths_of, room_lengths_of}
 use Rattle.program.specs.Calls.{answer_from, fresh_stream, fresh_rooms}
-use Rattle.program.specs.Session.{program, program_after}
+use Rattle.program.specs.Session.{Program, program, program_after}
 use Rattle.lists.specs.Listed.{Written, writes, list_refusal, run_refusal}
 use Rattle.whole.specs.Whole.{Answered, not_loaded, not_made, played, model_read, left, on_model, machine_session}
 use Rattle.whole.proofs.Whole.{loaded_sound, refused_for-rooms, answers-from-bytes}
-use Rattle.session.specs.Session.{written_of, returned_with, of_list, session_answered, after_calls, rooms_left}
+use Rattle.session.specs.Session.{written_of, returned_with, of_list, session_answered, after_calls, program_left}
 use Rattle.session.specs.declared.NotPlayed.{NotPlayed}
 use Rattle.session.specs.declared.NotPlayed.TheVariants as N
 
@@ -36,22 +36,25 @@ not_zero e h = grind arith
 abbrev first : StreamAnswer
 first = answer_from 0 0 1 0 0
 
-module _ (o : IvectorOptions) (f : Files) (t : Tables) (n : ℕ) (z : Rooms) (m : ℕ) (cs : List Call) (numbers : List ℕ) (a b c : ℕ) (w : Written) where
+module _ (o : IvectorOptions) (f : Files) (t : Tables) (n : ℕ) (p : Program) (m : ℕ) (cs : List Call) (numbers : List ℕ) (a b c : ℕ) (w : Written) where
+  abbrev z : Rooms
+  z = p.rooms
+
   abbrev listed : ℕ
   listed = list_refusal a b c
 
   abbrev x : Answered
   x = session_answered o f t n z m cs listed
 
-  -- what is said of what is returned, what is written, and the rooms
-  abbrev Ends : Result StreamAnswer NotPlayed → Written → Rooms → Type 0
-  Ends r w' y = (returned_with r (written_of x) ≡ x) × (w' ≡ writes numbers 0 (written_of x) w) × (y ≡ rooms_left o f t n z m cs x)
+  -- what is said of what is returned, what is written, and the program
+  abbrev Ends : Result StreamAnswer NotPlayed → Written → Program → Type 0
+  Ends r w' y = (returned_with r (written_of x) ≡ x) × (w' ≡ writes numbers 0 (written_of x) w) × (y ≡ program_left o f t n p m cs x)
 
   -- the same of what the session answers by another name
-  abbrev Ends-as : Answered → Result StreamAnswer NotPlayed → Written → Rooms → Type 0
-  Ends-as v r w' y = (returned_with r (written_of v) ≡ v) × (w' ≡ writes numbers 0 (written_of v) w) × (y ≡ rooms_left o f t n z m cs v)
+  abbrev Ends-as : Answered → Result StreamAnswer NotPlayed → Written → Program → Type 0
+  Ends-as v r w' y = (returned_with r (written_of v) ≡ v) × (w' ≡ writes numbers 0 (written_of v) w) × (y ≡ program_left o f t n p m cs v)
 
-  as_x : (r : Result StreamAnswer NotPlayed) (w' : Written) (y : Rooms) (v : Answered) → v ≡ x → Ends-as v r w' y → Ends r w' y
+  as_x : (r : Result StreamAnswer NotPlayed) (w' : Written) (y : Program) (v : Answered) → v ≡ x → Ends-as v r w' y → Ends r w' y
   as_x r w' y v e h = subst (λ (v : Answered). Ends-as v r w' y) e h
 
   -- ---- a load that is refused
@@ -64,16 +67,16 @@ module _ (o : IvectorOptions) (f : Files) (t : Tables) (n : ℕ) (z : Rooms) (m 
       by (refused s) e = let q : s ≡ r = cc in ap not_loaded (sym q)
       by (read M at) e = absurd (let q : ◌≡◌ {A = ℕ} 0 1 = cc in omega arith)
 
-  pub load_ends : (e : Refusal) → loaded_of (model_read o f t n z m) ≡ Err (number_of e) → Ends (Err (N.Load e)) w z
+  pub load_ends : (e : Refusal) → loaded_of (model_read o f t n z m) ≡ Err (number_of e) → Ends (Err (N.Load e)) w p
   unfolding writes
-  load_ends e h = as_x (Err (N.Load e)) w z (not_loaded (number_of e)) (session_not_loaded (number_of e) h) (refl, refl, refl)
+  load_ends e h = as_x (Err (N.Load e)) w p (not_loaded (number_of e)) (session_not_loaded (number_of e) h) (refl, refl, refl)
 
   -- what `run` says of a record i and tables t', r being the number of its refusal
-  abbrev Ran : IvectorInfo → Tables → ℕ → Written → Rooms → Type 0
+  abbrev Ran : IvectorInfo → Tables → ℕ → Written → Program → Type 0
   Ran i t' r w' y =
       (r ≡ run_refusal i t' z m a b c)
       × (w' ≡ taken r (writes numbers 0 (answers (model_in i t') (ring_lengths_of z.rings) cs) w) w)
-      × (y ≡ taken r (program_after t' m (program (fresh_stream i (room_lengths_of z m)) (fresh_rooms i z)) cs).rooms z)
+      × (y ≡ taken r (program_after t' m (program (fresh_stream i (room_lengths_of z m)) (fresh_rooms i z)) cs) p)
 
   -- ---- a model that is loaded
 
@@ -120,23 +123,23 @@ module _ (o : IvectorOptions) (f : Files) (t : Tables) (n : ℕ) (z : Rooms) (m 
     refused_tests (suc r) false q h p = ap not_made (sym p)
 
     -- the calls are played
-    played_ends : (w' : Written) (y : Rooms) → Ran M.info (left o f t n z m) 0 w' y → Ends (Ok first) w' y
+    played_ends : (w' : Written) (y : Program) → Ran M.info (left o f t n z m) 0 w' y → Ends (Ok first) w' y
     played_ends w' y (r, wrote, rooms) =
         as_x (Ok first) w' y (played first model_answers) (sym (played_by listed fits (r ∙ number_is)) ∙ session_is) (
           refl,
           wrote ∙ ap (λ (as' : List Answer). writes numbers 0 as' w) answers_are,
-          rooms ∙ ap (after_calls o f t n z m cs) (sym e),
+          rooms ∙ ap (after_calls o f t n p m cs) (sym e),
         )
 
     -- the list or the stream is refused
-    stream_ends : (r : Refusal) (w' : Written) (y : Rooms) → Ran M.info (left o f t n z m) (number_of r) w' y → Ends (Err (N.Stream r)) w' y
+    stream_ends : (r : Refusal) (w' : Written) (y : Program) → Ran M.info (left o f t n z m) (number_of r) w' y → Ends (Err (N.Stream r)) w' y
     unfolding writes
     stream_ends r w' y (q, wrote, rooms) =
         as_x (Err (N.Stream r)) w' y (not_made (number_of r)) (sym (refused_tests listed fits (number_of r) (not_zero r) (q ∙ number_is)) ∙ session_is)
-        (refl, wrote ∙ taken_old (number_of r) _ w (not_zero r), rooms ∙ taken_old (number_of r) _ z (not_zero r))
+        (refl, wrote ∙ taken_old (number_of r) _ w (not_zero r), rooms ∙ taken_old (number_of r) _ p (not_zero r))
 
   -- by the record that the load returned, and the tables that it left
-  module _ (i : IvectorInfo) (t' : Tables) (loaded : Ok i ≡ loaded_of (model_read o f t n z m)) (tables_are : t' ≡ left o f t n z m) (w' : Written) (y : Rooms) where
+  module _ (i : IvectorInfo) (t' : Tables) (loaded : Ok i ≡ loaded_of (model_read o f t n z m)) (tables_are : t' ≡ left o f t n z m) (w' : Written) (y : Program) where
     by_model : (P : Result StreamAnswer NotPlayed) (r : ℕ) → ((M : Model) (at : ℕ) → model_read o f t n z m ≡ read M at → Ran M.info (left o f t n z m) r w' y → Ends P w' y)
         → Ran i t' r w' y → Ends P w' y
     by_model P r ends ran = go (model_read o f t n z m) refl loaded

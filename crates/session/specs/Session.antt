@@ -1,4 +1,4 @@
--- A session by one call: what it returned and wrote, as the claim from bytes speaks of it (`Answered`), and the rooms that it leaves.
+-- A session by one call: what it returned and wrote, as the claim from bytes speaks of it (`Answered`), and the stream that it leaves.
 use Rattle.std.specs.Prelude.{ℕ, List, [], Result, Ok, Err}
 use Rattle.loops.specs.Refusal.{taken}
 use Rattle.definition.specs.declared.IvectorOptions.{IvectorOptions}
@@ -9,7 +9,7 @@ use Rattle.definition.specs.Model.{Tables, Model, Files}
 use Rattle.definition.specs.Machine.{Call, Answer}
 use Rattle.program.specs.Rooms.{Rooms, room_lengths_of}
 use Rattle.program.specs.Calls.{fresh_stream, fresh_rooms}
-use Rattle.program.specs.Session.{program, program_after}
+use Rattle.program.specs.Session.{Program, program, program_after}
 use Rattle.whole.specs.Whole.{Answered, not_loaded, not_made, played, model_read, left, machine_session}
 use Rattle.session.specs.declared.NotPlayed.{NotPlayed}
 use Rattle.session.specs.declared.NotPlayed.TheVariants as N
@@ -37,12 +37,13 @@ module _ (o : IvectorOptions) (f : Files) (t : Tables) (n : ℕ) (z : Rooms) (m 
   abbrev pub session_answered : ℕ → Answered
   session_answered k = of_list k (machine_session o f t n z m cs)
 
-  -- a stream's rooms: those that the program has after the calls, where it plays them
-  abbrev pub after_calls : Got Model → Rooms
-  after_calls (refused r) = z
-  after_calls (read M at) = (program_after (left o f t n z m) m (program (fresh_stream M.info (room_lengths_of z m)) (fresh_rooms M.info z)) cs).rooms
+-- the stream's record and rooms, which were p: those that the program has after the calls, where it plays them
+module _ (o : IvectorOptions) (f : Files) (t : Tables) (n : ℕ) (p : Program) (m : ℕ) (cs : List Call) where
+  abbrev pub after_calls : Got Model → Program
+  after_calls (refused r) = p
+  after_calls (read M at) = program_after (left o f t n p.rooms m) m (program (fresh_stream M.info (room_lengths_of p.rooms m)) (fresh_rooms M.info p.rooms)) cs
 
-  abbrev pub rooms_left : Answered → Rooms
-  rooms_left (not_loaded r) = z
-  rooms_left (not_made r) = z
-  rooms_left (played a as') = after_calls (model_read o f t n z m)
+  abbrev pub program_left : Answered → Program
+  program_left (not_loaded r) = p
+  program_left (not_made r) = p
+  program_left (played a as') = after_calls (model_read o f t n p.rooms m)

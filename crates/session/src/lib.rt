@@ -4,19 +4,19 @@
 #![tactic(auto)]
 
 ghost use Rattle.std.specs.Prelude.{◌≡◌, List, ℕ, length};
-ghost use Rattle.definition.specs.Lent.{SameWaiting, SameEstimate};
 ghost use Rattle.definition.specs.Model.{Files, Tables, tables_from, table_lengths_of, load as load_of, loaded_tables};
 ghost use Rattle.definition.specs.Machine.{Call};
-ghost use Rattle.program.specs.Lent.{estimate_of};
-ghost use Rattle.program.specs.Rooms.{rings_from, Rooms, rooms_from};
+ghost use Rattle.program.specs.Session.{Program};
+ghost use Rattle.stream.specs.Stream.{program_of, SameRooms};
 ghost use Rattle.model.specs.Load.{files_of};
 ghost use Rattle.lists.specs.Listed.{calls, written, writes, list_refusal};
 ghost use Rattle.whole.specs.Whole.{Answered, machine_session};
-ghost use Rattle.session.specs.Session.{written_of, returned_with, session_answered, rooms_left};
+ghost use Rattle.session.specs.Session.{written_of, returned_with, session_answered, program_left};
 
-use definition::{IvectorOptions, LentEstimate, LentTables, Refusal, StreamAnswer, WaitingRooms};
+use definition::{IvectorOptions, LentTables, Refusal, StreamAnswer};
 use lists::run_calls::{self, CallList};
 use model::ivector_info;
+use stream::Stream;
 
 /// Why nothing was played.
 #[derive(Clone, Copy, Debug, PartialEq, Eq)]
@@ -36,7 +36,7 @@ const FRESH: StreamAnswer = StreamAnswer {
     nan_likelihoods: 0,
 };
 
-/// Loads the model of four files into the tables, makes a fresh stream in the rooms, and plays
+/// Loads the model of four files into the tables, makes a fresh stream of `stream`, and plays
 /// `list` on it. Answers and vectors are written as [`run_calls::run`] writes them. It returns the
 /// fresh stream's answer.
 ///
@@ -58,11 +58,7 @@ pub fn session(
     lda_offset: &mut [f32],
     global_mean_stats: &mut [f64],
     load_scratch: &mut [f64],
-    frames: &mut [f32],
-    rows: &mut [f64],
-    waiting: &mut WaitingRooms<'_>,
-    estimate: &mut LentEstimate<'_>,
-    scratch: &mut [f64],
+    stream: &mut Stream<'_>,
     list: CallList<'_>,
     answers: &mut [usize],
     outs: &mut [u32],
@@ -71,20 +67,18 @@ pub fn session(
         let f : Files = files_of gmm.now extractor.now lda.now cmvn.now in
         let t : Tables = tables_from gconsts.old means_invvars_t.old inv_vars_t.old sigma_inv_m.old
         u.old lda_t.old lda_offset.old global_mean_stats.old in
-        let z : Rooms = rooms_from (rings_from frames.old rows.old waiting.old.frames.now waiting.old.weights.now) (estimate_of estimate.old) in
-        let y : Rooms = rooms_from (rings_from frames.new rows.new waiting.new.frames.now waiting.new.weights.now) (estimate_of estimate.new) in
+        let p : Program = program_of stream.old in
         let n : ℕ = length load_scratch.old in
-        let m : ℕ = length scratch.old in
+        let m : ℕ = length stream.old.scratch.now in
         let l : CallList = list.entry in
         let cs : List Call = calls l.kinds.now l.numbers.now l.lists.now l.samples.now (length outs.old) in
-        let x : Answered = session_answered opts f t n z m cs (list_refusal (length l.kinds.now) (length l.numbers.now) (length answers.old)) in
+        let x : Answered = session_answered opts f t n p.rooms m cs (list_refusal (length l.kinds.now) (length l.numbers.now) (length answers.old)) in
         (returned_with result (written_of x) ≡ x)
         × (written answers.new outs.new ≡ writes l.numbers.now 0 (written_of x) (written answers.old outs.old))
         × (tables_from gconsts.new means_invvars_t.new inv_vars_t.new sigma_inv_m.new u.new lda_t.new lda_offset.new global_mean_stats.new
         ≡ loaded_tables (load_of opts f (table_lengths_of t) n) t)
-        × (y ≡ rooms_left opts f t n z m cs x)) }
-    ensures waiting { SameWaiting waiting.old waiting.new }
-    ensures estimate { SameEstimate estimate.old estimate.new }
+        × (program_of stream.new ≡ program_left opts f t n p m cs x)) }
+    ensures rooms { SameRooms stream.old stream.new }
 {
     let loaded = ivector_info::load(
         opts,
@@ -116,9 +110,7 @@ pub fn session(
         lda_offset,
         global_mean_stats,
     };
-    let ran = run_calls::run(
-        info, tables, frames, rows, waiting, estimate, scratch, list, answers, outs,
-    );
+    let ran = run_calls::run(info, tables, stream, list, answers, outs);
     match ran {
         Ok(()) => Ok(FRESH),
         Err(refusal) => Err(NotPlayed::Stream(refusal)),

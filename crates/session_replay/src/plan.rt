@@ -2,12 +2,13 @@
 //! plays it.
 use super::calls::Calls;
 use super::rooms::{Lengths, Rooms, Tables};
-use definition::{IvectorOptions, LentEstimate, StreamAnswer, WaitingRooms};
+use definition::{IvectorOptions, IvectorStream, StreamAnswer};
 use model::memory;
 use script::{Files, Item, NO_FILES, Words, not_here, print_answer};
 use session::NotPlayed;
 use std::alloc::{AllocError, Global};
 use std::io::{self, Write};
+use stream::Stream;
 
 /// What is asked for: nothing yet, a load with the lengths of its tables, or a stream over it with
 /// the lengths of its rooms.
@@ -136,15 +137,17 @@ impl<'a> Plan<'a> {
         }
         let mut t = Tables::new(self.alloc, &lengths)?;
         let mut z = Rooms::new(self.alloc, lengths.rooms)?;
-        let mut waiting = WaitingRooms {
-            frames: &mut z.waiting_frames,
-            weights: &mut z.waiting_weights,
-        };
-        let mut estimate = LentEstimate {
+        let mut stream = Stream {
+            record: &mut IvectorStream::default(),
+            frames: &mut z.frames,
+            rows: &mut z.rows,
+            waiting_frames: &mut z.waiting_frames,
+            waiting_weights: &mut z.waiting_weights,
             cmvn_stats: &mut z.cmvn_stats,
             linear: &mut z.linear,
             quadratic: &mut z.quadratic,
             current: &mut z.current,
+            scratch: &mut z.scratch,
         };
         let mut answers = vec![in self.alloc; 0usize; self
             .calls
@@ -167,11 +170,7 @@ impl<'a> Plan<'a> {
             &mut t.lda_offset,
             &mut t.global_mean_stats,
             &mut t.scratch,
-            &mut z.frames,
-            &mut z.rows,
-            &mut waiting,
-            &mut estimate,
-            &mut z.scratch,
+            &mut stream,
             self.calls.lent(),
             &mut answers,
             &mut outs,

@@ -7,7 +7,7 @@
 //! numbers, the frame of another, a change's weight.
 #![tactic(auto)]
 
-use definition::{IvectorInfo, LentEstimate, LentTables, Refusal, WaitingRooms};
+use definition::{IvectorInfo, IvectorStream, LentTables, Refusal};
 use lists::try_load::{self, LoadSizes};
 use lists::try_model;
 use lists::try_play::{self, Totals};
@@ -15,6 +15,7 @@ use model::ivector_info;
 use script::{Script, Words, front, lend, print, print_list};
 use std::env::{Env, FillError};
 use std::io::{self, Write};
+use stream::Stream;
 
 // ---- the model: one Gaussian, one i-vector dimension, no context
 
@@ -85,33 +86,19 @@ impl OpenModel {
             lda_offset: &self.lda_offset,
             global_mean_stats: &self.global_mean_stats,
         };
-        let mut waiting_frames = [0; 64];
-        let mut waiting_weights = [0.0; 64];
-        let mut waiting = WaitingRooms {
-            frames: &mut waiting_frames,
-            weights: &mut waiting_weights,
+        let mut stream = Stream {
+            record: &mut IvectorStream::default(),
+            frames: lend(&mut [0.0; 4096], dim * 64),
+            rows: lend(&mut [0.0; 5120], dim * 80),
+            waiting_frames: &mut [0; 64],
+            waiting_weights: &mut [0.0; 64],
+            cmvn_stats: &mut [0.0; 65],
+            linear: &mut [0.0; 1],
+            quadratic: &mut [0.0; 1],
+            current: &mut [0.0; 1],
+            scratch: &mut [0.0; 1024],
         };
-        let mut cmvn_stats = [0.0; 65];
-        let mut linear = [0.0; 1];
-        let mut quadratic = [0.0; 1];
-        let mut current = [0.0; 1];
-        let mut estimate = LentEstimate {
-            cmvn_stats: &mut cmvn_stats,
-            linear: &mut linear,
-            quadratic: &mut quadratic,
-            current: &mut current,
-        };
-        try_play::play(
-            self.info,
-            tables,
-            lend(&mut [0.0; 4096], dim * 64),
-            lend(&mut [0.0; 5120], dim * 80),
-            &mut waiting,
-            &mut estimate,
-            &mut [0.0; 1024],
-            asked.seed,
-            asked.count,
-        )
+        try_play::play(self.info, tables, &mut stream, asked.seed, asked.count)
     }
 }
 
