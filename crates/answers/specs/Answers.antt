@@ -9,10 +9,12 @@ use Rattle.definition.specs.declared.IvectorStream.{IvectorStream}
 use Rattle.definition.specs.declared.StreamAnswer.{StreamAnswer}
 use Rattle.definition.specs.declared.StreamCall.{StreamCall}
 use Rattle.definition.specs.declared.SilenceWeighting.{SilenceWeighting}
+use Rattle.definition.specs.declared.refusal.Refusal.{Refusal}
+use Rattle.definition.specs.Number.{number_of}
 use Rattle.definition.specs.Model.{lengths_from}
 use Rattle.definition.specs.Silence.{decoder}
 use Rattle.program.specs.Rooms.{rings_from, estimate_from, rooms_from, room_lengths_of}
-use Rattle.program.specs.Calls.{answer_from, fresh_stream}
+use Rattle.program.specs.Calls.{answer_from, call_of, fresh_stream}
 use Rattle.answers.specs.declared.LoadAnswer.{LoadAnswer}
 use Rattle.answers.specs.declared.NewTableAnswer.{NewTableAnswer}
 
@@ -50,6 +52,11 @@ no_stream i = fresh_stream i (room_lengths_of (rooms_from (rings_from [] [] [] [
 -- what is returned, and the record behind the reference
 abbrev pub answered : StreamAnswer → IvectorStream → StreamCall
 answered a s = record { answer = a; stream = s }
+
+-- what a start made that left the record s
+abbrev pub made : Result Unit Refusal → IvectorStream → Result StreamCall ℕ
+made (Ok a) s = Ok (call_of 0 s 0 0)
+made (Err e) s = Err (number_of e)
 
 unfoldable pub new_stream_answer : IvectorInfo → Result StreamCall ℕ → StreamCall
 new_stream_answer i (Ok c) = c

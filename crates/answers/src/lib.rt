@@ -6,7 +6,7 @@ ghost use Rattle.std.specs.Prelude.{◌≡◌, ◌≤◌};
 ghost use Rattle.definition.specs.Number.{refused_by, numbered};
 ghost use Rattle.program.specs.Calls.{answer_of};
 ghost use Rattle.stream.specs.Stream.{not_finite_in, nans_in};
-ghost use Rattle.answers.specs.Answers.{no_info, load_answer, no_options, no_stream, new_stream_answer, no_table, new_table_answer};
+ghost use Rattle.answers.specs.Answers.{no_info, load_answer, no_options, no_stream, made, new_stream_answer, no_table, new_table_answer};
 
 use definition::{
     IvectorInfo, IvectorOptions, IvectorStream, Refusal, SilenceWeighting, StreamAnswer,
@@ -81,16 +81,25 @@ fn no_stream(info: IvectorInfo) -> IvectorStream
     }
 }
 
-/// The record of a fresh stream on the model `info`. A refusal is given by its number.
+/// The record of a start on the model `info` that left the record `s`. A refusal is given by its
+/// number.
 #[tactic(auto, unfolding(crate::specs::Answers::new_stream_answer))]
-pub fn stream_answer(info: IvectorInfo, a: Result<StreamCall, usize>) -> StreamCall
-    ensures { result ≡ new_stream_answer info a }
+pub fn stream_answer(
+    info: IvectorInfo,
+    started: Result<(), Refusal>,
+    s: IvectorStream,
+) -> StreamCall
+    requires { refused_by started ≡ 0 → (s.accepted ≤ 1000000000) × (s.mark ≤ 1000000000) }
+    ensures { result ≡ new_stream_answer info (made started s) }
 {
-    match a {
-        Ok(call) => call,
-        Err(refusal) => StreamCall {
+    match started {
+        Ok(()) => StreamCall {
+            answer: reply(0, &s, 0, 0),
+            stream: s,
+        },
+        Err(e) => StreamCall {
             answer: StreamAnswer {
-                refusal,
+                refusal: e.number(),
                 ..StreamAnswer::default()
             },
             stream: no_stream(info),

@@ -242,8 +242,9 @@ kept-where-refused =
     record {
       shofrakin_load = λ o f t t' m m' a e h k r. load_kept o _ t t' m m' a e h k r;
       shofrakin_load_with_settings = λ splice cmvn f t t' m m' a e h k r. load_kept _ _ t t' m m' a e h k r;
-      shofrakin_new_stream = λ i t z z' n a e h r.
-          new_kept i (new_refusal i (table_lengths_of t) (room_lengths_of z n)) (call_of 0 (fresh_stream i (room_lengths_of z n)) 0 0) a z (fresh_rooms i z) z' e (number_is 0 _ 0 0) h r;
+      shofrakin_new_stream = λ i t z z' m m' a e h q r.
+          let n = room_lengths_of z (length m) in
+          (new_kept i (new_refusal i (table_lengths_of t) n) (call_of 0 (fresh_stream i n) 0 0) a z (fresh_rooms i z) z' e (number_is 0 _ 0 0) h r, q);
       shofrakin_push_frame = λ x. rings_kept (λ s z. push_frame s z x);
       shofrakin_set_input_finished = rings_kept set_input_finished;
       shofrakin_update_frame_weights = λ fs ws. rings_kept (λ s z. update_frame_weights s z fs ws);

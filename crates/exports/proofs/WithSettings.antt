@@ -12,7 +12,7 @@ use Rattle.definition.specs.Reader.{Got, refused}
 use Rattle.definition.specs.Model.{Files, Model, load}
 use Rattle.model.specs.Load.{scratch_kept}
 use Rattle.kaldi.specs.Settings.{plain, settings_of, load_with}
-use Rattle.exports.specs.declared.SettingsAnswer.{SettingsAnswer}
+use Rattle.exports.specs.declared.model_calls.SettingsAnswer.{SettingsAnswer}
 use Rattle.exports.specs.Answers.{settings_answer}
 
 -- ---- the load with them

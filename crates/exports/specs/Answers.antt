@@ -4,8 +4,8 @@ use Rattle.definition.specs.declared.SilenceAnswer.{SilenceAnswer}
 use Rattle.definition.specs.declared.SilenceWeighting.{SilenceWeighting}
 use Rattle.definition.specs.Reader.{Got, read, refused}
 use Rattle.answers.specs.Answers.{no_options}
-use Rattle.exports.specs.declared.SettingsAnswer.{SettingsAnswer}
-use Rattle.exports.specs.declared.SilenceCounts.{SilenceCounts}
+use Rattle.exports.specs.declared.model_calls.SettingsAnswer.{SettingsAnswer}
+use Rattle.exports.specs.declared.silence_calls.SilenceCounts.{SilenceCounts}
 
 -- the refusal's number, 0 where the options were read
 unfoldable pub settings_answer : Got IvectorOptions → SettingsAnswer

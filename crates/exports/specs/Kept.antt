@@ -28,8 +28,8 @@ use Rattle.rounds.specs.declared.trigger_steps.RoundOutcome.{RoundOutcome}
 use Rattle.model.specs.Load.{scratch_kept}
 use Rattle.answers.specs.Answers.{load_answer, answered, new_stream_answer}
 use Rattle.answers.specs.declared.LoadAnswer.{LoadAnswer}
-use Rattle.exports.specs.declared.SilenceCounts.{SilenceCounts}
-use Rattle.exports.specs.declared.StepAnswer.{StepAnswer}
+use Rattle.exports.specs.declared.silence_calls.SilenceCounts.{SilenceCounts}
+use Rattle.exports.specs.declared.register_calls.StepAnswer.{StepAnswer}
 use Rattle.exports.specs.Answers.{settings_answer, counted}
 
 -- a call on the rings: record s and rings z, s' and z' at exit
@@ -109,11 +109,13 @@ pub record KeptWhereRefused : Type 0 where
       → a.refusal ≢ 0
       → (t' ≡ t) × (scratch' ≡ scratch)
   pub shofrakin_new_stream :
-      (i : IvectorInfo) (t : Tables) (z z' : Rooms) (n : ℕ) (a : StreamCall)
-      → a ≡ new_stream_answer i (new_answer i (table_lengths_of t) (room_lengths_of z n))
-      → z' ≡ taken (new_refusal i (table_lengths_of t) (room_lengths_of z n)) (fresh_rooms i z) z
+      (i : IvectorInfo) (t : Tables) (z z' : Rooms) (scratch scratch' : List Float) (a : StreamCall)
+      → let lengths = room_lengths_of z (length scratch) in
+      a ≡ new_stream_answer i (new_answer i (table_lengths_of t) lengths)
+      → z' ≡ taken (new_refusal i (table_lengths_of t) lengths) (fresh_rooms i z) z
+      → scratch' ≡ scratch
       → a.answer.refusal ≢ 0
-      → z' ≡ z
+      → (z' ≡ z) × (scratch' ≡ scratch)
   pub shofrakin_push_frame : (x : List Float) → RingsKept (λ s z. push_frame s z x)
   pub shofrakin_set_input_finished : RingsKept set_input_finished
   pub shofrakin_update_frame_weights : (fs : List ℕ) (ws : List Float) → RingsKept (λ s z. update_frame_weights s z fs ws)

@@ -10,7 +10,7 @@ use Rattle.model.specs.Load.{files_of, scratch_kept}
 use Rattle.answers.specs.Answers.{load_answer}
 use Rattle.exports.specs.Answers.{settings_answer}
 use Rattle.exports.proofs.WithSettings.{same_options, not_loaded, is_loaded, kept_with}
-use Rattle.exports.proofs.shofrakin_load_with_settings.Goals as goal
+use Rattle.exports.proofs.model_calls.shofrakin_load_with_settings.Goals as goal
 
 pub returns-then-a-ne0 : goal.returns-then-a-ne0
 returns-then-a-ne0 c =

@@ -6,7 +6,7 @@ use lib.Ieee.{binary64}
 use Rattle.writer.specs.Written.{Params, written, written_out, written_answer}
 use Rattle.writer.specs.Lent.{written_of}
 use Rattle.exports.proofs.Params.{as_they_are}
-use Rattle.exports.proofs.shofrakin_write_f64.Goals as goal
+use Rattle.exports.proofs.model_calls.shofrakin_write_f64.Goals as goal
 
 pub returns : goal.returns
 returns c =

@@ -1,7 +1,7 @@
 -- The plain load, and its answer as a record: every equation is that of `load`.
 use mathlib.Core.Path.{ap, ◌∙◌}
 use Rattle.answers.specs.Answers.{load_answer}
-use Rattle.exports.proofs.shofrakin_load.Goals as goal
+use Rattle.exports.proofs.model_calls.shofrakin_load.Goals as goal
 
 pub shape_of-gconsts : goal.shape_of-gconsts
 shape_of-gconsts c = c.load-loaded.auto.gconsts
