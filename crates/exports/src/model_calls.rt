@@ -44,7 +44,7 @@ pub extern "C" fn shofrakin_load(
         let t : Tables = tables_from gconsts.old means_invvars_t.old inv_vars_t.old sigma_inv_m.old
         u.old lda_t.old lda_offset.old global_mean_stats.old in
         let got = load_of opts (files_of gmm.now extractor.now lda.now cmvn.now)
-            (table_lengths_of t) (length scratch.old) in
+        (table_lengths_of t) (length scratch.old) in
         (result ≡ load_answer opts (loaded_of got))
         × (tables_from gconsts.new means_invvars_t.new inv_vars_t.new sigma_inv_m.new
         u.new lda_t.new lda_offset.new global_mean_stats.new ≡ loaded_tables got t)
@@ -121,8 +121,8 @@ pub extern "C" fn shofrakin_load_with_settings(
         u.old lda_t.old lda_offset.old global_mean_stats.old in
         let o = settings_of splice.now online_cmvn.now in
         let got = load_with splice.now online_cmvn.now
-            (files_of gmm.now extractor.now lda.now cmvn.now) (table_lengths_of t)
-            (length scratch.old) in
+        (files_of gmm.now extractor.now lda.now cmvn.now) (table_lengths_of t)
+        (length scratch.old) in
         (result ≡ load_answer (settings_answer o).opts (loaded_of got))
         × (tables_from gconsts.new means_invvars_t.new inv_vars_t.new sigma_inv_m.new
         u.new lda_t.new lda_offset.new global_mean_stats.new ≡ loaded_tables got t)
@@ -213,7 +213,7 @@ pub extern "C" fn shofrakin_write_f32(
 ) -> WrittenAnswer
     ensures { (
         let p : Params = params_from sizes weights.now means_invvars.now inv_vars.now m.now
-            sigma_inv.now prior_offset lda.now in
+        sigma_inv.now prior_offset lda.now in
         (result ≡ written_answer (written binary32 opts cmvn.now p (length out.old)))
         × (out.new ≡ written_out binary32 opts cmvn.now p out.old)) }
 {
@@ -247,7 +247,7 @@ pub extern "C" fn shofrakin_write_f64(
 ) -> WrittenAnswer
     ensures { (
         let p : Params = params_from sizes weights.now means_invvars.now inv_vars.now m.now
-            sigma_inv.now prior_offset lda.now in
+        sigma_inv.now prior_offset lda.now in
         (result ≡ written_answer (written binary64 opts cmvn.now p (length out.old)))
         × (out.new ≡ written_out binary64 opts cmvn.now p out.old)) }
 {

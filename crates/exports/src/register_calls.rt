@@ -45,13 +45,13 @@ pub extern "C" fn shofrakin_registers_step(
 ) -> StepAnswer
     ensures { (
         let t : Tables = tables_from gconsts.now means_invvars_t.now inv_vars_t.now sigma_inv_m.now
-            u.now lda_t.now lda_offset.now global_mean_stats.now in
+        u.now lda_t.now lda_offset.now global_mean_stats.now in
         let z : Rooms = rooms_from
-            (rings_from frames.old rows.old waiting_frames.old waiting_weights.old)
-            (estimate_from cmvn_stats.old linear.old quadratic.old current.old) in
+        (rings_from frames.old rows.old waiting_frames.old waiting_weights.old)
+        (estimate_from cmvn_stats.old linear.old quadratic.old current.old) in
         let y : Rooms = rooms_from
-            (rings_from frames.new rows.new waiting_frames.new waiting_weights.new)
-            (estimate_from cmvn_stats.new linear.new quadratic.new current.new) in
+        (rings_from frames.new rows.new waiting_frames.new waiting_weights.new)
+        (estimate_from cmvn_stats.new linear.new quadratic.new current.new) in
         let a : Board = board (program s.old z) block.old out.old in
         let n : ℕ = length scratch.old in
         (result.refusal ≡ block_refusal block.old)

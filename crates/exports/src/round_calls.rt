@@ -65,24 +65,28 @@ pub extern "C" fn shofrakin_round(
 ) -> RoundAnswer
     ensures { (
         let t : Tables = tables_from gconsts.now means_invvars_t.now inv_vars_t.now sigma_inv_m.now
-            u.now lda_t.now lda_offset.now global_mean_stats.now in
+        u.now lda_t.now lda_offset.now global_mean_stats.now in
         let z : Rooms = rooms_from
-            (rings_from frames.old rows.old waiting_frames.old waiting_weights.old)
-            (estimate_from cmvn_stats.old linear.old quadratic.old current.old) in
+        (rings_from frames.old rows.old waiting_frames.old waiting_weights.old)
+        (estimate_from cmvn_stats.old linear.old quadratic.old current.old) in
         let y : Rooms = rooms_from
-            (rings_from frames.new rows.new waiting_frames.new waiting_weights.new)
-            (estimate_from cmvn_stats.new linear.new quadratic.new current.new) in
+        (rings_from frames.new rows.new waiting_frames.new waiting_weights.new)
+        (estimate_from cmvn_stats.new linear.new quadratic.new current.new) in
         let w : Utterance = record {
-            start = start; numbers = numbers.now;
-            phones = phones.now; starts = starts.now; ends = ends.now } in
+          start = start;
+          numbers = numbers.now;
+          phones = phones.now;
+          starts = starts.now;
+          ends = ends.now;
+        } in
         let v : Voices = record { count = voices; enrolled = enrolled.now; limit = limit } in
         let b : Bench = bench s z silence (table_rooms known.old is_silence.old current_weight.old)
-            delta_frames.old delta_weights.old 0 out.old in
+        delta_frames.old delta_weights.old 0 out.old in
         let x : Round = round_of t (length scratch.old) silence_phones.now w v b in
         (result.outcome ≡ round_outcome x.result)
         × (bench result.stream y result.silence
-            (table_rooms known.new is_silence.new current_weight.new) delta_frames.new
-            delta_weights.new result.changes out.new ≡ x.bench)
+        (table_rooms known.new is_silence.new current_weight.new) delta_frames.new
+        delta_weights.new result.changes out.new ≡ x.bench)
         × (worked x.result ≡ false → scratch.new ≡ scratch.old)) }
 {
     let utterance = LentUtterance {

@@ -63,10 +63,10 @@ pub extern "C" fn shofrakin_compute_current_traceback(
         let s₀ : SilenceWeighting = s.old in
         let z : TableRooms = table_rooms known.old is_silence.old current_weight.old in
         table_call (counted result s.new)
-            (table_rooms known.new is_silence.new current_weight.new) [] []
+        (table_rooms known.new is_silence.new current_weight.new) [] []
         ≡ table_done s₀ z [] []
-            (compute_current_traceback s₀ z silence_phones.now segment_phones.now
-                starts.now ends.now num_frames_decoded)) }
+        (compute_current_traceback s₀ z silence_phones.now segment_phones.now
+        starts.now ends.now num_frames_decoded)) }
 {
     let mut rooms = SilenceRooms {
         known,
@@ -109,10 +109,10 @@ pub extern "C" fn shofrakin_get_delta_weights(
         let s₀ : SilenceWeighting = s.old in
         let z : TableRooms = table_rooms known.old is_silence.old current_weight.old in
         table_call (counted result s.new)
-            (table_rooms known.new is_silence.new current_weight.new) frames.new weights.new
+        (table_rooms known.new is_silence.new current_weight.new) frames.new weights.new
         ≡ table_done s₀ z frames.old weights.old
-            (get_delta_weights s₀ z num_frames_ready first_decoder_frame
-                (length frames.old) (length weights.old))) }
+        (get_delta_weights s₀ z num_frames_ready first_decoder_frame
+        (length frames.old) (length weights.old))) }
 {
     let mut rooms = SilenceRooms {
         known,

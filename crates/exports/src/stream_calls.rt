@@ -41,13 +41,13 @@ pub extern "C" fn shofrakin_new_stream(
 ) -> StreamCall
     ensures { (
         let t : Tables = tables_from gconsts.now means_invvars_t.now inv_vars_t.now sigma_inv_m.now
-            u.now lda_t.now lda_offset.now global_mean_stats.now in
+        u.now lda_t.now lda_offset.now global_mean_stats.now in
         let z : Rooms = rooms_from
-            (rings_from frames.old rows.old waiting_frames.old waiting_weights.old)
-            (estimate_from cmvn_stats.old linear.old quadratic.old current.old) in
+        (rings_from frames.old rows.old waiting_frames.old waiting_weights.old)
+        (estimate_from cmvn_stats.old linear.old quadratic.old current.old) in
         let y : Rooms = rooms_from
-            (rings_from frames.new rows.new waiting_frames.new waiting_weights.new)
-            (estimate_from cmvn_stats.new linear.new quadratic.new current.new) in
+        (rings_from frames.new rows.new waiting_frames.new waiting_weights.new)
+        (estimate_from cmvn_stats.new linear.new quadratic.new current.new) in
         let lengths = room_lengths_of z (length scratch.old) in
         (result ≡ new_stream_answer info (new_answer info (table_lengths_of t) lengths))
         × (y ≡ taken (new_refusal info (table_lengths_of t) lengths) (fresh_rooms info z) z)
@@ -96,7 +96,7 @@ pub extern "C" fn shofrakin_push_frame(
         let s₀ : IvectorStream = s.old in
         let z : Rings = rings_from frames.old rows.old waiting_frames.old waiting_weights.old in
         ring_call (answered result s.new)
-            (rings_from frames.new rows.new waiting_frames.new waiting_weights.new)
+        (rings_from frames.new rows.new waiting_frames.new waiting_weights.new)
         ≡ done_on s₀ z (push_frame s₀ z frame.now)) }
 {
     let mut stream = Stream {
@@ -128,7 +128,7 @@ pub extern "C" fn shofrakin_set_input_finished(
         let s₀ : IvectorStream = s.old in
         let z : Rings = rings_from frames.old rows.old waiting_frames.old waiting_weights.old in
         ring_call (answered result s.new)
-            (rings_from frames.new rows.new waiting_frames.new waiting_weights.new)
+        (rings_from frames.new rows.new waiting_frames.new waiting_weights.new)
         ≡ done_on s₀ z (set_input_finished s₀ z)) }
 {
     let mut stream = Stream {
@@ -163,7 +163,7 @@ pub extern "C" fn shofrakin_update_frame_weights(
         let s₀ : IvectorStream = s.old in
         let z : Rings = rings_from frames.old rows.old waiting_frames.old waiting_weights.old in
         ring_call (answered result s.new)
-            (rings_from frames.new rows.new waiting_frames.new waiting_weights.new)
+        (rings_from frames.new rows.new waiting_frames.new waiting_weights.new)
         ≡ done_on s₀ z (update_frame_weights s₀ z delta_frames.now delta_weights.now)) }
 {
     let mut stream = Stream {
@@ -197,7 +197,7 @@ pub extern "C" fn shofrakin_forget_before(
         let s₀ : IvectorStream = s.old in
         let z : Rings = rings_from frames.old rows.old waiting_frames.old waiting_weights.old in
         ring_call (answered result s.new)
-            (rings_from frames.new rows.new waiting_frames.new waiting_weights.new)
+        (rings_from frames.new rows.new waiting_frames.new waiting_weights.new)
         ≡ done_on s₀ z (forget_before s₀ z frame)) }
 {
     let mut stream = Stream {
@@ -231,7 +231,7 @@ pub extern "C" fn shofrakin_set_cmn_window(
         let s₀ : IvectorStream = s.old in
         let z : Rings = rings_from frames.old rows.old waiting_frames.old waiting_weights.old in
         ring_call (answered result s.new)
-            (rings_from frames.new rows.new waiting_frames.new waiting_weights.new)
+        (rings_from frames.new rows.new waiting_frames.new waiting_weights.new)
         ≡ done_on s₀ z (set_cmn_window s₀ z window)) }
 {
     let mut stream = Stream {
@@ -278,13 +278,13 @@ pub extern "C" fn shofrakin_get_frame(
     ensures { (
         let s₀ : IvectorStream = s.old in
         let t : Tables = tables_from gconsts.now means_invvars_t.now inv_vars_t.now sigma_inv_m.now
-            u.now lda_t.now lda_offset.now global_mean_stats.now in
+        u.now lda_t.now lda_offset.now global_mean_stats.now in
         let z : Rooms = rooms_from
-            (rings_from frames.old rows.old waiting_frames.old waiting_weights.old)
-            (estimate_from cmvn_stats.old linear.old quadratic.old current.old) in
+        (rings_from frames.old rows.old waiting_frames.old waiting_weights.old)
+        (estimate_from cmvn_stats.old linear.old quadratic.old current.old) in
         let y : Rooms = rooms_from
-            (rings_from frames.new rows.new waiting_frames.new waiting_weights.new)
-            (estimate_from cmvn_stats.new linear.new quadratic.new current.new) in
+        (rings_from frames.new rows.new waiting_frames.new waiting_weights.new)
+        (estimate_from cmvn_stats.new linear.new quadratic.new current.new) in
         let x : Step = get_frame s₀ t z (length scratch.old) frame (length out.old) in
         (fetch_call (answered result s.new) y out.new ≡ fetched_on s₀ z out.old x)
         × ((x.refusal ≡ 0 → ⊥) → scratch.new ≡ scratch.old)) }

@@ -19,4 +19,4 @@ round_told e h s =
     (e ∙ ap (λ (x : Round). round_outcome x.result) h, ap (λ (x : Round). x.bench) h, λ w. s (ap (λ (x : Round). worked x.result) h ∙ w))
 
 pub returns : goal.returns
-returns c = round_told c.round_outcome.ensures (search rules) c.round-done.ensures.scratch
+returns c = round_told c.round_outcome.ensures (search rules) (λ w. search (rules, c.round-done.ensures.scratch w))
