@@ -1,11 +1,10 @@
 -- run_calls: every list of calls has slices that give it; parts of slices as code has them; what a call of each kind leaves; what is left of a list
--- after one of its calls; the ways out of a run; rooms that are still those that were lent.
+-- after one of its calls; the ways out of a run.
 pub mod Coded
 pub mod Cut
 pub mod Branches
 pub mod Lists
 pub mod Runs
-pub mod Loans
 -- try_load: the first result; the rule's exactness; laws of draws and refusals; the place between two calls; the input.
 pub mod Seed
 pub mod Exact

@@ -117,7 +117,8 @@ fn answered(taken: Result<(), Refusal>, stream: &Stream<'_>) -> StreamAnswer
 // The answer of a fetch.
 fn fetch_answer(taken: Result<Fetched, Refusal>, stream: &Stream<'_>) -> StreamAnswer
     requires { Few taken stream.now }
-    ensures { result ≡ answer_of (refused_by taken) (record_of stream.now) (not_finite_in taken) (nans_in taken) }
+    ensures { result
+        ≡ answer_of (refused_by taken) (record_of stream.now) (not_finite_in taken) (nans_in taken) }
 {
     answers::fetch_answer(taken, stream.record)
 }
@@ -204,13 +205,17 @@ pub fn run(
         let z : Rooms = rooms_of stream.old in
         let n : ℕ = length stream.old.scratch.now in
         let l : CallList = list.entry in
-        let cs : List Call = calls l.kinds.now l.numbers.now l.lists.now l.samples.now (length outs.old) in
+        let cs : List Call = calls l.kinds.now l.numbers.now l.lists.now l.samples.now
+        (length outs.old) in
         let o : Written = written answers.old outs.old in
         let r : ℕ = refused_by result in
-        (r ≡ run_refusal info t z n (length l.kinds.now) (length l.numbers.now) (length answers.old))
+        (r ≡ run_refusal info t z n (length l.kinds.now) (length l.numbers.now)
+        (length answers.old))
         × (written answers.new outs.new
-        ≡ taken r (writes l.numbers.now 0 (M.answers (model_in info t) (ring_lengths_of z.rings) cs) o) o)
-        × (program_of stream.new ≡ taken r (program_after t n (fresh_program info stream.old) cs) (program_of stream.old))
+        ≡ taken r
+        (writes l.numbers.now 0 (M.answers (model_in info t) (ring_lengths_of z.rings) cs) o) o)
+        × (program_of stream.new
+        ≡ taken r (program_after t n (fresh_program info stream.old) cs) (program_of stream.old))
         × ((r ≡ 0 → ⊥) → stream.new.scratch.now ≡ stream.old.scratch.now)) }
     ensures rooms { SameRooms stream.old stream.new }
 {

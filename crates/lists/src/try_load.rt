@@ -195,8 +195,9 @@ fn fill_lists(
     named: &mut [usize],
     weights: &mut [f32],
 )
-    requires { (dim ≤ 64) × (count ≤ 10000) × ((drawing_at dim seed count).pushes * dim ≤ length frames.old) × (count ≤ length kinds.old)
-        × (count ≤ length named.old) × (count ≤ length weights.old) }
+    requires { (dim ≤ 64) × (count ≤ 10000)
+        × ((drawing_at dim seed count).pushes * dim ≤ length frames.old)
+        × (count ≤ length kinds.old) × (count ≤ length named.old) × (count ≤ length weights.old) }
     ensures { drawn_lists frames.new kinds.new named.new weights.new
         ≡ filled dim seed count (drawn_lists frames.old kinds.old named.old weights.old) }
 {
@@ -235,8 +236,10 @@ pub fn fill(
 ) -> Result<(), Refusal>
     ensures { (
         let l : DrawnLists = drawn_lists frames.old kinds.old named.old weights.old in
-        (refused_by result ≡ fill_refusal seed dim count (length l.frames) (length l.kinds) (length l.named) (length l.weights))
-        × (drawn_lists frames.new kinds.new named.new weights.new ≡ taken (refused_by result) (filled dim seed count l) l)) }
+        (refused_by result ≡ fill_refusal seed dim count (length l.frames) (length l.kinds)
+        (length l.named) (length l.weights))
+        × (drawn_lists frames.new kinds.new named.new weights.new
+        ≡ taken (refused_by result) (filled dim seed count l) l)) }
 {
     size_refusal(seed, dim, count)?;
     let state = seed as u32;

@@ -19,8 +19,10 @@ pub fn draw_call(
     lists: &mut [usize],
     samples: &mut [f32],
 ) -> CodedCall
-    requires { (0 < dim) × (dim ≤ length samples.old) × (0 < length lists.old) × (pushes ≤ 10000) }
-    ensures { (decoded result lists.new samples.new 1 ≡ call_in dim (drawing state pushes)) × (result.kind ≡ draw_of state % 5) }
+    requires { (0 < dim) × (dim ≤ length samples.old) × (0 < length lists.old)
+        × (pushes ≤ 10000) }
+    ensures { (decoded result lists.new samples.new 1 ≡ call_in dim (drawing state pushes))
+        × (result.kind ≡ draw_of state % 5) }
 {
     let s = try_load::draw(state);
     let drawn = s % 5;
@@ -86,7 +88,8 @@ pub fn note(
     a: StreamAnswer,
 ) -> usize
     requires { (get_or calls.old kind 0 < 10000) × (get_or refusals.old a.refusal 0 < 10000) }
-    ensures { tally calls.new refusals.new result ≡ noted (tally calls.old refusals.old most) kind a }
+    ensures { tally calls.new refusals.new result
+        ≡ noted (tally calls.old refusals.old most) kind a }
 {
     count(calls, usize::from(kind));
     count(refusals, a.refusal);

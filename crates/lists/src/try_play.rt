@@ -45,7 +45,8 @@ fn play_calls(
         let n : ℕ = length stream.old.scratch.now in
         let cs : List Call = drawn_calls dim seed times in
         (tally result.calls result.refusals result.greatest
-        ≡ tallied (tally (replicate 5 0) (replicate 34 0) 0) cs (program_answers t n (program_of stream.old) cs))
+        ≡ tallied (tally (replicate 5 0) (replicate 34 0) 0) cs
+        (program_answers t n (program_of stream.old) cs))
         × (program_of stream.new ≡ program_after t n (program_of stream.old) cs)) }
     ensures rooms { SameRooms stream.old stream.new }
 {
@@ -91,8 +92,11 @@ pub fn play(
         let n : ℕ = length stream.old.scratch.now in
         let cs : List Call = drawn_calls info.dims.base_dim seed times in
         let q : ℕ = play_refusal info t z n seed times in
-        (totals_of result ≡ taken q (totals cs (M.answers (model_in info t) (ring_lengths_of z.rings) cs)) (no_totals q))
-        × (program_of stream.new ≡ taken q (program_after t n (fresh_program info stream.old) cs) (program_of stream.old))
+        (totals_of result
+        ≡ taken q (totals cs (M.answers (model_in info t) (ring_lengths_of z.rings) cs))
+        (no_totals q))
+        × (program_of stream.new
+        ≡ taken q (program_after t n (fresh_program info stream.old) cs) (program_of stream.old))
         × ((q ≡ 0 → ⊥) → stream.new.scratch.now ≡ stream.old.scratch.now)) }
     ensures rooms { SameRooms stream.old stream.new }
 {

@@ -1,6 +1,6 @@
 -- The steps of a round, from what a call returned: each law takes the equation of a call's contract and says what the step is then.
 use Rattle.std.specs.Prelude.{if◌then◌else◌, Result, Ok, Err, IfOk, IfErr}
-use mathlib.Core.Path.{◌≡◌, refl, sym, ap, ◌∙◌}
+use mathlib.Core.Path.{◌≡◌, refl, sym, ap, ap₂, ◌∙◌}
 use mathlib.Core.Bool.{true}
 use mathlib.Core.List.{List, [], ◌∷◌, ◌++◌}
 use Prim.Native.Nat.{ℕ, zero, suc, ◌-◌, ◌≤◌, ◌<◌, min}
@@ -65,7 +65,8 @@ module _ {A : Type 0} (k : Step) (x : Result A Refusal) (s : IvectorStream) (n m
       by_result (Ok a) e = let z : ◌≡◌ {A = ℕ} 0 1 = cc in absurd (omega arith)
       by_result (Err d) e =
           let told = told-number (refusal_number d) s n m in
-          e ∙ ap (λ (r : ℕ). Err (record { refusal = r; step = number_of k })) (sym told) ∙ choose_false _ (ne_eqb _ 0 (λ z. numbered d (sym told ∙ z))) refl
+          let halt : h ≡ record { refusal = refusal_number d; step = number_of k } = cc in
+          ap Err halt ∙ ap (λ (r : ℕ). Err (record { refusal = r; step = number_of k })) (sym told) ∙ choose_false _ (ne_eqb _ 0 (λ z. numbered d (sym told ∙ z))) refl
 
   pub no_halt : (a : A) → Ok a ≡ halted k x → Ok tt ≡ stopped (number_of k) (call_of (refused_by x) s n m).answer.refusal
   no_halt a e = by_result x e
@@ -96,9 +97,9 @@ ends_at k (Ok a) h b next = refl
 ends_at k (Err d) h b next = ap (λ (j : ℕ). ended j d.refusal b next) (sym h.1)
 
 module _ (s : IvectorStream) (z : Rings) where
-  pub forget_is : (start : ℕ) (r : StreamCall) (b : Bench) → ring_call r z ≡ done_on s z (forget_before s z start) → forgets start (with_rings b s z) ≡ done r.answer.refusal (with_rings b r.stream z)
+  pub forget_is : (start : ℕ) (r : StreamCall) (y : Rings) (b : Bench) → ring_call r y ≡ done_on s z (forget_before s z start) → forgets start (with_rings b s z) ≡ done r.answer.refusal (with_rings b r.stream y)
   unfolding forgets
-  forget_is start r b e = ap (λ c. done c.call.answer.refusal (with_rings b c.call.stream c.rings)) (sym e)
+  forget_is start r y b e = ap (λ c. done c.call.answer.refusal (with_rings b c.call.stream c.rings)) (sym e)
 
   push_is :
       (x : List Float) (r : StreamCall) (y : Rings) (xs : List (List Float)) → ring_call r y ≡ done_on s z (push_frame s z x)
@@ -114,23 +115,23 @@ module _ (s : IvectorStream) (z : Rings) where
   pushes_are q t y xs b e = ap (λ p. done p.refusal (with_rings b p.stream p.rings)) (sym e)
 
 -- both steps
-module _ (s : IvectorStream) (z : Rings) (start : ℕ) (xs : List Float) (r : StreamCall) (e : ring_call r z ≡ done_on s z (forget_before s z start)) (b : Bench) (next : Bench → Round) where
-  forgotten : after 1 (forgets start (with_rings b s z)) (λ c. after 2 (pushes xs c) next) ≡ ended 1 r.answer.refusal (with_rings b r.stream z) (λ c. after 2 (pushes xs c) next)
-  forgotten = ap (λ d. after 1 d (λ c. after 2 (pushes xs c) next)) (forget_is s z start r b e)
+module _ (s : IvectorStream) (z : Rings) (start : ℕ) (xs : List Float) (r : StreamCall) (w : Rings) (e : ring_call r w ≡ done_on s z (forget_before s z start)) (b : Bench) (next : Bench → Round) where
+  forgotten : after 1 (forgets start (with_rings b s z)) (λ c. after 2 (pushes xs c) next) ≡ ended 1 r.answer.refusal (with_rings b r.stream w) (λ c. after 2 (pushes xs c) next)
+  forgotten = ap (λ d. after 1 d (λ c. after 2 (pushes xs c) next)) (forget_is s z start r w b e)
 
   pub not_forgotten : (h : Halt) → Err h ≡ stopped 1 r.answer.refusal
-      → after 1 (forgets start (with_rings b s z)) (λ c. after 2 (pushes xs c) next) ≡ ended h.step h.refusal (with_rings b r.stream z) next
+      → after 1 (forgets start (with_rings b s z)) (λ c. after 2 (pushes xs c) next) ≡ ended h.step h.refusal (with_rings b r.stream w) next
   not_forgotten h e =
       let q = stopped_err 1 r.answer.refusal h e in
-      forgotten ∙ stops _ _ _ _ q.1 ∙ sym (stops _ _ _ next q.1) ∙ ap (λ (h : Halt). ended h.step h.refusal (with_rings b r.stream z) next) (sym q.0)
+      forgotten ∙ stops _ _ _ _ q.1 ∙ sym (stops _ _ _ next q.1) ∙ ap (λ (h : Halt). ended h.step h.refusal (with_rings b r.stream w) next) (sym q.0)
 
   pub then_pushed :
       (u : Unit) → Ok u ≡ stopped 1 r.answer.refusal → (p : Result Unit Halt) → IfErr p (λ h. (0 < h.refusal) × (h.step ≡ 2)) → (t : IvectorStream) (y : Rings)
-      → pushed (refusal_in p) t y ≡ push_all r.stream z (cut (frame_length r.stream) xs)
+      → pushed (refusal_in p) t y ≡ push_all r.stream w (cut (frame_length r.stream) xs)
       → after 1 (forgets start (with_rings b s z)) (λ c. after 2 (pushes xs c) next) ≡ ended (step_in p) (refusal_in p) (with_rings b t y) next
   then_pushed u o p halts t y e =
-      forgotten ∙ goes_on 1 r.answer.refusal (with_rings b r.stream z) (λ c. after 2 (pushes xs c) next) (stopped_ok 1 r.answer.refusal u o)
-      ∙ ap (λ d. after 2 d next) (pushes_are r.stream z (refusal_in p) t y xs b e)
+      forgotten ∙ goes_on 1 r.answer.refusal (with_rings b r.stream w) (λ c. after 2 (pushes xs c) next) (stopped_ok 1 r.answer.refusal u o)
+      ∙ ap (λ d. after 2 d next) (pushes_are r.stream w (refusal_in p) t y xs b e)
       ∙ ends_at 2 p halts (with_rings b t y) next
 
 -- a frame of an utterance pushed: l is what is left of the numbers, x the frame, l' what is left behind it
@@ -312,8 +313,10 @@ module _ (t : Tables) (n : ℕ) (ps : List ℤ) (v : Voices) (start : ℕ) (xs :
     unfolding round
     begun = heard lent weighing
 
-    pub ends_hearing : (r ≡ 0 → ⊥) → round_from (refused_at r k) (with_rings lent s₁ z₁) ≡ round t n ps spoken v lent
-    ends_hearing h = sym (stops k r (with_rings lent s₁ z₁) weighing h) ∙ sym begun
+    pub ends_hearing : {x' : EstimateRooms} → x' ≡ x → (r ≡ 0 → ⊥) → round_from (refused_at r k) (bench s₁ (rooms_from z₁ x') q w fs ws 0 out) ≡ round t n ps spoken v lent
+    ends_hearing e h =
+        ap (λ (x : EstimateRooms). round_from (refused_at r k) (bench s₁ (rooms_from z₁ x) q w fs ws 0 out)) e
+        ∙ sym (stops k r (with_rings lent s₁ z₁) weighing h) ∙ sym begun
 
     module _ (none : r ≡ 0) (m : ℕ) (m_is : m ≡ ready s₁) (k' r' : ℕ) (q' : SilenceWeighting) (w' : TableRooms) (fs' : List ℕ) (ws' : List Float) (g : ℕ)
         (weighed :
@@ -327,8 +330,9 @@ module _ (t : Tables) (n : ℕ) (ps : List ℤ) (v : Voices) (start : ℕ) (xs :
       weighed_on : round t n ps spoken v lent ≡ ended k' r' weighed_bench changing
       weighed_on = begun ∙ goes_on k r (with_rings lent s₁ z₁) weighing none ∙ weighed (with_rings lent s₁ z₁) xs changing (sym m_is)
 
-      pub ends_weighing : (r' ≡ 0 → ⊥) → round_from (refused_at r' k') weighed_bench ≡ round t n ps spoken v lent
-      ends_weighing h = sym (stops k' r' weighed_bench changing h) ∙ sym weighed_on
+      pub ends_weighing : {x' : EstimateRooms} → x' ≡ x → (r' ≡ 0 → ⊥) → round_from (refused_at r' k') (bench s₁ (rooms_from z₁ x') q' w' fs' ws' g out) ≡ round t n ps spoken v lent
+      ends_weighing e h =
+          ap (λ (x : EstimateRooms). round_from (refused_at r' k') (bench s₁ (rooms_from z₁ x) q' w' fs' ws' g out)) e ∙ sym (stops k' r' weighed_bench changing h) ∙ sym weighed_on
 
       module _ (none' : r' ≡ 0) (c : StreamCall) (z₂ : Rings) (e : ring_call c z₂ ≡ done_on s₁ z₁ (update_frame_weights s₁ z₁ (take g fs') (take g ws'))) where
         abbrev changed_bench : Bench
@@ -337,14 +341,17 @@ module _ (t : Tables) (n : ℕ) (ps : List ℤ) (v : Voices) (start : ℕ) (xs :
         changed_on : round t n ps spoken v lent ≡ ended 5 c.answer.refusal changed_bench (last_steps t n v)
         changed_on = weighed_on ∙ goes_on k' r' weighed_bench changing none' ∙ ap (λ d. after 5 d (last_steps t n v)) (change_is s₁ z₁ c z₂ weighed_bench e)
 
-        pub ends_changing : (h : Halt) → Err h ≡ stopped 5 c.answer.refusal → round_from (Err h) changed_bench ≡ round t n ps spoken v lent
-        ends_changing h o =
+        pub ends_changing : {x' : EstimateRooms} → x' ≡ x → (h : Halt) → Err h ≡ stopped 5 c.answer.refusal
+            → round_from (Err h) (bench c.stream (rooms_from z₂ x') q' w' fs' ws' g out) ≡ round t n ps spoken v lent
+        ends_changing e' h o =
             let p = stopped_err 5 c.answer.refusal h o in
-            ap (λ (h : Halt). round_from (Err h) changed_bench) p.0 ∙ sym (stops 5 c.answer.refusal changed_bench (last_steps t n v) p.1) ∙ sym changed_on
+            ap (λ (x : EstimateRooms). round_from (Err h) (bench c.stream (rooms_from z₂ x) q' w' fs' ws' g out)) e'
+            ∙ ap (λ (h : Halt). round_from (Err h) changed_bench) p.0 ∙ sym (stops 5 c.answer.refusal changed_bench (last_steps t n v) p.1) ∙ sym changed_on
 
-        pub ends_full :
-            (u : Unit) → Ok u ≡ stopped 5 c.answer.refusal → (a : RoundResult) (s₃ : IvectorStream) (y : Rooms) (out' : List ℕ)
-            → ((b : Bench) → round_from a (with_fetch b s₃ y out') ≡ last_steps t n v (with_fetch b c.stream (rooms_from z₂ x) out))
+        -- scratch is as long as it was
+        pub ends_full : {x' : EstimateRooms} → x' ≡ x → {n' : ℕ} → n' ≡ n
+            → (u : Unit) → Ok u ≡ stopped 5 c.answer.refusal → (a : RoundResult) (s₃ : IvectorStream) (y : Rooms) (out' : List ℕ)
+            → ((b : Bench) → round_from a (with_fetch b s₃ y out') ≡ last_steps t n' v (with_fetch b c.stream (rooms_from z₂ x') out))
             → round_from a (bench s₃ y q' w' fs' ws' g out') ≡ round t n ps spoken v lent
-        ends_full u o a s₃ y out' d =
-            d changed_bench ∙ sym (goes_on 5 c.answer.refusal changed_bench (last_steps t n v) (stopped_ok 5 c.answer.refusal u o)) ∙ sym changed_on
+        ends_full e' long u o a s₃ y out' d =
+            d changed_bench ∙ ap₂ (λ (x : EstimateRooms) (n : ℕ). last_steps t n v (with_fetch changed_bench c.stream (rooms_from z₂ x) out)) e' long ∙ sym (goes_on 5 c.answer.refusal changed_bench (last_steps t n v) (stopped_ok 5 c.answer.refusal u o)) ∙ sym changed_on

@@ -7,6 +7,5 @@ pub mod Voice
 -- trigger_steps: the round of an utterance, step by step. To be believed.
 pub mod Round
 pub mod Halts
--- trigger: what a round returns, as a record for hosts. To be believed. `Lent`: what it is given.
-pub mod Answer
+-- trigger: what a round is given.
 pub mod Lent

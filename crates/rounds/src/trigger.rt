@@ -1,5 +1,5 @@
 //! The round of an utterance, which is seven calls in their order: forget, push, note, weigh,
-//! change, fetch, find. Each function here is lent the slices that its calls write, and no others.
+//! change, fetch, find.
 
 ghost use Rattle.std.specs.Prelude.{◌≡◌, ◌<◌, false, length, IfErr};
 ghost use Rattle.definition.specs.Lent.{tables_in};
@@ -47,7 +47,8 @@ pub struct TriggerRound {
 // short is pushed as it stands.
 fn push_all(stream: &mut Stream<'_>, numbers: &[f32]) -> Result<(), Halt>
     ensures pushes { pushed (refusal_in result) (record_of stream.new) (rings_of stream.new)
-        ≡ push_all (record_of stream.old) (rings_of stream.old) (cut (frame_length (record_of stream.old)) numbers.now) }
+        ≡ push_all (record_of stream.old) (rings_of stream.old)
+        (cut (frame_length (record_of stream.old)) numbers.now) }
     ensures halt { IfErr result (λ h. (0 < h.refusal) × (h.step ≡ 2)) }
     ensures rest { Rest stream.old stream.new }
 {
@@ -63,8 +64,10 @@ fn push_all(stream: &mut Stream<'_>, numbers: &[f32]) -> Result<(), Halt>
 // Steps 1 and 2: forget at the start, push.
 fn hear(stream: &mut Stream<'_>, start: usize, numbers: &[f32]) -> Result<(), Halt>
     ensures steps { (b : Bench) (next : Bench → Round) →
-        after 1 (forgets start (with_rings b (record_of stream.old) (rings_of stream.old))) (λ c. after 2 (pushes numbers.now c) next)
-        ≡ ended (step_in result) (refusal_in result) (with_rings b (record_of stream.new) (rings_of stream.new)) next }
+        after 1 (forgets start (with_rings b (record_of stream.old) (rings_of stream.old)))
+        (λ c. after 2 (pushes numbers.now c) next)
+        ≡ ended (step_in result) (refusal_in result)
+        (with_rings b (record_of stream.new) (rings_of stream.new)) next }
     ensures halt { IfErr result (λ h. 0 < h.refusal) }
     ensures rest { Rest stream.old stream.new }
 {
@@ -81,8 +84,10 @@ fn decide(
     out: &mut [u32],
     voices: LentVoices<'_>,
 ) -> Result<RoundEnd, Halt>
-    ensures steps { (b : Bench) → round_from result (with_fetch b (record_of stream.new) (rooms_of stream.new) out.new)
-        ≡ last_steps (tables_in tables.entry) (length stream.old.scratch.now) (voices_of voices.entry)
+    ensures steps { (b : Bench) →
+        round_from result (with_fetch b (record_of stream.new) (rooms_of stream.new) out.new)
+        ≡ last_steps (tables_in tables.entry) (length stream.old.scratch.now)
+        (voices_of voices.entry)
         (with_fetch b (record_of stream.old) (rooms_of stream.old) out.old) }
     ensures scratch { worked result ≡ false → stream.new.scratch.now ≡ stream.old.scratch.now }
     ensures loans { SameRooms stream.old stream.new }
@@ -114,9 +119,13 @@ fn go_through(
     voices: LentVoices<'_>,
 ) -> Result<RoundEnd, Halt>
     ensures round { changes.old ≡ 0 →
-        round_from result (bench (record_of stream.new) (rooms_of stream.new) silence.new (rooms_in table_rooms.new) delta_frames.new delta_weights.new changes.new out.new)
-        ≡ round_of (tables_in tables.entry) (length stream.old.scratch.now) silence_phones.now (utterance_of utterance.entry) (voices_of voices.entry)
-        (bench (record_of stream.old) (rooms_of stream.old) silence.old (rooms_in table_rooms.old) delta_frames.old delta_weights.old 0 out.old) }
+        round_from result
+        (bench (record_of stream.new) (rooms_of stream.new) silence.new (rooms_in table_rooms.new)
+        delta_frames.new delta_weights.new changes.new out.new)
+        ≡ round_of (tables_in tables.entry) (length stream.old.scratch.now) silence_phones.now
+        (utterance_of utterance.entry) (voices_of voices.entry)
+        (bench (record_of stream.old) (rooms_of stream.old) silence.old (rooms_in table_rooms.old)
+        delta_frames.old delta_weights.old 0 out.old) }
     ensures scratch { worked result ≡ false → stream.new.scratch.now ≡ stream.old.scratch.now }
     ensures rooms { SameRooms stream.old stream.new }
     ensures loans { SameLoans table_rooms.old table_rooms.new }
@@ -162,9 +171,13 @@ pub fn round(
     out: &mut [u32],
     voices: LentVoices<'_>,
 ) -> TriggerRound
-    ensures round { round_from result.result (bench (record_of stream.new) (rooms_of stream.new) silence.new (rooms_in table_rooms.new) delta_frames.new delta_weights.new result.changes out.new)
-        ≡ round_of (tables_in tables.entry) (length stream.old.scratch.now) silence_phones.now (utterance_of utterance.entry) (voices_of voices.entry)
-        (bench (record_of stream.old) (rooms_of stream.old) silence.old (rooms_in table_rooms.old) delta_frames.old delta_weights.old 0 out.old) }
+    ensures round { round_from result.result
+        (bench (record_of stream.new) (rooms_of stream.new) silence.new (rooms_in table_rooms.new)
+        delta_frames.new delta_weights.new result.changes out.new)
+        ≡ round_of (tables_in tables.entry) (length stream.old.scratch.now) silence_phones.now
+        (utterance_of utterance.entry) (voices_of voices.entry)
+        (bench (record_of stream.old) (rooms_of stream.old) silence.old (rooms_in table_rooms.old)
+        delta_frames.old delta_weights.old 0 out.old) }
     ensures scratch { worked result.result ≡ false → stream.new.scratch.now ≡ stream.old.scratch.now }
     ensures rooms { SameRooms stream.old stream.new }
     ensures loans { SameLoans table_rooms.old table_rooms.new }

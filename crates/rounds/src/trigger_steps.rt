@@ -102,12 +102,16 @@ pub fn weigh_path(
     ensures weights { IfOk result (λ n. n ≤ length delta_weights.old) }
     ensures halt { IfErr result (λ h. 0 < h.refusal) }
     ensures steps { (b : Bench) (xs : List Float) (next : Bench → Round) →
-        let u : Utterance = record { start = start; numbers = xs; phones = path.entry.phones.now; starts = path.entry.starts.now; ends = path.entry.ends.now } in
+        let u : Utterance = record {
+            start = start; numbers = xs; phones = path.entry.phones.now;
+            starts = path.entry.starts.now; ends = path.entry.ends.now } in
         ready_of b.stream ≡ ready →
-        after 3 (notes silence_phones.now u (with_table b silence.old (rooms_in rooms.old) delta_frames.old delta_weights.old 0))
+        after 3 (notes silence_phones.now u
+        (with_table b silence.old (rooms_in rooms.old) delta_frames.old delta_weights.old 0))
         (λ c. after 4 (weighs (ready_of c.stream) start c) next)
         ≡ ended (step_in result) (refusal_in result)
-        (with_table b silence.new (rooms_in rooms.new) delta_frames.new delta_weights.new (given_in result)) next }
+        (with_table b silence.new (rooms_in rooms.new) delta_frames.new delta_weights.new
+        (given_in result)) next }
     ensures loans { SameLoans rooms.old rooms.new }
 {
     let frames = DecoderFrame(decoded(path.ends));

@@ -71,11 +71,15 @@ pub fn session(
         let n : ℕ = length load_scratch.old in
         let m : ℕ = length stream.old.scratch.now in
         let l : CallList = list.entry in
-        let cs : List Call = calls l.kinds.now l.numbers.now l.lists.now l.samples.now (length outs.old) in
-        let x : Answered = session_answered opts f t n p.rooms m cs (list_refusal (length l.kinds.now) (length l.numbers.now) (length answers.old)) in
+        let cs : List Call = calls l.kinds.now l.numbers.now l.lists.now l.samples.now
+        (length outs.old) in
+        let x : Answered = session_answered opts f t n p.rooms m cs
+        (list_refusal (length l.kinds.now) (length l.numbers.now) (length answers.old)) in
         (returned_with result (written_of x) ≡ x)
-        × (written answers.new outs.new ≡ writes l.numbers.now 0 (written_of x) (written answers.old outs.old))
-        × (tables_from gconsts.new means_invvars_t.new inv_vars_t.new sigma_inv_m.new u.new lda_t.new lda_offset.new global_mean_stats.new
+        × (written answers.new outs.new
+        ≡ writes l.numbers.now 0 (written_of x) (written answers.old outs.old))
+        × (tables_from gconsts.new means_invvars_t.new inv_vars_t.new sigma_inv_m.new u.new
+        lda_t.new lda_offset.new global_mean_stats.new
         ≡ loaded_tables (load_of opts f (table_lengths_of t) n) t)
         × (program_of stream.new ≡ program_left opts f t n p m cs x)) }
     ensures rooms { SameRooms stream.old stream.new }

@@ -13,7 +13,7 @@ use Rattle.definition.specs.Number.{refused_by}
 use Rattle.definition.specs.Machine.{Call}
 use Rattle.stream.specs.Stream.{program_of}
 use Rattle.stream.proofs.Records.{some_number}
-use Rattle.lists.proofs.Loans.{still_lent}
+use Rattle.stream.proofs.Loans.{still_lent}
 use Rattle.lists.specs.Listed.{calls, Written, written, list_refusal}
 use Rattle.lists.proofs.Lists.{left_again, left_last}
 use Rattle.lists.proofs.Runs.{list_taken, run_listed, run_refused, run_played}

@@ -5,7 +5,7 @@ use lib.ListN.{length}
 use native.Mathlib.Omega.{arith}
 use Rattle.lists.proofs.Places.{placed_none, placed_next}
 use Rattle.lists.proofs.Going.{going_first, going_again, going_last, zeros_few}
-use Rattle.lists.proofs.Loans.{still_lent}
+use Rattle.stream.proofs.Loans.{still_lent}
 use Rattle.lists.proofs.try_play.play_calls.Goals as goal
 
 pub loop-i-init : goal.loop-i-init

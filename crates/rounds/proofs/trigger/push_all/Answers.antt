@@ -4,6 +4,7 @@ use mathlib.Core.Path.{◌≡◌, sym, ap, ◌∙◌}
 use Prim.Native.Nat.{ℕ}
 use Rattle.std.proofs.lemmas.Result.{err_from_is_err_and}
 use Rattle.stream.specs.Stream.{record_of, rings_of}
+use Rattle.stream.proofs.Loans.{still_rest}
 use Rattle.rounds.specs.declared.trigger_steps.Step.TheVariants as S
 use Rattle.rounds.specs.Round.{cut, push_all}
 use Rattle.rounds.proofs.Steps.{halts, no_halt, push_refused, push_taken, push-none}
@@ -16,7 +17,7 @@ loop-frame-preserved c =
     let n-is : c.max-n.result ≡ c.loop-frame.frame-iterator.size = sym was.1 in (
       was.0,
       step.0 ∙ was.1,
-      grind,
+      still_rest was.2 c.push-call.ensures.rest,
       push_taken c.max-n.result was.0 _ _ _ step.1.0 (rw n-is step.1.1) step.1.2 _ _ _ _ c.push-call.ensures.call _ (no_halt S.Push _ _ 0 0 _ c.in_ok-at_step.ensures) ∙ was.3,
     )
 
