@@ -1,6 +1,6 @@
 //! A stream: a fresh one, its calls, and questions.
 
-ghost use Rattle.std.specs.Prelude.{◌≡◌, ℕ, length};
+ghost use Rattle.std.specs.Prelude.{◌≡◌, length};
 ghost use Rattle.loops.specs.Refusal.{taken};
 ghost use Rattle.definition.specs.Model.{Tables, tables_from, table_lengths_of};
 ghost use Rattle.definition.specs.Machine.{frames_ready};
