@@ -16,9 +16,10 @@ mod Rooms
 pub mod Records
 pub mod Refusals
 pub mod Stored
--- ivector_stream: laws of the calls.
+-- ivector_stream: laws of the calls, one and several.
 pub mod Replies
 pub mod Taken
+pub mod Loans
 -- ivector_fetch: laws for the fetch.
 pub mod Vector
 pub mod FetchRefusals

@@ -146,6 +146,7 @@ impl Stream<'_> {
         ensures rooms { rooms_of self.new
             ≡ (fetch_of self.old (tables_in tables.entry) frame n).rooms }
         ensures nans { result ≡ (fetch_of self.old (tables_in tables.entry) frame n).nans }
+        ensures scratch_length { length self.new.scratch.now ≡ length self.old.scratch.now }
         ensures loans { SameRooms self.old self.new }
     {
         let s = *self.record;
@@ -223,6 +224,7 @@ impl Stream<'_> {
             (fetch_of self.old (tables_in tables.entry) frame (length out.old)) }
         ensures scratch { ((fetch_of self.old (tables_in tables.entry) frame (length out.old)).refusal ≡ 0 → ⊥)
             → self.new.scratch.now ≡ self.old.scratch.now }
+        ensures scratch_length { length self.new.scratch.now ≡ length self.old.scratch.now }
         ensures few { Few result self.new }
         ensures loans { SameRooms self.old self.new }
     {
