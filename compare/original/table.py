@@ -5,13 +5,12 @@ ALLOC = 'allocation may fail'
 LOGARITHM = 'the scope\'s exponential and logarithm'
 START = 'a start on the solution is kept'
 NAN = 'NaN stands last'
-METHOD = CAST = 'a method or a cast as a function'
+METHOD = CAST = TAKE = 'a method or a cast as a function'
 COUNT = 'a signed count as usize'
 ZIP = 'a zip over what changes, by its index'
 BORROW = 'a borrow taken where it is read'
 DROP = 'a type that may be let go'
 PROVE = 'an assertion that is proved'
-TAKE = 'the next bytes as a function'
 TEXT = 'an error\'s text, and a text as a text'
 BYTES = 'bytes in place of files'
 WHY = {
@@ -23,7 +22,9 @@ WHY = {
     NAN: 'Where the original panics at a NaN likelihood, a NaN stands last and the lower index first. The same place as in compare\'s copy.',
     METHOD: 'Rust\'s `sqrt`, `abs`, `min` and `max` of a float are here the functions of `floats` of those names, proved equal to their definitions: the root rounded, the number without '
             'its sign, the other number where one is a NaN; of two equal numbers Rust leaves open which one `min` or `max` gives (a zero\'s sign), and here it is the first. `as` between '
-            '`f32` and `f64` is exact or rounds to nearest, NaN to NaN; `to_bits`, `from_bits` and the bytes of a float are its bit pattern; `try_collect` is `collect` of results.',
+            '`f32` and `f64` is exact or rounds to nearest, NaN to NaN; `to_bits`, `from_bits` and the bytes of a float are its bit pattern; `try_collect` is `collect` of results. '
+            '`by_ref().take(n).read_to_end(buf)` puts the next n bytes behind `buf`, or all where fewer are left; so does `read_up_to`, of which that is proved, where the kit\'s clauses '
+            'leave open what the reader has left.',
     COUNT: 'The count of turns begins at 0, rises by 1 and ends at 133 at most; as a `usize` it needs no test of its sign. The option that it is compared with is not negative within '
            'the limits.',
     ZIP: '`a.iter_mut().zip(b)` visits the places of both in order; by the index of `a` the same, where `b` is as long, which the prover sees to.',
@@ -31,15 +32,13 @@ WHY = {
     DROP: 'Rattle asks a type to say that its values may be let go. No step is added.',
     TEXT: 'The words of an error take nothing of what was read; the error and its kind stay. A `String` is compared, or stripped, as the text that it holds.',
     BYTES: 'The folder is a value that holds its files\' bytes, by their names, where the original reads them from the file system.',
-    TAKE: '`by_ref().take(n).read_to_end(buf)` puts the next n bytes behind `buf`, or all where fewer are left; so does `read_up_to`, of which that is proved, where the kit\'s clauses '
-          'leave open what the reader has left.',
     PROVE: '`assert!` panics where it does not hold; `prove!` is proved to hold, so that the panic cannot come.',
 }
 
 # the project's crates that the contracts and proofs speak of; those below them come with them
 DEPS = 'loops floats definition algebra gmm ivector_stats'
 # files of laws, and of words that they need, in crates that stand on more than these: each is laid into this crate, since it needs no more than these itself
-LAWS = ['rounds/proofs/Phones', 'kaldi/proofs/Bytes', 'kaldi/proofs/Values', 'kaldi/proofs/Chain', 'kaldi/specs/Inner/KaldiIoAnswers']
+LAWS = ['rounds/proofs/Phones', 'kaldi/proofs/Bytes', 'kaldi/proofs/Values', 'kaldi/proofs/Chain', 'kaldi/specs/Inner/KaldiIoAnswers', 'kaldi/specs/Settings']
 
 IVECTOR = 'ivector.rs'
 SILENCE = 'silence_weighting.rs'
@@ -160,7 +159,7 @@ LIB = [
         (COUNT, 'pub num_cg_iters: i32', 'pub num_cg_iters: usize'),
     ]),
     item('IvectorOptions.default', 'impl Default for IvectorOptions {'),
-    item('conf_float', 'fn conf_float(', open=True, subs=[
+    item('conf_float', 'fn conf_float(', subs=[
         (TEXT, 'txt.lines()', 'let prefix = format!("--{key}=");\n    txt.lines()'),
         (TEXT, '&format!("--{key}=")', 'prefix.as_str()'),
     ], alloc=[
@@ -170,7 +169,7 @@ LIB = [
         ('\n    txt.lines()', '\n    Ok(txt.lines()'),
         ('.ok())\n', '.ok()))\n'),
     ]),
-    item('conf_int', 'fn conf_int(', open=True, subs=[
+    item('conf_int', 'fn conf_int(', subs=[
         (TEXT, '&format!("--{key}=")', 'format!("--{key}=").as_str()'),
     ], alloc=[
         ('conf_int(txt', 'conf_int(alloc: Global, txt'),
@@ -417,7 +416,7 @@ READERS = [
             ('_raw(', '_raw(alloc, '),
         ]) for name in ('read_float_vec', 'read_float_matrix', 'read_double_vec', 'read_double_matrix', 'read_packed_double')],
     ]),
-    item('parse_text_matrix', 'pub fn parse_text_matrix(', source=K, open=True, subs=[
+    item('parse_text_matrix', 'pub fn parse_text_matrix(', source=K, subs=[
         (TEXT, '&format!("bad number {v}")', '"bad number"'),
         (CAST, '.collect::<Result<_>>()', '.try_collect()'),
     ], alloc=[
