@@ -86,10 +86,12 @@ impl OpenModel {
             lda_offset: &self.lda_offset,
             global_mean_stats: &self.global_mean_stats,
         };
+        let mut frames = [0.0; 4096];
+        let mut rows = [0.0; 5120];
         let mut stream = Stream {
             record: &mut IvectorStream::default(),
-            frames: lend(&mut [0.0; 4096], dim * 64),
-            rows: lend(&mut [0.0; 5120], dim * 80),
+            frames: lend(&mut frames, dim * 64),
+            rows: lend(&mut rows, dim * 80),
             waiting_frames: &mut [0; 64],
             waiting_weights: &mut [0.0; 64],
             cmvn_stats: &mut [0.0; 65],
