@@ -1,8 +1,6 @@
 //! The calls of the library. They are lent the fronts of the program's rooms that the script wants.
 use super::rooms::{Lengths, Rooms, Tables};
-use definition::{
-    IvectorInfo, IvectorOptions, IvectorStream, LentTables, Refusal, StreamAnswer,
-};
+use definition::{IvectorInfo, IvectorOptions, IvectorStream, LentTables, Refusal, StreamAnswer};
 use model::ivector_info;
 use script::{Files, lend};
 use stream::Stream;

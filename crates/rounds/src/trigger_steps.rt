@@ -103,8 +103,12 @@ pub fn weigh_path(
     ensures halt { IfErr result (λ h. 0 < h.refusal) }
     ensures steps { (b : Bench) (xs : List Float) (next : Bench → Round) →
         let u : Utterance = record {
-            start = start; numbers = xs; phones = path.entry.phones.now;
-            starts = path.entry.starts.now; ends = path.entry.ends.now } in
+          start = start;
+          numbers = xs;
+          phones = path.entry.phones.now;
+          starts = path.entry.starts.now;
+          ends = path.entry.ends.now;
+        } in
         ready_of b.stream ≡ ready →
         after 3 (notes silence_phones.now u
         (with_table b silence.old (rooms_in rooms.old) delta_frames.old delta_weights.old 0))
