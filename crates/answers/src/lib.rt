@@ -81,29 +81,34 @@ fn no_stream(info: IvectorInfo) -> IvectorStream
     }
 }
 
-/// The record of a start on the model `info` that left the record `s`. A refusal is given by its
-/// number.
+/// The record of a fresh stream on the model `info`. A refusal is given by its number.
 #[tactic(auto, unfolding(crate::specs::Answers::new_stream_answer))]
-pub fn stream_answer(
-    info: IvectorInfo,
-    started: Result<(), Refusal>,
-    s: IvectorStream,
-) -> StreamCall
-    requires { refused_by started ≡ 0 → (s.accepted ≤ 1000000000) × (s.mark ≤ 1000000000) }
-    ensures { result ≡ new_stream_answer info (made started s) }
+pub fn stream_answer(info: IvectorInfo, a: Result<StreamCall, usize>) -> StreamCall
+    ensures { result ≡ new_stream_answer info a }
 {
-    match started {
-        Ok(()) => StreamCall {
-            answer: reply(0, &s, 0, 0),
-            stream: s,
-        },
-        Err(e) => StreamCall {
+    match a {
+        Ok(call) => call,
+        Err(refusal) => StreamCall {
             answer: StreamAnswer {
-                refusal: e.number(),
+                refusal,
                 ..StreamAnswer::default()
             },
             stream: no_stream(info),
         },
+    }
+}
+
+/// The record of a start on the model `info` that left the record `s`.
+pub fn start_answer(info: IvectorInfo, started: Result<(), Refusal>, s: IvectorStream) -> StreamCall
+    requires { refused_by started ≡ 0 → (s.accepted ≤ 1000000000) × (s.mark ≤ 1000000000) }
+    ensures { result ≡ new_stream_answer info (made started s) }
+{
+    match started {
+        Ok(()) => {
+            let answer = reply(0, &s, 0, 0);
+            stream_answer(info, Ok(StreamCall { answer, stream: s }))
+        }
+        Err(e) => stream_answer(info, Err(e.number())),
     }
 }
 

@@ -77,7 +77,7 @@ pub extern "C" fn shofrakin_new_stream(
         scratch,
     };
     let started = stream.start(info, tables);
-    answers::stream_answer(info, started, *stream.record)
+    answers::start_answer(info, started, *stream.record)
 }
 
 // ---- calls on a stream

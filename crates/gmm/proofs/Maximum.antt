@@ -2,11 +2,12 @@
 use mathlib.Core.Path.{◌≡◌, refl, sym, ap, ◌∙◌}
 use mathlib.Core.Bool.{false}
 use mathlib.Core.List.{List, [], ◌∷◌, foldl, foldl-append}
-use Prim.Native.Nat.{ℕ, zero, suc, ◌+◌, ◌≤◌, ◌<◌}
+use Prim.Native.Nat.{ℕ, zero, suc, ◌+◌, ◌-◌, ◌≤◌, ◌<◌}
+use native.Mathlib.Nat.{le_of_eq}
 use native.Mathlib.Omega.{arith}
 use borrow.Author.Tests.{ltb-true, ltb-false}
 use lib.Dec.{ltb}
-use lib.ListN.{length, take}
+use lib.ListN.{length, take, drop, take-append-drop, length-drop}
 use lib.Seq.{take_all}
 use lib.Ieee.{Float, nan, is_nan, lt}
 use Rattle.loops.proofs.Choose.{by-test}
@@ -54,3 +55,10 @@ top-past ls k (suc j) h l n e =
     top-turn ls (omega (arith, l)) (top-past ls k j (omega (arith, s)) (omega (arith, l)) (λ i p. n i (omega (arith, p))) e) (rw (n j (omega arith) (omega (arith, s))))
     ∙ ap (λ (i : ℕ). top least (take i ls)) next)
     (λ t. let s : k ≡ suc j = omega (arith, h, ltb-false k (suc j) t) in e ∙ ap (λ (i : ℕ). top least (take i ls)) s)
+
+-- the rest is gone over from the largest in front of k on
+pub top-rest : (ls : List Float) (k : ℕ) {m v : Float} → m ≡ top least (take k ls) → v ≡ top m (take (length ls - k) (drop k ls)) → v ≡ max_like ls
+unfolding top
+top-rest ls k {m} e f =
+    f ∙ ap (top m) (take_all (length ls - k) (drop k ls) (le_of_eq (length-drop k ls))) ∙ ap (λ (x : Float). top x (drop k ls)) e
+    ∙ sym (foldl-append above least (take k ls) (drop k ls)) ∙ ap (top least) (take-append-drop k ls) ∙ sym (max-top least ls least-no_nan)

@@ -13,7 +13,7 @@ ghost use Rattle.definition.specs.Posteriors.{pruned, every, max_like, ranked, b
 ghost use Rattle.gmm.specs.Inner.Leading.{posts_in};
 ghost use Rattle.gmm.specs.Inner.LeadingRooms.{HasPlaces, SameChosen};
 ghost use Rattle.gmm.specs.Inner.PosteriorsRooms.{Selected, Collects, Likely};
-ghost use Rattle.gmm.specs.Inner.Posteriors.{Next, likelihoods as likelihoods_of, passes, place_or};
+ghost use Rattle.gmm.specs.Inner.Posteriors.{Next, likelihoods as likelihoods_of, passes, place_or, above as above_of, top};
 
 use crate::leading::{self, Chosen, Holding};
 
@@ -26,6 +26,10 @@ fn likelihood(d: f32) -> f32
 {
     if d == 0.0 {
         return 1.0;
+    }
+    // before the series is added up
+    if d < -104.0 {
+        return 0.0;
     }
     floats::exp(d)
 }
@@ -153,6 +157,45 @@ fn some_likelihoods(first: usize, end: usize, likes: &mut [f32])
     }
 }
 
+// Of how many of the differences from place `first` up to `end` the exponential is added up: neither
+// of 0, nor of those so far below that it is 0. With no branch in the loop.
+fn series_wanted(first: usize, end: usize, likes: &[f32]) -> usize
+    requires { (first ≤ end) × (end ≤ length likes.now) }
+    ensures { result ≤ end - first }
+{
+    let mut count = 0;
+    for i in first..end {
+        let d = likes[i];
+        if d >= -104.0 && d != 0.0 {
+            count += 1;
+        }
+    }
+    count
+}
+
+// The likelihoods of the differences from place `first` up to `end`, each made alone.
+fn each_likelihood(first: usize, end: usize, likes: &mut [f32])
+    requires { (first ≤ end) × (end ≤ length likes.old) }
+    ensures { Likely first end likes.old likes.new }
+{
+    for i in first..end {
+        likes[i] = likelihood(likes[i]);
+    }
+}
+
+// The likelihoods of the differences from place `first` up to `end`, sixteen at most: side by side,
+// or each alone where most need no series.
+fn group_likelihoods(first: usize, end: usize, likes: &mut [f32])
+    requires { (first ≤ end) × (end ≤ first + 16) × (end ≤ length likes.old) }
+    ensures { Likely first end likes.old likes.new }
+{
+    if 2 * series_wanted(first, end, likes) < end - first {
+        each_likelihood(first, end, likes);
+    } else {
+        some_likelihoods(first, end, likes);
+    }
+}
+
 // The likelihoods of the differences from place `first` up to `end`. Of fewer than four each is
 // made alone, the largest with no exponential.
 fn make_likely(first: usize, end: usize, likes: &mut [f32])
@@ -160,18 +203,16 @@ fn make_likely(first: usize, end: usize, likes: &mut [f32])
     ensures { Likely first end likes.old likes.new }
 {
     if end - first < 4 {
-        for i in first..end {
-            likes[i] = likelihood(likes[i]);
-        }
+        each_likelihood(first, end, likes);
         return;
     }
     let mut j = first;
     // No `for`: the last turn can be shorter.
     while end - j > 16 {
-        some_likelihoods(j, j + 16, likes);
+        group_likelihoods(j, j + 16, likes);
         j += 16;
     }
-    some_likelihoods(j, end, likes);
+    group_likelihoods(j, end, likes);
 }
 
 // Candidates as `collect` has them, each with its likelihood.
@@ -342,6 +383,24 @@ fn gather(
     )
 }
 
+// The larger of m and l; m, which is no NaN, where l is one.
+fn above(m: f32, l: f32) -> f32
+    ensures { result ≡ above_of m l }
+{
+    if m < l { l } else { m }
+}
+
+// The largest of m and the others, with no branch.
+fn largest_of_rest(m: f32, loglikes: &[f32]) -> f32
+    ensures { result ≡ top m loglikes.now }
+{
+    let mut max_like = m;
+    for g in 0..loglikes.len() {
+        max_like = above(max_like, loglikes[g]);
+    }
+    max_like
+}
+
 // The largest, a NaN passed over: the last that is above all in front of it. So of equal ones the
 // first is the answer.
 fn largest(loglikes: &[f32]) -> f32
@@ -349,10 +408,16 @@ fn largest(loglikes: &[f32]) -> f32
 {
     let mut m = -1.0 / 0.0;
     let mut k = 0;
+    let mut rises = 0usize;
     // No `for`: a turn goes on behind the next that is above the largest so far, which is seldom.
+    // Where it is often, the rest is gone over with no search.
     while let Some(j) = next_above(m, k, loglikes) {
         m = loglikes[j];
         k = j + 1;
+        rises += 1;
+        if rises == 16 {
+            return largest_of_rest(m, &loglikes[k..]);
+        }
     }
     m
 }

@@ -88,14 +88,16 @@ fn write_vector(prior_offset: f64, current: &[f64], out: &mut [u32]) -> usize
 
 impl Stream<'_> {
     // What a fetch refuses. `n` is the output's length.
-    #[tactic(auto, unfolding(loops::specs::Refusal::first_of, program::specs::Calls::get_frame, program::specs::Calls::fetch_refusal, definition::specs::Machine::fetch_tests, definition::specs::Stream::same_tables, definition::specs::Stream::same_rooms, definition::specs::Stream::same_rings))]
+    #[tactic(auto, unfolding(loops::specs::Refusal::first_of, program::specs::Calls::get_frame, program::specs::Calls::fetch_refusal, definition::specs::Machine::fetch_tests))]
     fn fetch_refusal(&self, frame: usize, tables: LentTables<'_>, n: usize) -> Result<(), Refusal>
         ensures { refused_by result
             ≡ (fetch_of self.now (tables_in tables.entry) frame n).refusal }
     {
         let s = &*self.record;
-        need(tables.lengths() == s.info.tables, Refusal::ForeignRecord)?;
-        need(self.lengths() == s.lengths, Refusal::ForeignRecord)?;
+        let same_tables = limits::same_tables(tables.lengths(), s.info.tables);
+        need(same_tables, Refusal::ForeignRecord)?;
+        let same_rooms = limits::same_rooms(self.lengths(), s.lengths);
+        need(same_rooms, Refusal::ForeignRecord)?;
         need(
             !limits::is_foreign(s, self.waiting_frames),
             Refusal::ForeignRecord,

@@ -21,7 +21,7 @@ use definition::{Dimensions, IvectorInfo, Refusal, RingLengths, RoomLengths, Tab
 
 /// What a fresh stream refuses: `ForeignRecord` for tables or a record that no load made,
 /// `ShortRoom` for rooms that are too short.
-#[tactic(auto, unfolding(loops::specs::Refusal::first_of, definition::specs::Stream::new_refusal, definition::specs::Stream::same_tables))]
+#[tactic(auto, unfolding(loops::specs::Refusal::first_of, definition::specs::Stream::new_refusal))]
 pub fn new_refusal(
     info: IvectorInfo,
     tables: TableLengths,
@@ -29,7 +29,8 @@ pub fn new_refusal(
 ) -> Result<(), Refusal>
     ensures { refused_by result ≡ new_refusal info tables lengths }
 {
-    need(tables == info.tables, Refusal::ForeignRecord)?;
+    let same = limits::same_tables(tables, info.tables);
+    need(same, Refusal::ForeignRecord)?;
     need(limits::record_sound(info), Refusal::ForeignRecord)?;
     need(
         limits::tables_fit(info.opts, info.dims, info.tables),
@@ -167,7 +168,7 @@ impl Stream<'_> {
     /// `ForeignRecord`, which every call asks: the rings have other lengths than the record states,
     /// or no call made the record.
     #[inline(always)]
-    #[tactic(auto, unfolding(loops::specs::Refusal::first_of, definition::specs::Stream::same_rings))]
+    #[tactic(auto, unfolding(loops::specs::Refusal::first_of))]
     pub fn plain_refusal(&self) -> Result<(), Refusal>
         ensures { refused_by result
             ≡ first_of (record_tests (record_of self.now) (rings_of self.now)) }
@@ -178,7 +179,8 @@ impl Stream<'_> {
             waiting_frames: self.waiting_frames.len(),
             waiting_weights: self.waiting_weights.len(),
         };
-        need(lent == self.record.lengths.rings, Refusal::ForeignRecord)?;
+        let own = limits::same_rings(lent, self.record.lengths.rings);
+        need(own, Refusal::ForeignRecord)?;
         need(
             !limits::is_foreign(self.record, self.waiting_frames),
             Refusal::ForeignRecord,

@@ -1,5 +1,5 @@
 -- ivector_batch: words of inner contracts. `batch_of` is the batch of a fetch.
-use Rattle.std.specs.Prelude.{ℕ, ◌+◌, ◌-◌, ◌*◌, ◌<◌, ◌≤◌, ◌≡◌, Bool, true, List, ◌++◌, map, length, get_or, drop, Float, if◌then◌else◌}
+use Rattle.std.specs.Prelude.{ℕ, ◌+◌, ◌-◌, ◌*◌, ◌<◌, ◌≤◌, ◌≡◌, Bool, true, false, List, ◌++◌, map, length, get_or, drop, Float, if◌then◌else◌}
 use Rattle.definition.specs.declared.IvectorInfo.{IvectorInfo}
 use Rattle.definition.specs.declared.IvectorOptions.{IvectorOptions}
 use Rattle.definition.specs.declared.FrameWeight.{FrameWeight}
@@ -63,10 +63,11 @@ batch_in o x =
     if x.called then changes_batch o (waiting_in x.changes x.waiting.frames.now x.waiting.weights.now)
     else run x.next (unweighted o) (x.end - x.next)
 
--- frames that are there, perhaps none, in a batch that is not too long; of the waiting changes nothing is asked before a change call
+-- frames that are there, perhaps none, in a batch that is not too long; of the waiting changes nothing is asked before a change call, and of the frames from
+-- `next` on nothing after one
 pub record Held (o : IvectorOptions) (x : Intake) : Type 0 where
-  pub in_order : x.next ≤ x.end
-  pub there : x.end ≤ x.accepted
+  pub in_order : x.called ≡ false → x.next ≤ x.end
+  pub there : x.called ≡ false → x.next < x.end → x.end ≤ x.accepted
   pub few : x.accepted ≤ 1000000000
   pub frames_wait : x.called ≡ true → x.changes ≤ length x.waiting.frames.now
   pub weights_wait : x.called ≡ true → x.changes ≤ length x.waiting.weights.now

@@ -1,6 +1,6 @@
 //! Which frames a fetch brings into the statistics, and by which weights.
 
-ghost use Rattle.std.specs.Prelude.{◌≡◌, ◌∷◌, ◌<◌, ◌≤◌};
+ghost use Rattle.std.specs.Prelude.{◌≡◌, ◌∷◌, ◌<◌, ◌≤◌, false};
 ghost use Rattle.floats.specs.Ln.{ln_narrow};
 ghost use Rattle.gmm.specs.Batch.{Logged};
 ghost use Rattle.stream.specs.Inner.IvectorBatch.{places_of, frame_in, left_of, Lined};
@@ -49,7 +49,7 @@ impl Intake<'_> {
     /// How many places the batch has: one for each frame, or, after a change call, one for each
     /// change.
     pub fn places(&self) -> usize
-        requires { self.now.next ≤ self.now.end }
+        requires { self.now.called ≡ false → self.now.next ≤ self.now.end }
         ensures { result ≡ places_of self.now }
     {
         if self.called {
