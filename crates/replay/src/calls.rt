@@ -38,17 +38,29 @@ impl Rooms {
         z: &Lengths,
         record: &'a mut IvectorStream,
     ) -> Stream<'a> {
+        let Rooms {
+            frames,
+            rows,
+            waiting_frames,
+            waiting_weights,
+            cmvn_stats,
+            linear,
+            quadratic,
+            current,
+            scratch,
+            forged_frames: _,
+        } = self;
         Stream {
             record,
-            frames: lend(&mut self.frames, z.0[8]),
-            rows: lend(&mut self.rows, z.0[9]),
-            waiting_frames: lend(&mut self.waiting_frames, z.0[10]),
-            waiting_weights: lend(&mut self.waiting_weights, z.0[11]),
-            cmvn_stats: lend(&mut self.cmvn_stats, z.0[12]),
-            linear: lend(&mut self.linear, z.0[13]),
-            quadratic: lend(&mut self.quadratic, z.0[14]),
-            current: lend(&mut self.current, z.0[15]),
-            scratch: lend(&mut self.scratch, z.0[16]),
+            frames: lend(frames, z.0[8]),
+            rows: lend(rows, z.0[9]),
+            waiting_frames: lend(waiting_frames, z.0[10]),
+            waiting_weights: lend(waiting_weights, z.0[11]),
+            cmvn_stats: lend(cmvn_stats, z.0[12]),
+            linear: lend(linear, z.0[13]),
+            quadratic: lend(quadratic, z.0[14]),
+            current: lend(current, z.0[15]),
+            scratch: lend(scratch, z.0[16]),
         }
     }
 }

@@ -41,9 +41,12 @@ fn forge_stream(s: &mut IvectorStream, field: &[u8], v: usize) {
 impl<'a> Session<'a> {
     /// `x n FIELD V`, `x r K D`, `x w n f1 w1 .. fn wn`
     pub(crate) fn forge(&mut self, words: &mut Words<'_>) {
-        match words.word().first() {
-            Some(b'w') => self.forge_waiting(words),
-            Some(b'r') => self.forge_length(words),
+        // the letter counts where no space follows it, too
+        let letter = script::byte_at(words.rest, 0);
+        words.word();
+        match letter {
+            b'w' => self.forge_waiting(words),
+            b'r' => self.forge_length(words),
             _ => self.forge_field(words),
         }
     }

@@ -4,19 +4,17 @@ use kaldi::kaldi_files::checks::{check_extractor, check_gmm, check_lda};
 use kaldi::kaldi_io::reader::KaldiReader;
 use kaldi::kaldi_text::check_cmvn;
 use script::{Files, Words};
-use std::alloc::{AllocError, Global};
 
 /// The bytes that there is room for, of the four files together.
 pub(crate) const FILE_BYTES: usize = 262144;
 
-/// The bytes of a file, which the text has as `N HEX`: as many as there is room left for.
-pub(crate) fn file(alloc: Global, text: &[u8], left: &mut usize) -> Result<Vec<u8>, AllocError> {
-    let n = size(text).min(*left);
-    *left -= n;
-    let mut bytes = vec![in alloc; 0u8; n]?;
+/// The bytes of a file, which the text has as `N HEX`: as many as a room has places for. They are
+/// its front; the places behind them are left.
+pub(crate) fn file<'a>(text: &[u8], room: &'a mut [u8]) -> (&'a [u8], &'a mut [u8]) {
+    let n = size(text).min(room.len());
+    let (bytes, left) = room.split_at_mut(n);
     let mut words = Words { rest: text };
-    words.bytes(&mut bytes);
-    Ok(bytes)
+    (words.bytes(bytes), left)
 }
 
 fn size(text: &[u8]) -> usize {

@@ -11,19 +11,32 @@ mod session;
 
 use script::Script;
 use session::Session;
-use std::io;
+use std::io::{self, Read, Write};
 
-fn main(rt: HostRuntime) -> io::Result<()> {
-    let mut room = vec![in rt.alloc(); 0u8; 1474560]?;
-    let mut writer = io::writer(&rt);
-    let script = Script::read(&mut rt.reader(), &mut room)?;
-    let mut session = Session::new(rt.alloc())?;
+/// Plays the script that a reader gives, as far as the room for it has it.
+fn play(reader: &mut impl Read, writer: &mut impl Write, room: &mut [u8]) -> io::Result<()> {
+    let script = Script::read(reader, room)?;
+    let mut session = Session::new();
     for line in script.lines() {
         // a line that begins with 0 ends the script
         if line.first() == Some(&0) {
             break;
         }
-        session.play(&mut writer, line)?;
+        session.play(writer, line)?;
     }
-    script.end(&mut writer)
+    script.end(writer)
+}
+
+/// The room as a slice.
+fn in_room(
+    reader: &mut impl Read,
+    writer: &mut impl Write,
+    room: &mut [u8; 1474560],
+) -> io::Result<()> {
+    play(reader, writer, room)
+}
+
+fn main(rt: HostRuntime) -> io::Result<()> {
+    let mut room = [0u8; 1474560];
+    in_room(&mut rt.reader(), &mut io::writer(&rt), &mut room)
 }

@@ -1,7 +1,6 @@
 //! The rooms that calls are lent, and how much of each.
 use definition::{Dimensions, IvectorOptions, LentTables};
 use script::{Signed, Words, front};
-use std::alloc::{AllocError, Global};
 use std::mem;
 
 /// The length of each room that a call is lent: rooms 0 to 7 are a model's tables, 8 to 16 a
@@ -95,28 +94,28 @@ impl Lengths {
 /// A model's tables.
 #[derive(Drop)]
 pub(crate) struct Tables {
-    pub(crate) gconsts: Vec<f32>,
-    pub(crate) means_invvars_t: Vec<f32>,
-    pub(crate) inv_vars_t: Vec<f32>,
-    pub(crate) sigma_inv_m: Vec<f64>,
-    pub(crate) u: Vec<f64>,
-    pub(crate) lda_t: Vec<f32>,
-    pub(crate) lda_offset: Vec<f32>,
-    pub(crate) global_mean_stats: Vec<f64>,
+    pub(crate) gconsts: [f32; MOST[0] + SPARE],
+    pub(crate) means_invvars_t: [f32; MOST[1] + SPARE],
+    pub(crate) inv_vars_t: [f32; MOST[2] + SPARE],
+    pub(crate) sigma_inv_m: [f64; MOST[3] + SPARE],
+    pub(crate) u: [f64; MOST[4] + SPARE],
+    pub(crate) lda_t: [f32; MOST[5] + SPARE],
+    pub(crate) lda_offset: [f32; MOST[6] + SPARE],
+    pub(crate) global_mean_stats: [f64; MOST[7] + SPARE],
 }
 
 impl Tables {
-    pub(crate) fn new(alloc: Global) -> Result<Tables, AllocError> {
-        Ok(Tables {
-            gconsts: vec![in alloc; 0.0; MOST[0] + SPARE]?,
-            means_invvars_t: vec![in alloc; 0.0; MOST[1] + SPARE]?,
-            inv_vars_t: vec![in alloc; 0.0; MOST[2] + SPARE]?,
-            sigma_inv_m: vec![in alloc; 0.0; MOST[3] + SPARE]?,
-            u: vec![in alloc; 0.0; MOST[4] + SPARE]?,
-            lda_t: vec![in alloc; 0.0; MOST[5] + SPARE]?,
-            lda_offset: vec![in alloc; 0.0; MOST[6] + SPARE]?,
-            global_mean_stats: vec![in alloc; 0.0; MOST[7] + SPARE]?,
-        })
+    pub(crate) fn new() -> Tables {
+        Tables {
+            gconsts: [0.0; MOST[0] + SPARE],
+            means_invvars_t: [0.0; MOST[1] + SPARE],
+            inv_vars_t: [0.0; MOST[2] + SPARE],
+            sigma_inv_m: [0.0; MOST[3] + SPARE],
+            u: [0.0; MOST[4] + SPARE],
+            lda_t: [0.0; MOST[5] + SPARE],
+            lda_offset: [0.0; MOST[6] + SPARE],
+            global_mean_stats: [0.0; MOST[7] + SPARE],
+        }
     }
 
     pub(crate) fn lent(&self, z: &Lengths) -> LentTables<'_> {
@@ -136,33 +135,47 @@ impl Tables {
 /// A stream's rooms.
 #[derive(Drop)]
 pub(crate) struct Rooms {
-    pub(crate) frames: Vec<f32>,
-    pub(crate) rows: Vec<f64>,
-    pub(crate) waiting_frames: Vec<usize>,
-    pub(crate) waiting_weights: Vec<f32>,
-    pub(crate) cmvn_stats: Vec<f64>,
-    pub(crate) linear: Vec<f64>,
-    pub(crate) quadratic: Vec<f64>,
-    pub(crate) current: Vec<f64>,
-    pub(crate) scratch: Vec<f64>,
+    pub(crate) frames: [f32; MOST[8] + SPARE],
+    pub(crate) rows: [f64; MOST[9] + SPARE],
+    pub(crate) waiting_frames: [usize; MOST[10] + SPARE],
+    pub(crate) waiting_weights: [f32; MOST[11] + SPARE],
+    pub(crate) cmvn_stats: [f64; MOST[12] + SPARE],
+    pub(crate) linear: [f64; MOST[13] + SPARE],
+    pub(crate) quadratic: [f64; MOST[14] + SPARE],
+    pub(crate) current: [f64; MOST[15] + SPARE],
+    pub(crate) scratch: [f64; MOST[16] + SPARE],
     /// Waiting frames that a script may have lent in place of the stream's.
-    pub(crate) forged_frames: Vec<usize>,
+    pub(crate) forged_frames: [usize; MOST[10] + SPARE],
 }
 
 impl Rooms {
-    pub(crate) fn new(alloc: Global) -> Result<Rooms, AllocError> {
-        Ok(Rooms {
-            frames: vec![in alloc; 0.0; MOST[8] + SPARE]?,
-            rows: vec![in alloc; 0.0; MOST[9] + SPARE]?,
-            waiting_frames: vec![in alloc; 0; MOST[10] + SPARE]?,
-            waiting_weights: vec![in alloc; 0.0; MOST[11] + SPARE]?,
-            cmvn_stats: vec![in alloc; 0.0; MOST[12] + SPARE]?,
-            linear: vec![in alloc; 0.0; MOST[13] + SPARE]?,
-            quadratic: vec![in alloc; 0.0; MOST[14] + SPARE]?,
-            current: vec![in alloc; 0.0; MOST[15] + SPARE]?,
-            scratch: vec![in alloc; 0.0; MOST[16] + SPARE]?,
-            forged_frames: vec![in alloc; 0; MOST[10] + SPARE]?,
-        })
+    pub(crate) fn new() -> Rooms {
+        Rooms {
+            frames: [0.0; MOST[8] + SPARE],
+            rows: [0.0; MOST[9] + SPARE],
+            waiting_frames: [0; MOST[10] + SPARE],
+            waiting_weights: [0.0; MOST[11] + SPARE],
+            cmvn_stats: [0.0; MOST[12] + SPARE],
+            linear: [0.0; MOST[13] + SPARE],
+            quadratic: [0.0; MOST[14] + SPARE],
+            current: [0.0; MOST[15] + SPARE],
+            scratch: [0.0; MOST[16] + SPARE],
+            forged_frames: [0; MOST[10] + SPARE],
+        }
+    }
+
+    /// Makes them as they were at first.
+    pub(crate) fn clear(&mut self) {
+        self.frames.fill(0.0);
+        self.rows.fill(0.0);
+        self.waiting_frames.fill(0);
+        self.waiting_weights.fill(0.0);
+        self.cmvn_stats.fill(0.0);
+        self.linear.fill(0.0);
+        self.quadratic.fill(0.0);
+        self.current.fill(0.0);
+        self.scratch.fill(0.0);
+        self.forged_frames.fill(0);
     }
 
     /// Puts the forged waiting frames in place of the stream's, or back.

@@ -9,7 +9,6 @@ use definition::{IvectorOptions, IvectorStream, Refusal, StreamAnswer};
 use script::{
     Files, Held, Item, NO_FILES, Words, front, lend, not_here, print, print_answer, print_list,
 };
-use std::alloc::{AllocError, Global};
 use std::io::{self, Write};
 
 /// A model or a stream that is open, and the lengths of its rooms.
@@ -22,7 +21,6 @@ pub(crate) struct Open {
 /// What stands between two lines.
 #[derive(Drop)]
 pub(crate) struct Session<'a> {
-    alloc: Global,
     /// The options so far.
     opts: IvectorOptions,
     /// The files so far.
@@ -49,18 +47,17 @@ fn does_not_fit(writer: &mut impl Write) -> io::Result<()> {
 }
 
 impl<'a> Session<'a> {
-    pub(crate) fn new(alloc: Global) -> Result<Session<'a>, AllocError> {
-        Ok(Session {
-            alloc,
+    pub(crate) fn new() -> Session<'a> {
+        Session {
             opts: IvectorOptions::default(),
             files: NO_FILES,
             open: CLOSED,
             told: CLOSED,
             forged: false,
             waiting_forged: false,
-            tables: Tables::new(alloc)?,
-            rooms: Rooms::new(alloc)?,
-        })
+            tables: Tables::new(),
+            rooms: Rooms::new(),
+        }
     }
 
     /// Begins another session, over the same rooms.
@@ -126,22 +123,22 @@ impl<'a> Session<'a> {
 
     /// `m d0 .. d7`
     fn load(&mut self, writer: &mut impl Write, words: &mut Words<'_>) -> io::Result<()> {
-        self.rooms = Rooms::new(self.alloc)?;
+        self.rooms.clear();
         if FILE_BYTES < file_bytes(self.files) {
             does_not_fit(writer)?;
             self.hold_in_place(Held::Nothing);
             return Ok(());
         }
-        let mut left = FILE_BYTES;
-        let gmm = file(self.alloc, self.files.gmm, &mut left)?;
-        let extractor = file(self.alloc, self.files.extractor, &mut left)?;
-        let lda = file(self.alloc, self.files.lda, &mut left)?;
-        let cmvn = file(self.alloc, self.files.cmvn, &mut left)?;
+        let mut bytes = [0u8; FILE_BYTES];
+        let (gmm, left) = file(self.files.gmm, &mut bytes);
+        let (extractor, left) = file(self.files.extractor, left);
+        let (lda, left) = file(self.files.lda, left);
+        let (cmvn, _) = file(self.files.cmvn, left);
         let files = Files {
-            gmm: &gmm,
-            extractor: &extractor,
-            lda: &lda,
-            cmvn: &cmvn,
+            gmm,
+            extractor,
+            lda,
+            cmvn,
         };
         let mut lengths = Lengths::needs(self.opts, dimensions(files));
         lengths.read(words, 0, 8);

@@ -1,5 +1,5 @@
 //! The calls of the library. They are lent the program's rooms.
-use super::rooms::{Rooms, Tables};
+use super::rooms::{Rooms, TableRooms, Tables};
 use super::round::Asked;
 use super::session::Session;
 use definition::{
@@ -63,18 +63,47 @@ impl Rooms {
         z: RingLengths,
         record: &'a mut IvectorStream,
     ) -> Stream<'a> {
+        let Rooms {
+            frames,
+            rows,
+            waiting_frames,
+            waiting_weights,
+            cmvn_stats,
+            linear,
+            quadratic,
+            current,
+            scratch,
+        } = self;
         Stream {
             record,
-            frames: lend(&mut self.frames, z.frames),
-            rows: lend(&mut self.rows, z.rows),
-            waiting_frames: lend(&mut self.waiting_frames, z.waiting_frames),
-            waiting_weights: lend(&mut self.waiting_weights, z.waiting_weights),
-            cmvn_stats: &mut self.cmvn_stats,
-            linear: &mut self.linear,
-            quadratic: &mut self.quadratic,
-            current: &mut self.current,
-            scratch: &mut self.scratch,
+            frames: lend(frames, z.frames),
+            rows: lend(rows, z.rows),
+            waiting_frames: lend(waiting_frames, z.waiting_frames),
+            waiting_weights: lend(waiting_weights, z.waiting_weights),
+            cmvn_stats,
+            linear,
+            quadratic,
+            current,
+            scratch,
         }
+    }
+}
+
+impl TableRooms {
+    /// The silence phones, and the rooms' fronts.
+    fn lent<'a>(&'a mut self, known_phones: usize, n: usize) -> (&'a [i32], SilenceRooms<'a>) {
+        let TableRooms {
+            phones,
+            known,
+            is_silence,
+            current_weight,
+        } = self;
+        let rooms = SilenceRooms {
+            known: lend(known, n),
+            is_silence: lend(is_silence, n),
+            current_weight: lend(current_weight, n),
+        };
+        (front(phones, known_phones), rooms)
     }
 }
 
@@ -118,18 +147,14 @@ impl<'a> Session<'a> {
         } = asked;
         let known_phones = self.table.map_or(0, |t| t.phones);
         let z = record.lengths.rings;
-        let mut table_rooms = SilenceRooms {
-            known: lend(&mut self.silence.known, silence.table),
-            is_silence: lend(&mut self.silence.is_silence, silence.table),
-            current_weight: lend(&mut self.silence.current_weight, silence.table),
-        };
+        let (phones, mut table_rooms) = self.silence.lent(known_phones, silence.table);
         let mut stream = self.rooms.stream(z, record);
         trigger::round(
             &mut stream,
             silence,
             utterance,
             self.tables.lent(),
-            front(&self.silence.phones, known_phones),
+            phones,
             &mut table_rooms,
             delta_frames,
             delta_weights,

@@ -12,10 +12,10 @@ use session::Session;
 use std::io;
 
 fn main(rt: HostRuntime) -> io::Result<()> {
-    let mut room = vec![in rt.alloc(); 0u8; 262144]?;
+    let mut room = [0u8; 262144];
     let mut writer = io::writer(&rt);
     let script = Script::read(&mut rt.reader(), &mut room)?;
-    let mut session = Session::new(rt.alloc())?;
+    let mut session = Session::new();
     for line in script.lines() {
         session.play(&mut writer, line)?;
     }

@@ -8,7 +8,6 @@ use rounds::silence_weighting;
 use script::{
     Files, Held, Item, NO_FILES, Words, front, not_here, print, print_answer, print_list,
 };
-use std::alloc::{AllocError, Global};
 use std::io::{self, Write};
 
 /// What stands between two lines.
@@ -71,8 +70,8 @@ fn forge_stream(s: &mut IvectorStream, field: &[u8], v: usize) {
 }
 
 impl<'a> Session<'a> {
-    pub(crate) fn new(alloc: Global) -> Result<Session<'a>, AllocError> {
-        Ok(Session {
+    pub(crate) fn new() -> Session<'a> {
+        Session {
             opts: IvectorOptions::default(),
             files: NO_FILES,
             held: Held::Nothing,
@@ -81,10 +80,10 @@ impl<'a> Session<'a> {
             told_table: None,
             forged: false,
             table_forged: false,
-            tables: Tables::new(alloc)?,
-            rooms: Rooms::new(alloc)?,
-            silence: TableRooms::new(alloc)?,
-        })
+            tables: Tables::new(),
+            rooms: Rooms::new(),
+            silence: TableRooms::new(),
+        }
     }
 
     /// Begins another session, over the same rooms.
@@ -282,8 +281,8 @@ impl<'a> Session<'a> {
         for ((known, is_silence), weight) in rooms
             .known
             .iter()
-            .zip(&rooms.is_silence)
-            .zip(&rooms.current_weight)
+            .zip(rooms.is_silence.iter())
+            .zip(rooms.current_weight.iter())
             .take(n)
         {
             let known_digit = u8::from(*known);

@@ -3,11 +3,10 @@
 //! record or rooms are forged) and z (end of a session).
 #![tactic(auto)]
 
-use definition::{DecoderFrame, InputFrame, SilenceWeighting};
+use definition::{DecoderFrame, InputFrame, Refusal, SilenceWeighting};
 use rounds::silence_weighting::{self, LentPath, SilenceRooms};
-use script::{Item, Script, Words, front, lend, not_here, print};
-use std::alloc::{AllocError, Global};
-use std::io::{self, Write};
+use script::{Item, Script, Words, lend, not_here, print};
+use std::io::{self, Read, Write};
 
 /// One place more than the 1,000,000 decoder frames that a table takes.
 const FRAMES: usize = 1000001;
@@ -15,27 +14,54 @@ const FRAMES: usize = 1000001;
 /// The silence phones, and a table's rooms. A length that a room has no places for is cut to the
 /// room; the answer then shows it.
 #[derive(Drop)]
-struct Rooms {
-    phones: Vec<i32>,
-    known: Vec<bool>,
-    is_silence: Vec<bool>,
-    current_weight: Vec<f32>,
+struct Rooms<'a> {
+    phones: &'a mut [i32],
+    known: &'a mut [bool],
+    is_silence: &'a mut [bool],
+    current_weight: &'a mut [f32],
 }
 
-impl Rooms {
-    fn new(alloc: Global) -> Result<Rooms, AllocError> {
-        Ok(Rooms {
-            phones: vec![in alloc; 0; 128]?,
-            known: vec![in alloc; false; FRAMES]?,
-            is_silence: vec![in alloc; false; FRAMES]?,
-            current_weight: vec![in alloc; 0.0; FRAMES]?,
-        })
+impl Rooms<'_> {
+    /// Notes a path, in the fronts of a table's rooms.
+    fn note(
+        &mut self,
+        s: &mut SilenceWeighting,
+        lent: usize,
+        known_phones: usize,
+        path: LentPath<'_>,
+        decoded: DecoderFrame,
+    ) -> Result<(), Refusal> {
+        let phones = lend(self.phones, known_phones);
+        let mut rooms = SilenceRooms {
+            known: lend(self.known, lent),
+            is_silence: lend(self.is_silence, lent),
+            current_weight: lend(self.current_weight, lent),
+        };
+        silence_weighting::compute_current_traceback(s, phones, &mut rooms, path, decoded)
+    }
+
+    /// Gives the changes, from the fronts of a table's rooms.
+    fn weigh(
+        &mut self,
+        s: &mut SilenceWeighting,
+        lent: usize,
+        ready: InputFrame,
+        first: InputFrame,
+        frames: &mut [usize],
+        weights: &mut [f32],
+    ) -> Result<usize, Refusal> {
+        let mut rooms = SilenceRooms {
+            known: lend(self.known, lent),
+            is_silence: lend(self.is_silence, lent),
+            current_weight: lend(self.current_weight, lent),
+        };
+        silence_weighting::get_delta_weights(s, &mut rooms, ready, first, frames, weights)
     }
 }
 
 /// What stands between two lines.
 #[derive(Drop)]
-struct Session {
+struct Session<'a> {
     /// The table that is open.
     held: Option<SilenceWeighting>,
     /// What the next call is told in its place.
@@ -44,18 +70,18 @@ struct Session {
     lent: usize,
     /// Whether a script forged either.
     forged: bool,
-    rooms: Rooms,
+    rooms: Rooms<'a>,
 }
 
-impl Session {
-    fn new(alloc: Global) -> Result<Session, AllocError> {
-        Ok(Session {
+impl<'a> Session<'a> {
+    fn new(rooms: Rooms<'a>) -> Session<'a> {
+        Session {
             held: None,
             told: None,
             lent: 0,
             forged: false,
-            rooms: Rooms::new(alloc)?,
-        })
+            rooms,
+        }
     }
 
     /// This is open, and nothing is forged. The rooms stay.
@@ -102,7 +128,7 @@ impl Session {
         let table = words.number(10);
         let weight = f32::read(words);
         let subsampling = words.number(10);
-        let phones = words.list(&mut self.rooms.phones);
+        let phones = words.list(self.rooms.phones);
         let opened = match silence_weighting::new(phones, weight, subsampling, table) {
             Ok(s) => {
                 writeln!(writer, "0")?;
@@ -150,18 +176,8 @@ impl Session {
         };
         let known_phones = self.held.map_or(0, |s| s.phones);
         let mut s = told;
-        let mut rooms = SilenceRooms {
-            known: lend(&mut self.rooms.known, self.lent),
-            is_silence: lend(&mut self.rooms.is_silence, self.lent),
-            current_weight: lend(&mut self.rooms.current_weight, self.lent),
-        };
-        let noted = silence_weighting::compute_current_traceback(
-            &mut s,
-            front(&self.rooms.phones, known_phones),
-            &mut rooms,
-            path,
-            decoded,
-        );
+        let lent = self.lent;
+        let noted = self.rooms.note(&mut s, lent, known_phones, path, decoded);
         let number = definition::number_or_0(noted);
         writeln!(writer, "{number}")?;
         self.after(s);
@@ -182,14 +198,10 @@ impl Session {
         let mut frames = [0usize; 20000];
         let mut weights = [0.0f32; 20000];
         let mut s = told;
-        let mut rooms = SilenceRooms {
-            known: lend(&mut self.rooms.known, self.lent),
-            is_silence: lend(&mut self.rooms.is_silence, self.lent),
-            current_weight: lend(&mut self.rooms.current_weight, self.lent),
-        };
-        let given = silence_weighting::get_delta_weights(
+        let lent = self.lent;
+        let given = self.rooms.weigh(
             &mut s,
-            &mut rooms,
+            lent,
             ready,
             first,
             lend(&mut frames, frames_lent),
@@ -214,13 +226,48 @@ impl Session {
     }
 }
 
-fn main(rt: HostRuntime) -> io::Result<()> {
-    let mut room = [0; 262144];
-    let mut writer = io::writer(&rt);
-    let script = Script::read(&mut rt.reader(), &mut room)?;
-    let mut session = Session::new(rt.alloc())?;
+/// Plays the script that a reader gives, as far as the room for it has it.
+fn play(
+    reader: &mut impl Read,
+    writer: &mut impl Write,
+    room: &mut [u8],
+    rooms: Rooms<'_>,
+) -> io::Result<()> {
+    let script = Script::read(reader, room)?;
+    let mut session = Session::new(rooms);
     for line in script.lines() {
-        session.play(&mut writer, line)?;
+        session.play(writer, line)?;
     }
-    script.end(&mut writer)
+    script.end(writer)
+}
+
+/// The rooms as slices.
+fn in_rooms(
+    reader: &mut impl Read,
+    writer: &mut impl Write,
+    room: &mut [u8],
+    phones: &mut [i32],
+    known: &mut [bool; FRAMES],
+    is_silence: &mut [bool; FRAMES],
+    current_weight: &mut [f32; FRAMES],
+) -> io::Result<()> {
+    let rooms = Rooms {
+        phones,
+        known,
+        is_silence,
+        current_weight,
+    };
+    play(reader, writer, room, rooms)
+}
+
+fn main(rt: HostRuntime) -> io::Result<()> {
+    in_rooms(
+        &mut rt.reader(),
+        &mut io::writer(&rt),
+        &mut [0; 262144],
+        &mut [0; 128],
+        &mut [false; FRAMES],
+        &mut [false; FRAMES],
+        &mut [0.0; FRAMES],
+    )
 }

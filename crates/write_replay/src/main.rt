@@ -10,7 +10,6 @@
 use definition::{IvectorOptions, Refusal};
 use floats::KeepAs;
 use script::{Item, Script, Words, lend};
-use std::alloc::Global;
 use std::io::{self, Write};
 use writer::model_bytes::{FileLengths, LentParams, ModelSizes};
 use writer::model_writer;
@@ -43,12 +42,22 @@ fn print_written(
     writeln!(writer)
 }
 
+/// The rooms for the lists of a line.
+#[derive(Drop)]
+struct Rooms<'a, W> {
+    weights: &'a mut [W],
+    means_invvars: &'a mut [W],
+    inv_vars: &'a mut [W],
+    m: &'a mut [W],
+    sigma_inv: &'a mut [W],
+    lda: &'a mut [W],
+}
+
 /// One line at one width, after its first word. A list that is longer than its room is cut.
 fn play<W: Item + KeepAs<f32>>(
     writer: &mut impl Write,
     words: &mut Words<'_>,
-    alloc: Global,
-    zero: W,
+    rooms: Rooms<'_, W>,
 ) -> io::Result<()> {
     let opts = IvectorOptions::read(words);
     let mut cmvn = [0; 128];
@@ -60,26 +69,52 @@ fn play<W: Item + KeepAs<f32>>(
         ivector_dim: words.number(10),
         lda_cols: words.number(10),
     };
-    let mut weights = vec![in alloc; zero; 160]?;
-    let mut means_invvars = vec![in alloc; zero; 160]?;
-    let mut inv_vars = vec![in alloc; zero; 160]?;
-    let mut m = vec![in alloc; zero; 160]?;
-    let mut sigma_inv = vec![in alloc; zero; 160]?;
-    let mut lda = vec![in alloc; zero; 160]?;
+    let Rooms {
+        weights,
+        means_invvars,
+        inv_vars,
+        m,
+        sigma_inv,
+        lda,
+    } = rooms;
     let params = LentParams {
         sizes,
-        weights: words.list(&mut weights),
-        means_invvars: words.list(&mut means_invvars),
-        inv_vars: words.list(&mut inv_vars),
-        m: words.list(&mut m),
-        sigma_inv: words.list(&mut sigma_inv),
+        weights: words.list(weights),
+        means_invvars: words.list(means_invvars),
+        inv_vars: words.list(inv_vars),
+        m: words.list(m),
+        sigma_inv: words.list(sigma_inv),
         prior_offset: <W as Item>::read(words),
-        lda: words.list(&mut lda),
+        lda: words.list(lda),
     };
     let mut out = [0xee; 1024];
     let room = words.number(10);
     let written = model_writer::write(opts, cmvn, &params, lend(&mut out, room));
     print_written(writer, written, &out)
+}
+
+fn play_singles(writer: &mut impl Write, words: &mut Words<'_>) -> io::Result<()> {
+    let rooms = Rooms {
+        weights: &mut [0.0f32; 160],
+        means_invvars: &mut [0.0; 160],
+        inv_vars: &mut [0.0; 160],
+        m: &mut [0.0; 160],
+        sigma_inv: &mut [0.0; 160],
+        lda: &mut [0.0; 160],
+    };
+    play(writer, words, rooms)
+}
+
+fn play_doubles(writer: &mut impl Write, words: &mut Words<'_>) -> io::Result<()> {
+    let rooms = Rooms {
+        weights: &mut [0.0f64; 160],
+        means_invvars: &mut [0.0; 160],
+        inv_vars: &mut [0.0; 160],
+        m: &mut [0.0; 160],
+        sigma_inv: &mut [0.0; 160],
+        lda: &mut [0.0; 160],
+    };
+    play(writer, words, rooms)
 }
 
 fn main(rt: HostRuntime) -> io::Result<()> {
@@ -89,8 +124,8 @@ fn main(rt: HostRuntime) -> io::Result<()> {
     for line in script.lines() {
         let mut words = Words { rest: line };
         match words.letter() {
-            b'4' => play(&mut writer, &mut words, rt.alloc(), 0.0f32)?,
-            b'8' => play(&mut writer, &mut words, rt.alloc(), 0.0f64)?,
+            b'4' => play_singles(&mut writer, &mut words)?,
+            b'8' => play_doubles(&mut writer, &mut words)?,
             _ => writeln!(writer, "no width")?,
         }
     }
