@@ -1,5 +1,5 @@
 -- Which patterns are finite, in both formats: those whose exponent's bits are not all ones (`finite-field`); and such a pattern may become a float
--- (`finite-pattern`). A number is finite where it less itself is no NaN (`less_itself`).
+-- (`finite-pattern`), and back (`finite_number`). A number is finite where it less itself is no NaN (`less_itself`).
 use Rattle.std.proofs.Common.{◌≡◌, ℕ, zero, suc, ◌+◌, ◌-◌, ◌*◌, ◌/◌, ◌%◌, Bool, true, false, cond, not, ◌&&◌, T, eqb, leb, ltb, ℤ, sym, refl, ap, ◌∙◌, subst, true≢false, eq-eqb}
 use mathlib.Core.Bool.{beq, false≢true}
 use lib.Ieee.{Float, nan, inf, fin, Format, binary32, binary64, of_bits, of_fields, odd, nan_bits, is_nan, hid, ones, top, prec, low, up, down, sum, sub, round, eq}
@@ -36,6 +36,10 @@ unfolding is_nan
 not-nan nan e = absurd (false≢true e)
 not-nan (inf s) e = refl
 not-nan (fin s m e) h = refl
+
+-- a finite number may become its pattern
+pub finite_number : (x : Float) → finite x ≡ true → T (not (is_nan x))
+finite_number x e = subst (λ (t : Bool). T (not t)) (sym (not-nan x e)) tt
 
 -- a finite pattern may become a float
 pub finite-pattern : (f : Format) (b : ℕ) → finite (of_bits f b) ≡ true → T (not (nan_bits f b))

@@ -1,7 +1,7 @@
 //! What the two widths of a float share, so that code over both is written once: `Real`,
 //! `Arithmetic`; and how a table of one width keeps a number that was written at another: `KeepAs`.
 
-ghost use Rattle.std.specs.Prelude.{◌≡◌, ℕ, ◌^◌, ◌<◌, ◌≤◌, pos, from_bits, to_bits, length, Float};
+ghost use Rattle.std.specs.Prelude.{◌≡◌, true, ℕ, ◌^◌, ◌<◌, ◌≤◌, pos, from_bits, to_bits, length, Float};
 ghost use Rattle.std.specs.Int.{Width, w32, w64, byte_len, from_le_bytes, to_le_bytes};
 ghost use Rattle.std.specs.Float.{Format, binary32, binary64};
 ghost use Rattle.std.specs.Float.Ieee.{prec, eq, lt, neg, mul, div, of_int};
@@ -92,6 +92,11 @@ pub trait Real: Copy
     fn to_pattern(self) -> u64
         ensures { result ≡ to_bits format (float self) };
 
+    /// The pattern of a number that is finite, which takes no test.
+    fn finite_pattern(self) -> u64
+        requires { finite (float self) ≡ true }
+        ensures { result ≡ to_bits format (float self) };
+
     /// The number as bytes, from low to high.
     fn write(self, out: &mut [u8])
         requires { length out.old ≡ BYTES }
@@ -146,6 +151,11 @@ impl Real for f32 {
         u64::from(f32_to_bits_with_nan(self))
     }
 
+    #[tactic(auto, using(crate::proofs::Finite::finite_number))]
+    fn finite_pattern(self) -> u64 {
+        u64::from(f32::to_bits(self))
+    }
+
     fn write(self, out: &mut [u8]) {
         out.copy_from_slice(&f32_to_bits_with_nan(self).to_le_bytes());
     }
@@ -194,6 +204,11 @@ impl Real for f64 {
 
     fn to_pattern(self) -> u64 {
         f64_to_bits_with_nan(self)
+    }
+
+    #[tactic(auto, using(crate::proofs::Finite::finite_number))]
+    fn finite_pattern(self) -> u64 {
+        f64::to_bits(self)
     }
 
     fn write(self, out: &mut [u8]) {

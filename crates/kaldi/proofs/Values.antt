@@ -96,7 +96,7 @@ as_written : (w : Format) (x : Float) → kept_as w w x ≡ x
 as_written binary32 x = refl
 as_written binary64 x = refl
 
-kept_one : (positive : Bool) (f w : Format) (x : Float) → kept positive (kept_as f w x) ≡ true → finite x ≡ true
+pub kept_one : (positive : Bool) (f w : Format) (x : Float) → kept positive (kept_as f w x) ≡ true → finite x ≡ true
 unfolding kept narrowed
 kept_one true binary32 binary32 x e = (and_holds (finite x) (lt zero₃₂ x) e).0
 kept_one false binary32 binary32 x e = e

@@ -1,5 +1,6 @@
 -- The bytes of sizes and numbers as code has them, numbers one by one, and the parts of a list that are written one after the other.
 use mathlib.Core.Path.{◌≡◌, refl, sym, ap, ◌∙◌}
+use mathlib.Core.Bool.{true}
 use mathlib.Core.List.{List, [], ◌∷◌, ◌++◌, map, append_assoc, append-nil}
 use Prim.Native.Nat.{ℕ, zero, suc, ◌+◌, ◌-◌, ◌*◌, ◌/◌, ◌%◌, ◌^◌, ◌≤◌, ◌<◌}
 use native.Mathlib.Nat.{div-div-eq-div-mul, div-one, pow-zero, pow-suc, suc-mul, mul-le-mul_right}
@@ -7,16 +8,22 @@ use native.Mathlib.Numerals.{add-one}
 use native.Mathlib.Omega.{arith}
 use lib.ListN.{length, get_or, take, drop, length-map}
 use lib.Seq.{length-take-le, take_all}
-use lib.Ieee.{Float, Format, binary32, binary64, to_bits}
+use lib.Ieee.{Float, nan, Format, binary32, binary64, to_bits}
+use lib.Ieee.Scale.{finite}
 use Rattle.std.specs.Int.{w64, byte_at, bytes_low_first, to_le_bytes}
 use Rattle.floats.specs.Real.{by_width, byte_width}
+use Rattle.loops.specs.Lists.{all_of}
 use Rattle.loops.proofs.Parts.{lent_is}
+use Rattle.loops.proofs.Tests.{each_at}
 use Rattle.definition.specs.Kaldi.{vector_tag, matrix_tag, packed_tag}
 use Rattle.writer.specs.declared.byte_writer.Writer.{Writer}
 use Rattle.writer.specs.Wrote.{HasRoom, Wrote}
 use Rattle.writer.proofs.Chain.{together, wrote_as}
 use Rattle.writer.specs.Written.{low_bytes, numbers_bytes, ended, part}
+use Rattle.writer.specs.Lent.{AllFinite}
 use Rattle.writer.proofs.Encoding.{length-numbers}
+use Rattle.writer.proofs.Shapes.{fit-part}
+use Rattle.writer.proofs.Order.{at_map, length_map}
 
 -- ---- a number's bytes
 
@@ -80,6 +87,13 @@ module _ {A : Type 0} (h : A → Float) where
   -- part i as code lends it
   pub lent_part : (n i : ℕ) (xs : List A) → map h (take (i * n + n - i * n) (drop (i * n) xs)) ≡ part n i (map h xs)
   lent_part n i xs = ap (map h) (lent_is (i * n) n (i * n + n) xs refl) ∙ map_take n (drop (i * n) xs) ∙ ap (take n) (map_drop (i * n) xs)
+
+  -- where all of a list are finite, those of a part are, and so is an item
+  pub part_finite : (n i : ℕ) (xs : List A) → AllFinite h xs → AllFinite h (take (i * n + n - i * n) (drop (i * n) xs))
+  part_finite n i xs a = ap (all_of finite) (lent_part n i xs) ∙ fit-part finite n i (map h xs) a
+
+  pub item_finite : (i : ℕ) (xs : List A) (x : A) → i < length xs → x ≡ get_or xs i x → AllFinite h xs → finite (h x) ≡ true
+  item_finite i xs x l e a = ap finite (sym (at_map h xs i x l e)) ∙ each_at finite nan (map h xs) i a (omega (arith, length_map h xs))
 
   -- one number more
   map_next : (i : ℕ) (xs : List A) (x : A) → i < length xs → x ≡ get_or xs i x → map h (take (i + 1) xs) ≡ map h (take i xs) ++ (h x ∷ [])

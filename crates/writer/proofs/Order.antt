@@ -97,7 +97,7 @@ after ts us p h e = e ∙ sym (first_then ts us p (sym h))
 -- ---- one list, of numbers of type A that stand for floats
 
 -- item i of the floats
-at_map : {A : Type 0} (h : A → Float) (xs : List A) (i : ℕ) (x : A) → i < length xs → x ≡ get_or xs i x → get_or (map h xs) i nan ≡ h x
+pub at_map : {A : Type 0} (h : A → Float) (xs : List A) (i : ℕ) (x : A) → i < length xs → x ≡ get_or xs i x → get_or (map h xs) i nan ≡ h x
 at_map h [] i x l e = absurd (omega arith)
 at_map h (y ∷ ys) zero x l e = ap h (sym e)
 at_map h (y ∷ ys) (suc i) x l e = at_map h ys i x (omega arith) e

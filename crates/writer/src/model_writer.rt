@@ -1,11 +1,12 @@
 //! A model written back (request 5): its three files, one after the other, from parameters that all
 //! are f32, or all f64. Everything is judged before a byte is written.
 
-ghost use Rattle.std.specs.Prelude.{◌≡◌, ◌∷◌, [], ◌*◌, ◌≤◌, map, length};
+ghost use Rattle.std.specs.Prelude.{◌≡◌, true, ◌∷◌, [], ◌*◌, ◌≤◌, map, length};
+ghost use Rattle.std.specs.Float.Ieee.Scale.{finite};
 ghost use Rattle.definition.specs.Kaldi.{triangle};
 ghost use Rattle.writer.specs.Wrote.{HasRoom, Wrote};
 ghost use Rattle.writer.specs.Written.{numbers_bytes, size_bytes, vector_bytes, matrix_bytes, packed_bytes, gmm_bytes, extractor_bytes, lda_bytes, written, written_out};
-ghost use Rattle.writer.specs.Lent.{params_in, written_of};
+ghost use Rattle.writer.specs.Lent.{AllFinite, params_in, written_of};
 ghost use Rattle.writer.specs.Pieces.{m_blocks, sigma_blocks};
 
 use crate::byte_writer::Writer;
@@ -27,17 +28,20 @@ fn size(w: &mut Writer<'_>, n: usize)
     w.bytes(&bytes[..4]);
 }
 
-// A number: the first bytes of its pattern's eight, as many as its width has.
+// A number that was judged, so that no test is left: the first bytes of its pattern's eight, as many
+// as its width has.
 fn number<W: Real>(w: &mut Writer<'_>, x: W)
-    requires { HasRoom (numbers_bytes W.format (W.float x ∷ [])) w.old }
+    requires room { HasRoom (numbers_bytes W.format (W.float x ∷ [])) w.old }
+    requires judged { finite (W.float x) ≡ true }
     ensures { Wrote (numbers_bytes W.format (W.float x ∷ [])) w.old w.new }
 {
-    let bytes = x.to_pattern().to_le_bytes();
+    let bytes = x.finite_pattern().to_le_bytes();
     w.bytes(&bytes[..W::BYTES]);
 }
 
 fn numbers<W: Real>(w: &mut Writer<'_>, xs: &[W])
-    requires { HasRoom (numbers_bytes W.format (map W.float xs.now)) w.old }
+    requires room { HasRoom (numbers_bytes W.format (map W.float xs.now)) w.old }
+    requires judged { AllFinite W.float xs.now }
     ensures { Wrote (numbers_bytes W.format (map W.float xs.now)) w.old w.new }
 {
     for &x in xs {
@@ -48,7 +52,8 @@ fn numbers<W: Real>(w: &mut Writer<'_>, xs: &[W])
 // ---- blocks: a tag, sizes, numbers
 
 fn vector<W: Real>(w: &mut Writer<'_>, n: usize, xs: &[W])
-    requires { HasRoom (vector_bytes W.format n (map W.float xs.now)) w.old }
+    requires room { HasRoom (vector_bytes W.format n (map W.float xs.now)) w.old }
+    requires judged { AllFinite W.float xs.now }
     ensures { Wrote (vector_bytes W.format n (map W.float xs.now)) w.old w.new }
 {
     w.bytes(&[W::MARK, b'V', b' ']);
@@ -57,7 +62,8 @@ fn vector<W: Real>(w: &mut Writer<'_>, n: usize, xs: &[W])
 }
 
 fn matrix<W: Real>(w: &mut Writer<'_>, rows: usize, cols: usize, xs: &[W])
-    requires { HasRoom (matrix_bytes W.format rows cols (map W.float xs.now)) w.old }
+    requires room { HasRoom (matrix_bytes W.format rows cols (map W.float xs.now)) w.old }
+    requires judged { AllFinite W.float xs.now }
     ensures { Wrote (matrix_bytes W.format rows cols (map W.float xs.now)) w.old w.new }
 {
     w.bytes(&[W::MARK, b'M', b' ']);
@@ -68,7 +74,8 @@ fn matrix<W: Real>(w: &mut Writer<'_>, rows: usize, cols: usize, xs: &[W])
 
 // The lower triangle of a symmetric matrix of n rows.
 fn packed<W: Real>(w: &mut Writer<'_>, n: usize, xs: &[W])
-    requires { HasRoom (packed_bytes W.format n (map W.float xs.now)) w.old }
+    requires room { HasRoom (packed_bytes W.format n (map W.float xs.now)) w.old }
+    requires judged { AllFinite W.float xs.now }
     ensures { Wrote (packed_bytes W.format n (map W.float xs.now)) w.old w.new }
 {
     w.bytes(&[W::MARK, b'P', b' ']);
@@ -82,6 +89,7 @@ fn matrices<W: Real>(w: &mut Writer<'_>, count: usize, rows: usize, cols: usize,
     requires cols { cols ≤ 128 }
     requires long { length xs.now ≡ count * (rows * cols) }
     requires room { HasRoom (m_blocks W.format count rows cols (map W.float xs.now)) w.old }
+    requires judged { AllFinite W.float xs.now }
     ensures { Wrote (m_blocks W.format count rows cols (map W.float xs.now)) w.old w.new }
 {
     let n = rows * cols;
@@ -95,6 +103,7 @@ fn packeds<W: Real>(w: &mut Writer<'_>, count: usize, rows: usize, xs: &[W])
     requires rows { rows ≤ 64 }
     requires long { length xs.now ≡ count * triangle rows }
     requires room { HasRoom (sigma_blocks W.format count rows (map W.float xs.now)) w.old }
+    requires judged { AllFinite W.float xs.now }
     ensures { Wrote (sigma_blocks W.format count rows (map W.float xs.now)) w.old w.new }
 {
     let n = rows * (rows + 1) / 2;
@@ -105,9 +114,12 @@ fn packeds<W: Real>(w: &mut Writer<'_>, count: usize, rows: usize, xs: &[W])
 
 // ---- the files
 
-#[tactic(auto, unfolding(crate::specs::Written::gmm_bytes))]
+#[tactic(auto, unfolding(crate::specs::Written::gmm_bytes, loops::specs::Lists::all_of))]
 fn gmm<W: Real>(w: &mut Writer<'_>, p: &LentParams<'_, W>)
-    requires { HasRoom (gmm_bytes W.format (params_in W.float p.now)) w.old }
+    requires room { HasRoom (gmm_bytes W.format (params_in W.float p.now)) w.old }
+    requires weights { AllFinite W.float p.now.weights.now }
+    requires means_invvars { AllFinite W.float p.now.means_invvars.now }
+    requires inv_vars { AllFinite W.float p.now.inv_vars.now }
     ensures { Wrote (gmm_bytes W.format (params_in W.float p.now)) w.old w.new }
 {
     let z = p.sizes;
@@ -122,7 +134,7 @@ fn gmm<W: Real>(w: &mut Writer<'_>, p: &LentParams<'_, W>)
     w.bytes(b"</DiagGMM> ");
 }
 
-#[tactic(auto, unfolding(crate::specs::Written::extractor_bytes))]
+#[tactic(auto, unfolding(crate::specs::Written::extractor_bytes, loops::specs::Lists::all_of))]
 fn extractor<W: Real>(w: &mut Writer<'_>, p: &LentParams<'_, W>)
     requires feat { p.now.sizes.feat_dim ≤ 64 }
     requires ivector { p.now.sizes.ivector_dim ≤ 128 }
@@ -131,6 +143,9 @@ fn extractor<W: Real>(w: &mut Writer<'_>, p: &LentParams<'_, W>)
     requires sigma_inv { length p.now.sigma_inv.now
         ≡ p.now.sizes.ext_gauss * triangle p.now.sizes.feat_dim }
     requires room { HasRoom (extractor_bytes W.format (params_in W.float p.now)) w.old }
+    requires m_judged { AllFinite W.float p.now.m.now }
+    requires sigma_inv_judged { AllFinite W.float p.now.sigma_inv.now }
+    requires offset_judged { finite (W.float p.now.prior_offset) ≡ true }
     ensures { Wrote (extractor_bytes W.format (params_in W.float p.now)) w.old w.new }
 {
     let z = p.sizes;
@@ -151,7 +166,8 @@ fn extractor<W: Real>(w: &mut Writer<'_>, p: &LentParams<'_, W>)
 
 #[tactic(auto, unfolding(crate::specs::Written::lda_bytes))]
 fn lda<W: Real>(w: &mut Writer<'_>, p: &LentParams<'_, W>)
-    requires { HasRoom (lda_bytes W.format (params_in W.float p.now)) w.old }
+    requires room { HasRoom (lda_bytes W.format (params_in W.float p.now)) w.old }
+    requires judged { AllFinite W.float p.now.lda.now }
     ensures { Wrote (lda_bytes W.format (params_in W.float p.now)) w.old w.new }
 {
     w.bytes(b"\0B");

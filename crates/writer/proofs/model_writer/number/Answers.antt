@@ -12,14 +12,14 @@ use Rattle.writer.proofs.model_writer.number.Goals as goal
 
 pub bytes-requires : goal.bytes-requires
 bytes-requires g c =
-    room_as (ap (take c.BYTES.result) (c.to_le_bytes-bytes.ensures ∙ ap (to_le_bytes w64) c.to_pattern.ensures)
+    room_as (ap (take c.BYTES.result) (c.to_le_bytes-bytes.ensures ∙ ap (to_le_bytes w64) c.finite_pattern.ensures)
     ∙ front c.BYTES.result (to_bits g.W.Real.format (g.W.Real.float c.args.x)) (few_bytes g.W.Real.format (c.BYTES.ensures ∙ g.met.W.Real.bytes))
     ∙ ap (λ (k : ℕ). low_bytes k (to_bits g.W.Real.format (g.W.Real.float c.args.x))) (c.BYTES.ensures ∙ g.met.W.Real.bytes) ∙ sym (numbers_one g.W.Real.format (g.W.Real.float c.args.x)))
-    c.requires
+    c.requires.room
 
 pub returns : goal.returns
 returns g c =
-    wrote_as (ap (take c.BYTES.result) (c.to_le_bytes-bytes.ensures ∙ ap (to_le_bytes w64) c.to_pattern.ensures)
+    wrote_as (ap (take c.BYTES.result) (c.to_le_bytes-bytes.ensures ∙ ap (to_le_bytes w64) c.finite_pattern.ensures)
     ∙ front c.BYTES.result (to_bits g.W.Real.format (g.W.Real.float c.args.x)) (few_bytes g.W.Real.format (c.BYTES.ensures ∙ g.met.W.Real.bytes))
     ∙ ap (λ (k : ℕ). low_bytes k (to_bits g.W.Real.format (g.W.Real.float c.args.x))) (c.BYTES.ensures ∙ g.met.W.Real.bytes) ∙ sym (numbers_one g.W.Real.format (g.W.Real.float c.args.x)))
     c.bytes.ensures

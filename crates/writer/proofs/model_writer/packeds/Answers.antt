@@ -5,16 +5,19 @@ use Rattle.loops.proofs.Flat.{flat_none, flat_more}
 use Rattle.definition.specs.Kaldi.{triangle}
 use Rattle.writer.proofs.Chain.{together, next_room, room_as, wrote_none, wrote_as}
 use Rattle.writer.specs.Written.{packed_bytes, part}
-use Rattle.writer.proofs.Bytes.{lent_part}
+use Rattle.writer.proofs.Bytes.{lent_part, part_finite}
 use Rattle.writer.proofs.model_writer.packeds.Goals as goal
 
 pub loop-i-init : goal.loop-i-init
 loop-i-init g c = (refl, wrote_as (sym (flat_none _)) (wrote_none _))
 
-pub packed-requires : goal.packed-requires
-packed-requires g c =
+pub packed-requires-clause-room : goal.packed-requires-clause-room
+packed-requires-clause-room g c =
     room_as (ap (packed_bytes g.W.Real.format c.args.rows) (lent_part g.W.Real.float (triangle c.args.rows) c.loop-i.i c.args.xs.now))
     (next_room c.args.count (λ i. packed_bytes g.W.Real.format c.args.rows (part (triangle c.args.rows) i (map g.W.Real.float c.args.xs.now))) c.requires.room c.loop-i.invariant.1 c.loop-i-test.true)
+
+pub packed-requires-clause-judged : goal.packed-requires-clause-judged
+packed-requires-clause-judged g c = part_finite g.W.Real.float (triangle c.args.rows) c.loop-i.i c.args.xs.now c.requires.judged
 
 pub loop-i-preserved : goal.loop-i-preserved
 loop-i-preserved g c =

@@ -5,13 +5,13 @@ use Rattle.writer.proofs.Bytes.{vector_head}
 use Rattle.writer.proofs.model_writer.vector.Goals as goal
 
 pub bytes-requires : goal.bytes-requires
-bytes-requires g c = room_as (vector_head g.W.Real.format c.MARK.result (c.MARK.ensures ∙ g.met.W.Real.mark)) (first _ _ _ c.requires)
+bytes-requires g c = room_as (vector_head g.W.Real.format c.MARK.result (c.MARK.ensures ∙ g.met.W.Real.mark)) (first _ _ _ c.requires.room)
 
 pub size-requires : goal.size-requires
-size-requires g c = first _ _ _ (rest _ _ c.requires (wrote_as (vector_head g.W.Real.format c.MARK.result (c.MARK.ensures ∙ g.met.W.Real.mark)) c.bytes.ensures))
+size-requires g c = first _ _ _ (rest _ _ c.requires.room (wrote_as (vector_head g.W.Real.format c.MARK.result (c.MARK.ensures ∙ g.met.W.Real.mark)) c.bytes.ensures))
 
-pub numbers-requires : goal.numbers-requires
-numbers-requires g c = rest _ _ (rest _ _ c.requires (wrote_as (vector_head g.W.Real.format c.MARK.result (c.MARK.ensures ∙ g.met.W.Real.mark)) c.bytes.ensures)) c.size.ensures
+pub numbers-requires-clause-room : goal.numbers-requires-clause-room
+numbers-requires-clause-room g c = rest _ _ (rest _ _ c.requires.room (wrote_as (vector_head g.W.Real.format c.MARK.result (c.MARK.ensures ∙ g.met.W.Real.mark)) c.bytes.ensures)) c.size.ensures
 
 pub returns : goal.returns
 returns g c = together (wrote_as (vector_head g.W.Real.format c.MARK.result (c.MARK.ensures ∙ g.met.W.Real.mark)) c.bytes.ensures) (together c.size.ensures c.numbers.ensures)
