@@ -8,11 +8,12 @@ use script::{Files, Words};
 /// The bytes that there is room for, of the four files together.
 pub(crate) const FILE_BYTES: usize = 262144;
 
-/// The bytes of a file, which the text has as `N HEX`: as many as a room has places for. They are
-/// its front; the places behind them are left.
+/// The bytes of a file, which the text has as `N HEX`: as many as a room has places for, 0 where the
+/// text has none. They are its front; the places behind them are left.
 pub(crate) fn file<'a>(text: &[u8], room: &'a mut [u8]) -> (&'a [u8], &'a mut [u8]) {
     let n = size(text).min(room.len());
     let (bytes, left) = room.split_at_mut(n);
+    bytes.fill(0);
     let mut words = Words { rest: text };
     (words.bytes(bytes), left)
 }

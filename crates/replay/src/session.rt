@@ -33,6 +33,8 @@ pub(crate) struct Session<'a> {
     pub(crate) forged: bool,
     /// Whether a script forged the waiting frames.
     pub(crate) waiting_forged: bool,
+    /// The files' bytes.
+    bytes: [u8; FILE_BYTES],
     tables: Tables,
     pub(crate) rooms: Rooms,
 }
@@ -55,6 +57,7 @@ impl<'a> Session<'a> {
             told: CLOSED,
             forged: false,
             waiting_forged: false,
+            bytes: [0; FILE_BYTES],
             tables: Tables::new(),
             rooms: Rooms::new(),
         }
@@ -129,8 +132,7 @@ impl<'a> Session<'a> {
             self.hold_in_place(Held::Nothing);
             return Ok(());
         }
-        let mut bytes = [0u8; FILE_BYTES];
-        let (gmm, left) = file(self.files.gmm, &mut bytes);
+        let (gmm, left) = file(self.files.gmm, &mut self.bytes);
         let (extractor, left) = file(self.files.extractor, left);
         let (lda, left) = file(self.files.lda, left);
         let (cmvn, _) = file(self.files.cmvn, left);
