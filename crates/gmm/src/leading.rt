@@ -227,7 +227,7 @@ fn looked_at(t: usize, num_gselect: usize, n: usize) -> usize
 // A posterior that num_gselect of the first n candidates are not behind, if they are more: that of
 // the last of the leading ones, if one has it alone. Of those looked at, `low` is the foremost that
 // has so many not behind it, and `high` the last that has fewer; the walk is left where one has
-// just as many, and after sixteen looks with what was found: an order can be such that each counts.
+// just as many, and after six looks with what was found: an order can be such that each counts.
 fn find_bound(num_gselect: usize, n: usize, posts: &[f32]) -> Option<f32>
     requires { n ≤ length posts.now }
     ensures { IfSome result (λ v. (gauss : List ℕ) → n ≤ length gauss
@@ -245,7 +245,7 @@ fn find_bound(num_gselect: usize, n: usize, posts: &[f32]) -> Option<f32>
         let x = posts[looked_at(t, num_gselect, n)];
         if low < x {
             if x < high {
-                if looks == 16 {
+                if looks == 6 {
                     return bound;
                 }
                 looks += 1;

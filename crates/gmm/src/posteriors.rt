@@ -321,8 +321,8 @@ fn is_above(cutoff: Option<f32>, l: f32) -> bool
     }
 }
 
-// The most likely of few Gaussians: those that pass are put in order at once, and no room for
-// candidates is cleared.
+// The most likely of few Gaussians, or of such as need no exponential: those that pass are put in
+// order at once, and no room for candidates is cleared.
 fn gather_few(
     cutoff: Option<f32>,
     max_like: f32,
@@ -370,6 +370,11 @@ fn gather(
     let few = candidates(cutoff, max_like, 0, loglikes, 0, &mut gauss, &mut likes);
     if few.next == loglikes.len() {
         return leading::order(few.count, &gauss, &likes, 0, num_gselect, chosen);
+    }
+    // where most need no exponential, there is nothing that candidates would save
+    let plain = likes.iter().filter(|&&p| p == 0.0 || p == 1.0).count();
+    if plain > 11 {
+        return gather_few(cutoff, max_like, loglikes, num_gselect, chosen);
     }
     gather_many(
         cutoff,

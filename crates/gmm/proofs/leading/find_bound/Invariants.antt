@@ -8,4 +8,4 @@ use Rattle.gmm.specs.Inner.Leading.{posts_in, stays}
 use Rattle.gmm.proofs.leading.find_bound.Given as goal
 
 abbrev pub invariant-loop-t : goal.invariant-loop-t
-invariant-loop-t l = (l.looks ≤ 16) × IfSome l.bound (λ v. (gauss : List ℕ) → l.n ≤ length gauss → l.num_gselect ≤ length (those (stays (Some v)) (posts_in l.n gauss l.posts)))
+invariant-loop-t l = (l.looks ≤ 6) × IfSome l.bound (λ v. (gauss : List ℕ) → l.n ≤ length gauss → l.num_gselect ≤ length (those (stays (Some v)) (posts_in l.n gauss l.posts)))
