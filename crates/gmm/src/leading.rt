@@ -228,12 +228,13 @@ fn looked_at(t: usize, num_gselect: usize, n: usize) -> usize
 // the last of the leading ones, if one has it alone. Of those looked at, `low` is the foremost that
 // has so many not behind it, and `high` the last that has fewer; the walk is left where one has
 // just as many, and after six looks with what was found: an order can be such that each counts.
-fn find_bound(num_gselect: usize, n: usize, posts: &[f32]) -> Option<f32>
+// None is sought where some are in order already, since a choice has left too many before.
+fn find_bound(ordered: usize, num_gselect: usize, n: usize, posts: &[f32]) -> Option<f32>
     requires { n ≤ length posts.now }
     ensures { IfSome result (λ v. (gauss : List ℕ) → n ≤ length gauss
         → num_gselect ≤ length (those (stays (Some v)) (posts_in n gauss posts.now))) }
 {
-    if num_gselect == 0 || n <= num_gselect {
+    if ordered > 0 || num_gselect == 0 || n <= num_gselect {
         return None;
     }
     let mut bound = None;
@@ -305,7 +306,13 @@ struct Choice {
 
 // Of the first n candidates the leading num_gselect are chosen, with those level with the last of
 // them. They stay in the order in which they came.
-fn choose(num_gselect: usize, n: usize, gauss: &mut [usize], posts: &mut [f32]) -> Choice
+fn choose(
+    ordered: usize,
+    num_gselect: usize,
+    n: usize,
+    gauss: &mut [usize],
+    posts: &mut [f32],
+) -> Choice
     requires { (n ≤ length gauss.old) × (n ≤ length posts.old) }
     ensures chosen { posts_in result.count gauss.new posts.new
         ≡ those (stays result.bound) (posts_in n gauss.old posts.old) }
@@ -313,7 +320,7 @@ fn choose(num_gselect: usize, n: usize, gauss: &mut [usize], posts: &mut [f32]) 
         (λ v. num_gselect ≤ length (those (stays (Some v)) (posts_in n gauss.old posts.old))) }
     ensures fewer { result.count ≤ n }
 {
-    let bound = find_bound(num_gselect, n, posts);
+    let bound = find_bound(ordered, num_gselect, n, posts);
     let count = keep(bound, 0, n, gauss, posts);
     Choice { count, bound }
 }
@@ -350,7 +357,13 @@ pub fn make_room(
     if holding.candidates <= 48 {
         return holding;
     }
-    let choice = choose(num_gselect, holding.candidates, gauss, posts);
+    let choice = choose(
+        holding.ordered,
+        num_gselect,
+        holding.candidates,
+        gauss,
+        posts,
+    );
     if choice.count <= 48 {
         return Holding {
             candidates: choice.count,
@@ -389,7 +402,8 @@ pub fn finish(
     ensures most { result ≤ num_gselect }
     ensures loans { SameChosen chosen.old chosen.new }
 {
-    let last = choose(num_gselect, holding.candidates, gauss, posts);
+    let ordered = holding.ordered;
+    let last = choose(ordered, num_gselect, holding.candidates, gauss, posts);
     order(
         last.count,
         gauss,

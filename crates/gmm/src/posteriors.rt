@@ -2,8 +2,8 @@
 //! logarithm of the prune floor. Rooms go with the number of places in use, since more is lent than
 //! that (limit: loans).
 
-ghost use Rattle.std.specs.Prelude.{◌≡◌, IfSome, List, ℕ, ◌+◌, ◌-◌, ◌<◌, ◌≤◌, length, take};
-ghost use Rattle.std.specs.Float.Ieee.{lt, neg};
+ghost use Rattle.std.specs.Prelude.{◌≡◌, ◌||◌, IfSome, List, ℕ, ◌+◌, ◌-◌, ◌<◌, ◌≤◌, length, take};
+ghost use Rattle.std.specs.Float.Ieee.{eq, lt, neg};
 ghost use Rattle.loops.specs.Lists.{those};
 ghost use Rattle.loops.specs.Inner.{fill};
 ghost use Rattle.floats.specs.Operators.{◌-₃₂◌, ◌*₃₂◌, f32, zero₃₂, at, sum₃₂};
@@ -157,20 +157,11 @@ fn some_likelihoods(first: usize, end: usize, likes: &mut [f32])
     }
 }
 
-// Of how many of the differences from place `first` up to `end` the exponential is added up: neither
-// of 0, nor of those so far below that it is 0. With no branch in the loop.
-fn series_wanted(first: usize, end: usize, likes: &[f32]) -> usize
-    requires { (first ≤ end) × (end ≤ length likes.now) }
-    ensures { result ≤ end - first }
+// Whether the likelihood of the difference d needs no series: d is 0, or so far below that it is 0.
+fn is_plain(d: f32) -> bool
+    ensures { result ≡ (eq d zero₃₂ || lt d (neg (f32 0x42d0_0000))) }
 {
-    let mut count = 0;
-    for i in first..end {
-        let d = likes[i];
-        if d >= -104.0 && d != 0.0 {
-            count += 1;
-        }
-    }
-    count
+    d == 0.0 || d < -104.0
 }
 
 // The likelihoods of the differences from place `first` up to `end`, each made alone.
@@ -184,12 +175,13 @@ fn each_likelihood(first: usize, end: usize, likes: &mut [f32])
 }
 
 // The likelihoods of the differences from place `first` up to `end`, sixteen at most: side by side,
-// or each alone where most need no series.
+// or each alone where the first, the middle and the last need no series.
 fn group_likelihoods(first: usize, end: usize, likes: &mut [f32])
-    requires { (first ≤ end) × (end ≤ first + 16) × (end ≤ length likes.old) }
+    requires { (first < end) × (end ≤ first + 16) × (end ≤ length likes.old) }
     ensures { Likely first end likes.old likes.new }
 {
-    if 2 * series_wanted(first, end, likes) < end - first {
+    let middle = first + (end - first) / 2;
+    if is_plain(likes[first]) && is_plain(likes[middle]) && is_plain(likes[end - 1]) {
         each_likelihood(first, end, likes);
     } else {
         some_likelihoods(first, end, likes);
