@@ -15,7 +15,7 @@ ghost use Rattle.algebra.specs.Inner.PackedMatrix.{square_of};
 ghost use Rattle.algebra.specs.Inner.Linear.{started, stepped as stepped_of, recomputed as recomputed_of, is_far, is_last, is_worse, cgd_of, turn_end, is_on};
 
 use crate::basics::{add_scaled, difference};
-use crate::packed_matrix::{Symmetric, dot, packed_index, weighted_rows};
+use crate::packed_matrix::{Symmetric, copy, dot, packed_index, weighted_rows};
 
 // A number less the products of two vectors, taken off one after the other.
 fn less_products(s: f64, x: &[f64], y: &[f64]) -> f64
@@ -351,17 +351,6 @@ fn cgd_turns(
     t
 }
 
-// x into y. By index: the library's copy would call `memmove`, which the archive asks of no host.
-#[tactic(auto, using(loops::proofs::Fill::fills))]
-fn copy(x: &[f64], y: &mut [f64])
-    requires { length y.old ≡ length x.now }
-    ensures { y.new ≡ x.now }
-{
-    for i in 0..x.len() {
-        y[i] = x[i];
-    }
-}
-
 // The exact solution, or the start where there is none.
 fn exact_or_start(
     a: Symmetric<'_>,
@@ -405,7 +394,7 @@ pub fn linear_cgd(a: Symmetric<'_>, b: &[f64], x: &mut [f64], max_iters: usize, 
     let p = &mut p[..n];
     let ap = &mut ap[..n];
     let l = &mut scratch[..n * n];
-    start.copy_from_slice(x);
+    copy(x, start);
     a.lay_out(l);
     let square = Square { cells: l, n };
     let system = System { square, b };

@@ -26,7 +26,7 @@ returns-then-is_worse c =
     let laid = c.lay_out.ensures in
     let from-x : List Float → List Float = λ x. solved_or x c.args.a.n c.args.b.now (factor a c.args.a.n) in
     gives_up a _ _ _ _ c.cgd_begin-first.result c.cgd_turns-last.result (c.cgd_begin-first.ensures.begun a laid) (c.cgd_turns-last.ensures a laid)
-    (dot_front _ c.args.b.now c.requires.b_long c.dot.ensures) c.is_worse.ensures (begins_far (goal.at.returns-then-is_worse c).After-cgd_turns-last) c.if-is_worse.true (c.exact_or_start.ensures ∙ ap from-x c.copy_from_slice.ensures.after)
+    (dot_front _ c.args.b.now c.requires.b_long c.dot.ensures) c.is_worse.ensures (begins_far (goal.at.returns-then-is_worse c).After-cgd_turns-last) c.if-is_worse.true (c.exact_or_start.ensures ∙ ap from-x c.copy.ensures)
 
 pub returns-else-is_worse : goal.returns-else-is_worse
 returns-else-is_worse c =

@@ -18,9 +18,9 @@ use Rattle.algebra.proofs.packed_matrix.column.Goals as goal
 pub loop-j-init : goal.loop-j-init
 loop-j-init c =
     let a = c.args in
-    let h = front_is a.start a.i a.a.now a.out.now nan (omega (arith, triangle-below a.i a.i (length a.out.now) (omega arith) c.requires.1)) c.copy_from_slice.ensures.after
+    let h = front_is a.start a.i a.a.now a.out.now nan (omega (arith, triangle-below a.i a.i (length a.out.now) (omega arith) c.requires.1)) c.copy.ensures
     (λ j p. ap (λ (t : ℕ). at a.a.now (t + j)) c.requires.0 ∙ ap (at a.a.now) (packed_high j a.i p)) in
-    let long : length c.copy_from_slice.new.self ≡ a.i = c.copy_from_slice.ensures.len ∙ length-take-le a.i a.out.now (omega arith) in
+    let long : length c.copy.new.y ≡ a.i = c.copy.auto.y ∙ length-take-le a.i a.out.now (omega arith) in
     record {
       from = omega arith;
       most = simp (length-append, length-drop) (omega arith);
