@@ -304,7 +304,7 @@ pub fn is_foreign(s: &IvectorStream, waiting: &[usize]) -> bool
 // ---- the derived comparison
 
 // Of two records of lengths the derived `==` is the definition's comparison of them, one after the
-// other: these say so, each of one type. What is lent is compared by them (`stream`).
+// other: these say so, each of one type. `stream` goes by the first three.
 
 /// Whether tables are equally long.
 #[tactic(auto, unfolding(definition::specs::Stream::same_tables))]
