@@ -1,5 +1,5 @@
 -- A frame's posteriors go into the batch one by one.
-use Rattle.std.proofs.Common.{◌≡◌, ℕ, ◌+◌, ◌*◌, ◌<◌, ◌≤◌, List, [], ◌∷◌, ◌++◌, map, length, get_or, sym, refl, ap, ◌∙◌, subst, append_assoc, append-nil, not-suc-le-zero, add-one, arith}
+use Rattle.std.proofs.Common.{◌≡◌, ℕ, ◌+◌, ◌<◌, ◌≤◌, List, [], ◌∷◌, ◌++◌, map, length, get_or, sym, refl, ap, ◌∙◌, subst, append_assoc, append-nil, not-suc-le-zero, add-one, arith}
 use mathlib.Core.List.{map-append, map-map}
 use lib.Ieee.{Float}
 use Rattle.loops.specs.Lists.{build}

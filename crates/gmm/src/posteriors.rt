@@ -2,8 +2,8 @@
 //! logarithm of the prune floor. Rooms go with the number of places in use, since more is lent than
 //! that (limit: loans).
 
-ghost use Rattle.std.specs.Prelude.{◌≡◌, ◌||◌, IfSome, List, ℕ, ◌+◌, ◌-◌, ◌<◌, ◌≤◌, length, take};
-ghost use Rattle.std.specs.Float.Ieee.{eq, lt, neg};
+ghost use Rattle.std.specs.Prelude.{◌≡◌, ◌||◌, false, IfSome, List, [], ◌∷◌, ℕ, ◌+◌, ◌-◌, ◌*◌, ◌<◌, ◌≤◌, length, take, drop};
+ghost use Rattle.std.specs.Float.Ieee.{eq, lt, neg, is_nan};
 ghost use Rattle.loops.specs.Lists.{those};
 ghost use Rattle.loops.specs.Inner.{fill};
 ghost use Rattle.floats.specs.Operators.{◌-₃₂◌, ◌*₃₂◌, f32, zero₃₂, at, sum₃₂};
@@ -13,7 +13,7 @@ ghost use Rattle.definition.specs.Posteriors.{pruned, every, max_like, ranked, b
 ghost use Rattle.gmm.specs.Inner.Leading.{posts_in};
 ghost use Rattle.gmm.specs.Inner.LeadingRooms.{HasPlaces, SameChosen};
 ghost use Rattle.gmm.specs.Inner.PosteriorsRooms.{Selected, Collects, Likely};
-ghost use Rattle.gmm.specs.Inner.Posteriors.{Next, likelihoods as likelihoods_of, passes, place_or, above as above_of, top};
+ghost use Rattle.gmm.specs.Inner.Posteriors.{Next, likelihoods as likelihoods_of, passes, place_or, above as above_of, least, top, joined};
 
 use crate::leading::{self, Chosen, Holding};
 
@@ -387,8 +387,75 @@ fn above(m: f32, l: f32) -> f32
     if m < l { l } else { m }
 }
 
-// The largest of m and the others, with no branch.
-fn largest_of_rest(m: f32, loglikes: &[f32]) -> f32
+// Part k of the parts that are h long.
+fn part(h: usize, k: usize, loglikes: &[f32]) -> &[f32]
+    requires { k * h + h ≤ length loglikes.now }
+    ensures { (result.now ≡ take h (drop (k * h) loglikes.now)) × (length result.now ≡ h) }
+{
+    let start = k * h;
+    let end = start + h;
+    &loglikes[start..end]
+}
+
+// What is behind eight such parts.
+fn behind(h: usize, loglikes: &[f32]) -> &[f32]
+    requires { 8 * h ≤ length loglikes.now }
+    ensures { result.now ≡ drop (8 * h) loglikes.now }
+{
+    let start = 8 * h;
+    &loglikes[start..]
+}
+
+// The largest of each of eight parts at once, so that no comparison waits for the last; then of
+// those, in the order of the parts.
+fn largest_of_parts(
+    a: &[f32],
+    b: &[f32],
+    c: &[f32],
+    d: &[f32],
+    e: &[f32],
+    f: &[f32],
+    g: &[f32],
+    h: &[f32],
+) -> f32
+    requires { (length b.now ≡ length a.now) × (length c.now ≡ length a.now)
+        × (length d.now ≡ length a.now) × (length e.now ≡ length a.now)
+        × (length f.now ≡ length a.now) × (length g.now ≡ length a.now)
+        × (length h.now ≡ length a.now) }
+    ensures { result
+        ≡ joined (top least a.now)
+        (b.now ∷ c.now ∷ d.now ∷ e.now ∷ f.now ∷ g.now ∷ h.now ∷ []) }
+{
+    let mut ma = -1.0 / 0.0;
+    let mut mb = -1.0 / 0.0;
+    let mut mc = -1.0 / 0.0;
+    let mut md = -1.0 / 0.0;
+    let mut me = -1.0 / 0.0;
+    let mut mf = -1.0 / 0.0;
+    let mut mg = -1.0 / 0.0;
+    let mut mh = -1.0 / 0.0;
+    // By index: eight slices side by side.
+    for i in 0..a.len() {
+        ma = above(ma, a[i]);
+        mb = above(mb, b[i]);
+        mc = above(mc, c[i]);
+        md = above(md, d[i]);
+        me = above(me, e[i]);
+        mf = above(mf, f[i]);
+        mg = above(mg, g[i]);
+        mh = above(mh, h[i]);
+    }
+    let m = above(ma, mb);
+    let m = above(m, mc);
+    let m = above(m, md);
+    let m = above(m, me);
+    let m = above(m, mf);
+    let m = above(m, mg);
+    above(m, mh)
+}
+
+// The largest of m and the others, with no branch, one after the other.
+fn largest_in_turn(m: f32, loglikes: &[f32]) -> f32
     ensures { result ≡ top m loglikes.now }
 {
     let mut max_like = m;
@@ -396,6 +463,27 @@ fn largest_of_rest(m: f32, loglikes: &[f32]) -> f32
         max_like = above(max_like, loglikes[g]);
     }
     max_like
+}
+
+// The largest of m, which is no NaN, and the others. Parts and joins keep the order: of equal ones
+// the first is the answer.
+fn largest_of_rest(m: f32, loglikes: &[f32]) -> f32
+    requires { is_nan m ≡ false }
+    ensures { result ≡ top m loglikes.now }
+{
+    let h = loglikes.len() / 8;
+    let front = largest_of_parts(
+        part(h, 0, loglikes),
+        part(h, 1, loglikes),
+        part(h, 2, loglikes),
+        part(h, 3, loglikes),
+        part(h, 4, loglikes),
+        part(h, 5, loglikes),
+        part(h, 6, loglikes),
+        part(h, 7, loglikes),
+    );
+    let so_far = above(m, front);
+    largest_in_turn(so_far, behind(h, loglikes))
 }
 
 // The largest, a NaN passed over: the last that is above all in front of it. So of equal ones the

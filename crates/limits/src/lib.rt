@@ -304,7 +304,7 @@ pub fn is_foreign(s: &IvectorStream, waiting: &[usize]) -> bool
 // ---- the derived comparison
 
 // Of two records of lengths the derived `==` is the definition's comparison of them, one after the
-// other: these say so, each of one type. `stream` goes by the first three.
+// other: these say so, each of one type. `stream` goes by them.
 
 /// Whether tables are equally long.
 #[tactic(auto, unfolding(definition::specs::Stream::same_tables))]
@@ -322,17 +322,17 @@ pub fn same_rings(a: RingLengths, b: RingLengths) -> bool
     a == b
 }
 
-/// Whether all rooms of a stream are.
-#[tactic(auto, unfolding(definition::specs::Stream::same_rooms, definition::specs::Stream::same_rings))]
-pub fn same_rooms(a: RoomLengths, b: RoomLengths) -> bool
-    ensures { result ≡ same_rooms a b }
-{
-    a == b
-}
-
 /// Whether the rooms of a fetch are.
 pub fn same_estimate(a: EstimateLengths, b: EstimateLengths) -> bool
     ensures { result ≡ pairwise eqb (estimate_lengths a) (estimate_lengths b) }
 {
     a == b
+}
+
+/// Whether all rooms of a stream are.
+#[tactic(auto, unfolding(definition::specs::Stream::same_rooms))]
+pub fn same_rooms(a: RoomLengths, b: RoomLengths) -> bool
+    ensures { result ≡ same_rooms a b }
+{
+    same_rings(a.rings, b.rings) && same_estimate(a.estimate, b.estimate)
 }

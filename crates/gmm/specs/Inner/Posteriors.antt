@@ -1,6 +1,6 @@
 -- What the contracts say besides the definition: `Fair` of the rooms that a caller lends, and the walks over log-likelihoods.
 use Rattle.std.specs.Prelude.{◌≡◌, Option, None, Some, Bool, true, false, ℕ, ◌<◌, ◌≤◌, get_or, Float, if◌then◌else◌}
-use mathlib.Core.List.{List, map, foldl}
+use mathlib.Core.List.{List, [], ◌∷◌, map, foldl}
 use Rattle.std.specs.Float.{inf}
 use Rattle.std.specs.Float.Ieee.{lt}
 use Rattle.floats.specs.Operators.{◌-₃₂◌}
@@ -43,3 +43,9 @@ least = inf true
 -- the largest of m and a list: of equal ones the first, and a NaN is passed over
 unfoldable pub top : Float → List Float → Float
 top m ls = foldl above m ls
+
+-- the larger of m and each list's largest, list by list
+unfoldable pub joined : Float → List (List Float) → Float
+unfolding top
+joined m [] = m
+joined m (xs ∷ rest) = joined (above m (top least xs)) rest

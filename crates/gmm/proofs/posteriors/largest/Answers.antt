@@ -6,7 +6,7 @@ use Prim.Native.Nat.{◌+◌}
 use lib.ListN.{length}
 use lib.Ieee.{div, neg, of_bits}
 use Rattle.gmm.specs.Inner.Posteriors.{top}
-use Rattle.gmm.proofs.Maximum.{top-turn, top-past, top-rest, top-all}
+use Rattle.gmm.proofs.Maximum.{top-turn, top-past, top-rest, top-all, top-number}
 use Rattle.gmm.proofs.posteriors.largest.Goals as goal
 
 pub loop-j-init : goal.loop-j-init
@@ -20,6 +20,14 @@ loop-j-preserved c =
     let next = rw c.in-Some.is at c.next_above.ensures.first in
     let near = rw c.in-Some.is at c.next_above.ensures.in_list in
     (omega (arith, near), top-turn ls near (top-past ls c.loop-j.k c.in-Some.j next.from next.most next.none v.1) (rw (next.here near)), omega (arith, v.2, c.if-rises-eq16.false))
+
+pub largest_of_rest-requires : goal.largest_of_rest-requires
+largest_of_rest-requires c =
+    let ls = c.args.loglikes.now in
+    let v = c.loop-j.invariant in
+    let next = rw c.in-Some.is at c.next_above.ensures.first in
+    let near = rw c.in-Some.is at c.next_above.ensures.in_list in
+    top-number _ (top-turn ls near (top-past ls c.loop-j.k c.in-Some.j next.from next.most next.none v.1) (rw (next.here near)))
 
 pub returns-then-rises-eq16 : goal.returns-then-rises-eq16
 returns-then-rises-eq16 c =
