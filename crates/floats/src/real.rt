@@ -92,10 +92,13 @@ pub trait Real: Copy
     fn to_pattern(self) -> u64
         ensures { result ≡ to_bits format (float self) };
 
-    /// The pattern of a number that is finite, which takes no test.
+    /// The pattern of a number that is finite: a width may give it with no test.
     fn finite_pattern(self) -> u64
         requires { finite (float self) ≡ true }
-        ensures { result ≡ to_bits format (float self) };
+        ensures { result ≡ to_bits format (float self) }
+    {
+        self.to_pattern()
+    }
 
     /// The number as bytes, from low to high.
     fn write(self, out: &mut [u8])

@@ -7,6 +7,9 @@
 //! cut to the length that its line says.
 #![tactic(auto)]
 
+#[cfg(test)]
+mod tests;
+
 use algebra::linear;
 use algebra::packed_matrix::Symmetric;
 use definition::IvectorOptions;

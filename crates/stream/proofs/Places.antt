@@ -1,5 +1,5 @@
 -- A batch place by place: what is left of it when the frame at a place is taken, until none is (`left_less`, `left_none`); what stands at a place,
--- without weights (`frame_there`); and a batch of all its places (`whole_batch`).
+-- without weights (`frame_there`); a batch of all its places (`whole_batch`); and one that takes no frame from `next` on, with none named (`none_named`).
 use mathlib.Core.Path.{◌≡◌, refl, sym, ap, ap₂, ◌∙◌}
 use mathlib.Core.Bool.{Bool, false}
 use Prim.Native.Nat.{ℕ, suc, ◌+◌, ◌-◌, ◌≤◌, ◌<◌}
@@ -123,6 +123,13 @@ module _ (o : IvectorOptions) (x : Intake) {k : ℕ} (e : k ≡ places_of x) whe
 
   pub no_batch : k ≡ 0 → batch_in o x ≡ []
   no_batch h = sym whole_batch ∙ none_left o x.called x.next k x.waiting.frames.now x.waiting.weights.now 0 (omega arith)
+
+-- where none is taken from `next` on, it is the same batch with none named
+pub none_named : (o : IvectorOptions) (x : Intake) → (x.called ≡ false → x.end ≤ x.next)
+    → batch_in o (record { accepted = x.accepted; called = x.called; next = 0; end = 0; changes = x.changes; waiting = x.waiting }) ≡ batch_in o x
+none_named o x none =
+    by-test x.called (λ h. rw h)
+    (λ h. rw h (run_none 0 0 (unweighted o) (omega arith) ∙ sym (run_none x.next (x.end - x.next) (unweighted o) (omega (arith, none h)))))
 
 -- ---- the logarithm of a frame's floor, by its kind
 pub weighed_log : {w : FrameWeight} {ln own scale : Float} → w ≡ Weighed own scale → ln ≡ ln_narrow own → Logged w ln

@@ -9,10 +9,10 @@ ghost use Rattle.gmm.specs.Inner.DiagGmmRooms.{SameLikes};
 ghost use Rattle.gmm.specs.Batch.{Logged};
 ghost use Rattle.gmm.specs.Inner.BatchSumsRooms.{SlotsIn, SumsIn, Grown, SameSums};
 ghost use Rattle.stream.specs.Inner.IvectorBatch.{frame_state, frame_entries, frame_nans};
-ghost use Rattle.stream.specs.Fetched.{model_of, frames_of, whole_of};
+ghost use Rattle.stream.specs.Fetched.{model_of, frames_of, whole_of, taken_model, taken_frames, taken_whole};
 
 use crate::frame_views::{Features, Lda, StreamView};
-pub use batch::FetchBatch;
+pub use batch::{FetchBatch, TakenBatch};
 use gmm::batch_sums::{self, LentFeatures, RunningSums};
 use gmm::diag_gmm::{DiagGmm, LikeRooms};
 pub use intake::{BatchFrame, Intake};
@@ -119,5 +119,33 @@ impl FetchBatch<'_> {
             j = b.end;
         }
         nans
+    }
+}
+
+impl TakenBatch<'_> {
+    /// [`FetchBatch::take_batch`] for a batch that is asked for less.
+    pub fn take_batch(
+        &self,
+        cmvn: &mut [f64],
+        rooms: &mut LikeRooms<'_>,
+        sums: &mut RunningSums<'_>,
+    ) -> usize
+        requires state { length cmvn.old ≡ self.now.info.dims.base_dim + 1 }
+        requires likes { (length rooms.old.likes.now ≡ self.now.info.dims.num_gauss)
+            × (length rooms.old.squares.now ≡ self.now.info.dims.num_gauss) }
+        requires none { sums.old.count ≡ 0 }
+        requires slots { SlotsIn self.now.info.dims.num_gauss self.now.info.dims.feat_dim sums.old }
+        ensures state { cmvn.new
+            ≡ (entries (taken_model self.now) (taken_frames self.now) (taken_whole self.now) cmvn.old).0 }
+        ensures slots { SlotsIn self.now.info.dims.num_gauss self.now.info.dims.feat_dim sums.new }
+        ensures sums { SumsIn self.now.info.dims.feat_dim
+            (entries (taken_model self.now) (taken_frames self.now) (taken_whole self.now) cmvn.old).1
+            sums.new }
+        ensures nans { result
+            ≡ nans_over (taken_model self.now) (taken_frames self.now) (taken_whole self.now) cmvn.old }
+        ensures loans { SameSums sums.old sums.new }
+        ensures like_loans { SameLikes rooms.old rooms.new }
+    {
+        self.fetched().take_batch(cmvn, rooms, sums)
     }
 }

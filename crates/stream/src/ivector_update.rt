@@ -11,7 +11,7 @@ ghost use Rattle.definition.specs.Stream.{record_sound, rooms_fit};
 ghost use Rattle.program.specs.Rooms.{EstimateRooms, estimate_from, rooms_from, room_lengths_of, ring_frames, estimate_at};
 ghost use Rattle.program.specs.Lent.{rings_in};
 ghost use Rattle.program.specs.Calls.{over_estimate};
-ghost use Rattle.stream.specs.Inner.IvectorBatch.{batch_in, places_of, Held};
+ghost use Rattle.stream.specs.Inner.IvectorBatch.{batch_in, places_of, Held, HeldWhereTaken};
 ghost use Rattle.stream.specs.Fetched.{model_of, frames_of, whole_of};
 ghost use Rattle.stream.specs.Inner.IvectorUpdate.{Solvable, learnt, RoomsFit, SameRooms};
 
@@ -235,5 +235,45 @@ pub fn update_rooms(
         &mut quadratic[..packed],
         &mut current[..s],
         scratch,
+    )
+}
+
+/// [`update_rooms`] for a batch that is asked for less, as a [`TakenBatch`] is.
+///
+/// [`TakenBatch`]: crate::ivector_batch::TakenBatch
+pub fn update_rooms_taken(
+    info: IvectorInfo,
+    intake: Intake<'_>,
+    tables: LentTables<'_>,
+    held: LentFrames<'_>,
+    num_frames: f64,
+    cmvn_stats: &mut [f64],
+    linear: &mut [f64],
+    quadratic: &mut [f64],
+    current: &mut [f64],
+    scratch: &mut [f64],
+) -> Update
+    requires sound { record_sound info ≡ true }
+    requires tables_fit { tables_fit info.opts info.dims (table_lengths_of (tables_in tables))
+        ≡ true }
+    requires rooms_fit { rooms_fit info.dims
+        (room_lengths_of (rooms_from (rings_in held intake.waiting)
+        (estimate_from cmvn_stats.old linear.old quadratic.old current.old)) (length scratch.old))
+        ≡ true }
+    requires held { HeldWhereTaken info.opts intake }
+    ensures { (
+        let M : Model = model_in info (tables_in tables.entry) in
+        let z : EstimateRooms = estimate_from cmvn_stats.old linear.old quadratic.old current.old in
+        let F : Frames = ring_frames info.dims.base_dim intake.entry.accepted held.entry.frames.now
+        held.entry.rows.now in
+        let bs : Batch = batch_in info.opts intake.entry in
+        let e : Estimate = updated M F bs (estimate_at info.dims num_frames z) in
+        (result.num_frames ≡ e.stats.num_frames)
+        × (estimate_from cmvn_stats.new linear.new quadratic.new current.new ≡ over_estimate e z)
+        × (result.nans ≡ nans_over M F bs (estimate_at info.dims num_frames z).cmvn)) }
+{
+    let taken = intake.taken();
+    update_rooms(
+        info, taken, tables, held, num_frames, cmvn_stats, linear, quadratic, current, scratch,
     )
 }

@@ -63,9 +63,19 @@ batch_in o x =
     if x.called then changes_batch o (waiting_in x.changes x.waiting.frames.now x.waiting.weights.now)
     else run x.next (unweighted o) (x.end - x.next)
 
--- frames that are there, perhaps none, in a batch that is not too long; of the waiting changes nothing is asked before a change call, and of the frames from
--- `next` on nothing after one
+-- frames that are there, perhaps none, in a batch that is not too long; of the waiting changes nothing is asked before a change call
 pub record Held (o : IvectorOptions) (x : Intake) : Type 0 where
+  pub in_order : x.next ≤ x.end
+  pub there : x.end ≤ x.accepted
+  pub few : x.accepted ≤ 1000000000
+  pub frames_wait : x.called ≡ true → x.changes ≤ length x.waiting.frames.now
+  pub weights_wait : x.called ≡ true → x.changes ≤ length x.waiting.weights.now
+  pub in_reach : x.called ≡ true → (k : ℕ) → k < x.changes → get_or x.waiting.frames.now k 0 < x.accepted
+  pub short : length (batch_in o x) ≤ 1000000000
+
+-- less, which is enough for the same batch (`Intake::taken`): of the frames from `next` on nothing is asked after a change call, and where none is taken not
+-- that they are there
+pub record HeldWhereTaken (o : IvectorOptions) (x : Intake) : Type 0 where
   pub in_order : x.called ≡ false → x.next ≤ x.end
   pub there : x.called ≡ false → x.next < x.end → x.end ≤ x.accepted
   pub few : x.accepted ≤ 1000000000

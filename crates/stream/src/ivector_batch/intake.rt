@@ -3,7 +3,7 @@
 ghost use Rattle.std.specs.Prelude.{◌≡◌, ◌∷◌, ◌<◌, ◌≤◌, false};
 ghost use Rattle.floats.specs.Ln.{ln_narrow};
 ghost use Rattle.gmm.specs.Batch.{Logged};
-ghost use Rattle.stream.specs.Inner.IvectorBatch.{places_of, frame_in, left_of, Lined};
+ghost use Rattle.stream.specs.Inner.IvectorBatch.{places_of, frame_in, left_of, batch_in, Lined, Held, HeldWhereTaken};
 
 use crate::delta_weights;
 use definition::{FrameWeight, IvectorOptions, LentWaiting};
@@ -45,7 +45,7 @@ fn floor_log(weight: FrameWeight) -> f32
     }
 }
 
-impl Intake<'_> {
+impl<'a> Intake<'a> {
     /// How many places the batch has: one for each frame, or, after a change call, one for each
     /// change.
     pub fn places(&self) -> usize
@@ -91,5 +91,23 @@ impl Intake<'_> {
             ln,
             end: j + 1,
         }
+    }
+
+    /// The same batch, with no frame named from `next` on where it takes none: so `next` and `end`
+    /// are in order and there, whatever they were.
+    pub fn taken(&self) -> Intake<'a>
+        ensures held { (o : IvectorOptions) → HeldWhereTaken o self.now → Held o result }
+        ensures batch { (o : IvectorOptions) → batch_in o result ≡ batch_in o self.now }
+        ensures accepted { result.accepted ≡ self.now.accepted }
+        ensures waiting { result.waiting ≡ self.now.waiting }
+    {
+        if self.called || self.end <= self.next {
+            return Intake {
+                next: 0,
+                end: 0,
+                ..*self
+            };
+        }
+        *self
     }
 }
